@@ -3,6 +3,7 @@
 use Rattle.std.specs.Prelude.{◌≡◌, ℕ, ◌+◌, ◌++◌, ◌^◌, ◌<◌, ◌≤◌, ◌==◌, ◌&&◌, is_none, nat_le, nat_lt, Bool, true, false, List, [], ◌∷◌, length, Option, Some, None, slice_get, if◌then◌else◌}
 use Rattle.std.specs.List.{list_all}
 use Rattle.std.specs.Option.{option_and_then, option_map_or}
+use Rattle.x3d_values.specs.Ranges.{max_inputs}
 use Rattle.x3d_values.specs.declared.field_type.FieldType.{FieldType}
 use Rattle.x3d_values.specs.declared.fields.Fields.{Fields}
 use Rattle.x3d_values.specs.declared.fields.Position.{Position}
@@ -104,7 +105,7 @@ output_type shapes node field =
 -- an event that was sent: at 0 to 10^18 microseconds, with a value that may leave by its output
 abbrev pub line_fits : List Shape → TraceLine → Bool
 line_fits shapes line =
-    nat_le line.input (2 ^ 20)
+    nat_le line.input max_inputs
     && (is_moment line.time
     && ((nat_lt line.source.node (2 ^ 32) && nat_lt line.source.field (2 ^ 16))
     && typed_fits (output_type shapes line.source.node line.source.field) line.value))
@@ -112,7 +113,7 @@ line_fits shapes line =
 -- ---- a world
 
 pub record WorldFits (shapes : List Shape) (w : WorldData) : Type 0 where
-  pub count : w.applied ≤ 2 ^ 20
+  pub count : w.applied ≤ max_inputs
   pub last : is_moment w.last_time ≡ true
   pub nodes : nodes_fit shapes w.fields w.sensors w.pointing ≡ true
   pub buttons : length w.buttons ≡ MAX_VIEWERS

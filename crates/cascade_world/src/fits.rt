@@ -3,6 +3,7 @@
 ghost use Rattle.std.specs.Prelude.{◌≡◌, ◌^◌, ◌==◌, ◌&&◌, false, length, nat_le, option_map, slice_get};
 ghost use Rattle.std.specs.List.{list_all};
 ghost use Rattle.std.specs.Option.{option_and_then, option_map_or};
+ghost use Rattle.x3d_values.specs.Ranges.{max_inputs};
 ghost use Rattle.x3d_values.specs.declared.ranges.TheConstants.{MAX_VIEWERS};
 ghost use Rattle.snapshot_codec.specs.Fields.{kept_field, kept_fits};
 ghost use Rattle.snapshot_codec.specs.Trace.{is_moment};
@@ -249,7 +250,7 @@ impl<'a> TestsLines for SceneLines<'a> {
 /// Whether a world may have come so far, with a button for each viewer.
 fn progress_fits(world: &WorldData) -> bool
     ensures counts { result
-        ≡ (nat_le world.now.applied (2 ^ 20) && is_moment world.now.last_time) }
+        ≡ (nat_le world.now.applied max_inputs && is_moment world.now.last_time) }
     ensures buttons { length world.now.buttons ≡ MAX_VIEWERS }
 {
     let _buttons = world.buttons;

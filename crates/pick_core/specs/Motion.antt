@@ -2,6 +2,7 @@
 -- rounding and the limit are our choice).
 use Rattle.std.specs.Prelude.{ℕ, ℤ, pos, neg_ℤ, ◌+ℤ◌, ◌-ℤ◌, ◌*ℤ◌, List, Option, slice_get}
 use Rattle.std.specs.Int.{int_min, int_max, int_div_euclid}
+use Rattle.x3d_values.specs.Ranges.{max_coordinate}
 use Rattle.x3d_values.specs.declared.fields.Fields.{Fields}
 use Rattle.x3d_values.specs.declared.vector.Vec3.{Vec3}
 use Rattle.scene_core.specs.Scene.{SceneView}
@@ -13,7 +14,7 @@ use Rattle.pick_core.specs.Looks.{kind_of, motion_of}
 
 -- at most 10^15 millionths in size
 abbrev pub clamped : ℤ → ℤ
-clamped z = int_max (neg_ℤ (pos 1000000000000000)) (int_min z (pos 1000000000000000))
+clamped z = int_max (neg_ℤ (pos max_coordinate)) (int_min z (pos max_coordinate))
 
 -- translation + center + scale * (at - center), the product in millionths rounded down
 abbrev pub along_of : ℤ → ℤ → ℤ → ℤ → ℤ

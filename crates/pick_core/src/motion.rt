@@ -17,7 +17,7 @@ const ONE: i64 = 1_000_000;
 const SHORT: u128 = 1 << 63;
 
 /// The largest size of a coordinate.
-const LIMIT: i128 = 1_000_000_000_000_000;
+const LIMIT: i128 = x3d_values::MAX_COORDINATE as i128;
 
 /// A box inside a node, in the system round it.
 #[tactic(auto, unfolding(crate::specs::Motion::moved_at))]

@@ -1,5 +1,6 @@
 -- Where a point that is taken inwards and outwards again is the same point.
 use Rattle.std.specs.Prelude.{◌≡◌, ℕ, ℤ, pos, negsuc, neg_ℤ, ◌+ℤ◌, ◌-ℤ◌, ◌*ℤ◌, ◌<ℤ◌, ◌≤ℤ◌, List, [], ◌∷◌, slice_get, Option, Some}
+use Rattle.x3d_values.specs.Ranges.{max_coordinate}
 use Rattle.x3d_values.specs.declared.fields.Fields.{Fields}
 use Rattle.x3d_values.specs.declared.node_type.NodeType.{NodeType}
 use Rattle.x3d_values.specs.declared.node_type.NodeType.TheVariants as type
@@ -12,8 +13,8 @@ use Rattle.pick_track.specs.Paths.{inside, inward, outward}
 
 -- at most 10^15 millionths in size
 pub record IsNear (z : ℤ) : Type 0 where
-  pub low : neg_ℤ (pos 1000000000000000) ≤ℤ z
-  pub high : z ≤ℤ pos 1000000000000000
+  pub low : neg_ℤ (pos max_coordinate) ≤ℤ z
+  pub high : z ≤ℤ pos max_coordinate
 
 -- how far a coordinate lies from the centre of a Transform, times a million
 abbrev pub away : ℤ → ℤ → ℤ → ℤ
@@ -59,7 +60,7 @@ OutwardsAgain = (scene : SceneView) (state : List Fields) (nodes : List ℕ) (p 
 -- that the scale divides
 abbrev pub ScalesDivide : Type 0
 ScalesDivide = (translation scale center at : ℤ) → pos 0 <ℤ scale
-    → neg_ℤ (pos 1000000000000000) <ℤ at → IsInReach translation scale center at
+    → neg_ℤ (pos max_coordinate) <ℤ at → IsInReach translation scale center at
     → along_of translation scale center (back_along translation scale center at) ≡ at
     → IsEven translation scale center at
 

@@ -1,6 +1,7 @@
 -- What a numeral may stand for, and in which range (ISO/IEC 19775-1, field types; the ranges are
 -- our choice).
 use Rattle.std.specs.Prelude.{◌-◌, ◌^◌, ◌%◌, ℤ, pos, negsuc, Bool, ◌&&◌, ◌==◌, nat_le, int_le, int_div, unsigned_abs}
+use Rattle.x3d_values.specs.Ranges.{max_coordinate, max_time}
 use Rattle.scene_values.specs.declared.quantity.Quantity.{Quantity}
 use Rattle.scene_values.specs.declared.quantity.Quantity.TheVariants.{Number, Time, Integer}
 
@@ -16,6 +17,6 @@ is_integer z =
 
 -- a number is of a size up to 10^15 millionths, a time of one up to 10^18 microseconds
 abbrev pub fits : Quantity → ℤ → Bool
-fits Number z = nat_le (unsigned_abs z) (10 ^ 15)
-fits Time z = nat_le (unsigned_abs z) (10 ^ 18)
+fits Number z = nat_le (unsigned_abs z) max_coordinate
+fits Time z = nat_le (unsigned_abs z) max_time
 fits Integer z = is_integer z

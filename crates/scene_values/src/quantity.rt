@@ -4,10 +4,10 @@ ghost use Rattle.std.specs.Prelude.{◌≡◌, true};
 ghost use Rattle.scene_values.specs.Quantities.{fits, is_integer, whole};
 
 /// The largest size of a number, in millionths.
-const MAX_NUMBER: u64 = 1_000_000_000_000_000;
+const MAX_NUMBER: u64 = x3d_values::MAX_COORDINATE;
 
 /// The largest size of a time, in microseconds.
-const MAX_TIME: u64 = 1_000_000_000_000_000_000;
+const MAX_TIME: u64 = x3d_values::MAX_TIME as u64;
 
 /// How many millionths are one.
 const ONE: i64 = 1_000_000;

@@ -6,7 +6,7 @@ ghost use Rattle.script_host.specs.Behaviour.{clamped, part_way, mean};
 ghost use Rattle.x3d_values.specs.Ranges.{coordinate_fits};
 
 /// The largest size of a number, in millionths.
-const LIMIT: i128 = 1_000_000_000_000_000;
+const LIMIT: i128 = x3d_values::MAX_COORDINATE as i128;
 
 /// A number, or the nearest one of a size of up to 10^15.
 fn clamped(number: i128) -> i64

@@ -7,7 +7,7 @@ use crate::kinds::inputs;
 use x3d_values::{FieldType, Kind, coordinate_fits};
 
 /// The largest size of a time, in microseconds.
-const MAX_TIME: u64 = 1_000_000_000_000_000_000;
+const MAX_TIME: u64 = x3d_values::MAX_TIME as u64;
 
 fn number_fits(field_type: FieldType, number: i64) -> bool
     ensures { result ≡ number_fits field_type number }

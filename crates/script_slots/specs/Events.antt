@@ -1,7 +1,7 @@
 -- What scripts may be given: the range of each type (our choice of kinds).
 use Rattle.std.specs.Prelude.{ℕ, ◌^◌, ℤ, pos, negsuc, List, [], ◌∷◌, Bool, true, false, ◌&&◌, ◌==◌, nat_le, nat_lt, slice_get, unsigned_abs}
 use Rattle.std.specs.Option.{option_map_or}
-use Rattle.x3d_values.specs.Ranges.{coordinate_fits}
+use Rattle.x3d_values.specs.Ranges.{coordinate_fits, max_time}
 use Rattle.x3d_values.specs.declared.script.Kind.{Kind}
 use Rattle.x3d_values.specs.declared.field_type.FieldType.{FieldType}
 use Rattle.x3d_values.specs.declared.field_type.FieldType.TheVariants.{SFBool, SFFloat, SFTime}
@@ -15,7 +15,7 @@ truth_fits (negsuc n) = false
 
 -- a size of up to 10^18 microseconds
 abbrev pub time_fits : ℤ → Bool
-time_fits z = nat_le (unsigned_abs z) (10 ^ 18)
+time_fits z = nat_le (unsigned_abs z) max_time
 
 -- the number is in the range of a type that scripts take
 abbrev pub number_fits : FieldType → ℤ → Bool

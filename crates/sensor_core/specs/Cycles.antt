@@ -2,17 +2,18 @@
 -- component; rounding and the clamped elapsed time are our choice).
 use Rattle.std.specs.Prelude.{ℕ, ◌+◌, ◌-◌, ◌*◌, ◌/◌, ◌^◌, ◌==◌, ℤ, pos, negsuc, ◌+ℤ◌, ◌-ℤ◌, ◌*ℤ◌, ◌<ℤ◌, ◌≤ℤ◌, int_lt, unsigned_abs, ◌&&◌, if◌then◌else◌}
 use Rattle.std.specs.Int.{int_div_euclid, int_rem_euclid, int_min}
+use Rattle.x3d_values.specs.Ranges.{max_time}
 
 -- up to 10^18 microseconds from 0
 pub record IsNear (time : ℤ) : Type 0 where
-  pub early : negsuc (10 ^ 18 - 1) ≤ℤ time
-  pub late : time ≤ℤ pos (10 ^ 18)
+  pub early : negsuc (max_time - 1) ≤ℤ time
+  pub late : time ≤ℤ pos max_time
 
 -- a start and how long a cycle takes
 pub record AreCycles (start interval : ℤ) : Type 0 where
   pub begins : IsNear start
   pub some : pos 0 <ℤ interval
-  pub short : interval ≤ℤ pos (10 ^ 18)
+  pub short : interval ≤ℤ pos max_time
 
 -- the number of the cycle at a time, rounded down
 unfoldable pub cycle_at : ℤ → ℤ → ℤ → ℤ
@@ -40,4 +41,4 @@ fraction_at start interval x =
 
 -- at most 10^18 microseconds
 unfoldable pub elapsed_at : ℤ → ℤ → ℤ
-elapsed_at start x = int_min (x -ℤ start) (pos (10 ^ 18))
+elapsed_at start x = int_min (x -ℤ start) (pos max_time)

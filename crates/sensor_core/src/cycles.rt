@@ -1,17 +1,18 @@
 //! The cycles of a TimeSensor, from its start on, in whole microseconds.
 
 ghost use Rattle.std.specs.Prelude.{◌≡◌, ◌*◌, ◌/◌, ◌-◌, ◌<◌, ◌^◌, ℤ, pos, negsuc, ◌<ℤ◌, ◌≤ℤ◌, ◌-ℤ◌, int_le, unsigned_abs, Some, None, IfSome, if◌then◌else◌};
+ghost use Rattle.x3d_values.specs.Ranges.{max_time};
 ghost use Rattle.sensor_core.specs.Cycles.{IsNear, AreCycles, cycle_at, cycle_time, cycle_end, fraction_at, elapsed_at};
 
-use crate::timing::MAX_TIME;
+use x3d_values::MAX_TIME;
 
 /// How far a time lies behind the start.
 fn since(start: i64, t: i64) -> i64
     requires start { IsNear start }
     requires near { IsNear t }
     ensures value { result ≡ t -ℤ start }
-    ensures early { negsuc (2 * 10 ^ 18 - 1) ≤ℤ result }
-    ensures late { result ≤ℤ pos (2 * 10 ^ 18) }
+    ensures early { negsuc (2 * max_time - 1) ≤ℤ result }
+    ensures late { result ≤ℤ pos (2 * max_time) }
 {
     t - start
 }

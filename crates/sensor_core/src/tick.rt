@@ -1,6 +1,7 @@
 //! What a TimeSensor does when the clock ticks.
 
 ghost use Rattle.std.specs.Prelude.{◌≡◌, ◌+◌, ◌<◌, ◌≤◌, ◌^◌, [], ◌++◌, pos, ◌≤ℤ◌, IsTrue, IfSome, Some, None, if◌then◌else◌};
+ghost use Rattle.x3d_values.specs.Ranges.{max_time};
 ghost use Rattle.arrayvec.specs.ArrayVec.{array_vec_len};
 ghost use Rattle.x3d_values.specs.declared.value.Value.TheVariants.{SFBool, SFFloat, SFTime};
 ghost use Rattle.react_core.specs.Reaction.{reply};
@@ -25,7 +26,7 @@ impl TimeState {
     #[tactic(auto, using(crate::proofs::Passed::passed), unfolding(crate::specs::Ticks::tick))]
     pub fn tick(&mut self, fields: &TimeFields, t: i64, out: &mut Outbox)
         requires after { pos 0 ≤ℤ t }
-        requires late { t ≤ℤ pos (10 ^ 18) }
+        requires late { t ≤ℤ pos max_time }
         requires empty { out.old.items ≡ [] }
         ensures state { self.new ≡ (tick self.old fields.now t).cycle }
         ensures replies { out.new.items ≡ (tick self.old fields.now t).replies }

@@ -1,16 +1,14 @@
 //! What a TimeSensor keeps.
 
 ghost use Rattle.std.specs.Prelude.{◌≡◌};
+ghost use Rattle.x3d_values.specs.Ranges.{max_time};
 ghost use Rattle.sensor_core.specs.Timing.{is_time, is_interval, are_times, is_timing, time_at, truth_at, checked};
 
 use crate::numbers::{
     CYCLE_INTERVAL, ENABLED, LOOP, PAUSE_TIME, RESUME_TIME, START_TIME, STOP_TIME,
 };
 use std::marker::Model;
-use x3d_values::{Fields, Value};
-
-/// The largest size of a time, in microseconds.
-pub const MAX_TIME: i64 = 1_000_000_000_000_000_000;
+use x3d_values::{Fields, MAX_TIME, Value};
 
 /// The values of a TimeSensor's inputOutput fields, times in microseconds.
 #[derive(Clone, Copy, PartialEq, Eq)]
@@ -155,7 +153,7 @@ impl TimeFields {
     pub fn cycle_interval(&self) -> i64
         ensures value { result ≡ self.now.cycle_interval }
         ensures some { pos 0 <ℤ result }
-        ensures short { result ≤ℤ pos (10 ^ 18) }
+        ensures short { result ≤ℤ pos max_time }
     {
         self.times.cycle_interval
     }

@@ -7,7 +7,7 @@ use Rattle.std.specs.List.{list_any}
 use Rattle.x3d_values.specs.declared.ranges.TheConstants.{MAX_VIEWERS}
 use Rattle.x3d_values.specs.declared.value.Value.TheVariants.{SFBool, SFVec3f}
 use Rattle.x3d_values.specs.declared.vector.Vec3.{Vec3}
-use Rattle.x3d_values.specs.Ranges.{is_viewer}
+use Rattle.x3d_values.specs.Ranges.{is_viewer, max_coordinate}
 use Rattle.react_core.specs.declared.outbox.SentEvent.{SentEvent}
 use Rattle.react_core.specs.Reaction.{reply}
 use Rattle.sensor_core.specs.Touches.{change_replies}
@@ -53,8 +53,8 @@ is_pressed_by plane who = pressed_by plane.drag who
 -- from the start to where it is, on from the offset; at most 10^15 millionths in size
 abbrev pub shifted : ℤ → ℤ → ℤ → ℤ
 shifted offset start at =
-    int_max (neg_ℤ (pos 1000000000000000))
-    (int_min ((at -ℤ start) +ℤ offset) (pos 1000000000000000))
+    int_max (neg_ℤ (pos max_coordinate))
+    (int_min ((at -ℤ start) +ℤ offset) (pos max_coordinate))
 
 -- between the minimum and the maximum, where the minimum isn't above the maximum
 abbrev pub clamped : ℤ → ℤ → ℤ → ℤ
@@ -204,8 +204,8 @@ TranslationsAreWithin = (low high at : ℤ) → low ≤ℤ high → IsBetween lo
 -- a drag that is where it began translates by the offset, where that is allowed
 abbrev pub Unmoved : Type 0
 Unmoved = (fields : PlaneFields) (start : Vec3)
-    → IsBetween (neg_ℤ (pos 1000000000000000)) fields.offset.x (pos 1000000000000000)
-    → IsBetween (neg_ℤ (pos 1000000000000000)) fields.offset.y (pos 1000000000000000)
-    → IsBetween (neg_ℤ (pos 1000000000000000)) fields.offset.z (pos 1000000000000000)
+    → IsBetween (neg_ℤ (pos max_coordinate)) fields.offset.x (pos max_coordinate)
+    → IsBetween (neg_ℤ (pos max_coordinate)) fields.offset.y (pos max_coordinate)
+    → IsBetween (neg_ℤ (pos max_coordinate)) fields.offset.z (pos max_coordinate)
     → within fields fields.offset ≡ fields.offset
     → translation fields start start ≡ fields.offset

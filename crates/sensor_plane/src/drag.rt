@@ -16,7 +16,7 @@ use react_core::{Outbox, SentEvent};
 use x3d_values::{Value, Vec3};
 
 /// The largest size of a coordinate, in millionths.
-const LIMIT: i128 = 1_000_000_000_000_000;
+const LIMIT: i128 = x3d_values::MAX_COORDINATE as i128;
 
 /// What is kept while a viewer drags: which viewer presses, where it pressed, how far the drag has
 /// translated, both in the sensor's coordinates in millionths, and the way to the list that holds

@@ -4,7 +4,7 @@ ghost use Rattle.std.specs.Prelude.{◌≡◌};
 ghost use Rattle.share_wire.specs.Decoding.{decoded};
 ghost use Rattle.share_commands.specs.Beyond.{body_is_beyond, count_of, is_beyond};
 
-use share_port::{Port, PortFault};
+use share_port::{Port, PortFault, RECEIVED};
 use share_wire::{Body, decode};
 
 /// Whether the bytes are the datagram of an input beyond the last one that is wanted, or of a piece
@@ -71,7 +71,7 @@ impl<P: Port> Port for ExactPort<P> {
         self.port.send(to, bytes)
     }
 
-    fn receive(&mut self, into: &mut [u8; 257]) -> Result<Option<(u16, usize)>, PortFault> {
+    fn receive(&mut self, into: &mut [u8; RECEIVED]) -> Result<Option<(u16, usize)>, PortFault> {
         match self.port.receive(into)? {
             Some((from, count)) => Ok(Some((from, count_of(&into[..count], self.last)))),
             None => Ok(None),

@@ -2,10 +2,11 @@
 
 ghost use Rattle.std.specs.Prelude.{◌≡◌, false};
 ghost use Rattle.share_commands.specs.Pace.{first_rest, next_rest, unsent};
+ghost use Rattle.share_port.specs.Told.{max_received};
 
 use crate::brief::{Brief, brief_of};
 use crate::pace::Pace;
-use share_port::{Port, PortFault};
+use share_port::{Port, PortFault, RECEIVED};
 use std::thread;
 use std::time::{Clock, Duration};
 
@@ -127,9 +128,9 @@ impl<P: Port, C: Clock> PatientPort<P, C> {
     }
 
     /// Nothing has come: waits for answers that are under way.
-    fn receive_late(&mut self, into: &mut [u8; 257]) -> Result<Option<(u16, usize)>, PortFault>
+    fn receive_late(&mut self, into: &mut [u8; RECEIVED]) -> Result<Option<(u16, usize)>, PortFault>
         ensures got { MatchResult result
-            (λ came. MatchOption came ⊤ (λ r. (r.1 ≤ 257) × ⊤)) (λ _. ⊤) }
+            (λ came. MatchOption came ⊤ (λ r. (r.1 ≤ max_received) × ⊤)) (λ _. ⊤) }
         ensures count_ok { OnOk result
             (P.failure_count self.new.port ≡ P.failure_count self.old.port) }
         ensures count_err { OnErr result
@@ -160,7 +161,7 @@ impl<P: Port, C: Clock> Port for PatientPort<P, C> {
         self.port.send(to, bytes)
     }
 
-    fn receive(&mut self, into: &mut [u8; 257]) -> Result<Option<(u16, usize)>, PortFault> {
+    fn receive(&mut self, into: &mut [u8; RECEIVED]) -> Result<Option<(u16, usize)>, PortFault> {
         match self.port.receive(into)? {
             Some((from, count)) => {
                 self.take_note(&into[..count]);

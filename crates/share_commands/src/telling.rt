@@ -3,7 +3,7 @@
 ghost use Rattle.std.specs.Prelude.{◌≡◌};
 
 use crate::watch::{Note, Tally, Watch};
-use share_port::{Port, PortFault};
+use share_port::{Port, PortFault, RECEIVED};
 use std::io::Eprint;
 
 /// A port that watches what passes, and tells of it on standard error where it is to. A standard
@@ -52,7 +52,7 @@ impl<P: Port, R: Eprint> Port for TellingPort<P, R> {
         self.port.send(to, bytes)
     }
 
-    fn receive(&mut self, into: &mut [u8; 257]) -> Result<Option<(u16, usize)>, PortFault> {
+    fn receive(&mut self, into: &mut [u8; RECEIVED]) -> Result<Option<(u16, usize)>, PortFault> {
         match self.port.receive(into)? {
             Some((from, count)) => {
                 if self.verbose {

@@ -2,6 +2,7 @@
 use Rattle.std.specs.Prelude.{◌≡◌, ◌⊎◌, ◌≤◌, ◌<◌, ℕ, suc, ◌+◌, ◌^◌, Bool, true, false, List, []}
 use Rattle.std.specs.Prelude.{◌∷◌, ◌++◌, drop, slice_get, slice_set, int_lt, Option, None, Some}
 use Rattle.std.specs.Prelude.{Result, Ok, Err}
+use Rattle.x3d_values.specs.Ranges.{max_inputs}
 use Rattle.x3d_values.specs.Stamp.{StampedView}
 use Rattle.cascade_core.specs.Course.{Scripted}
 use Rattle.cascade_core.specs.Held.{Held, Running, Spoiled}
@@ -15,7 +16,7 @@ use Rattle.share_law.specs.Viewer.{drain, input_answer, refilled}
 abbrev pub InPlace : (n : ℕ) → List (Option StampedView) → Type 0
 InPlace n [] = Unit {0}
 InPlace n (None ∷ rest) = InPlace (suc n) rest
-InPlace n (Some x ∷ rest) = (x.number ≡ n) × (n ≤ 2 ^ 20) × InPlace (suc n) rest
+InPlace n (Some x ∷ rest) = (x.number ≡ n) × (n ≤ max_inputs) × InPlace (suc n) rest
 
 -- the input in the first place is applied where it is later than the last; else it leaves
 abbrev pub IsNext : Machine Scripted → Scripted → List (Option StampedView) → Result Bool TakeFault

@@ -1,6 +1,7 @@
 //! A stage, and the window of the inputs that come next: they are applied in turn.
 
 ghost use Rattle.std.specs.Prelude.{◌≡◌, ◌≤◌, ◌+◌, ◌^◌, ℕ, List, false, length};
+ghost use Rattle.x3d_values.specs.Ranges.{max_inputs};
 ghost use Rattle.cascade_core.specs.Course.{Scripted};
 ghost use Rattle.cascade_core.specs.Held.{Running, applied_of, is_spoiled};
 ghost use Rattle.share_rules.specs.Window.{window_places};
@@ -21,11 +22,11 @@ use x3d_values::Stamped;
 fn apply_next<B: Behaviour>(stage: &mut Stage<B>, window: &mut Window) -> Result<bool, TakeFault>
     requires runs { is_spoiled stage.old.held ≡ false }
     requires place { InPlace (applied_of stage.old.held + 1) window.old }
-    requires most { applied_of stage.old.held ≤ 2 ^ 20 }
+    requires most { applied_of stage.old.held ≤ max_inputs }
     ensures scene { stage.new.scene ≡ stage.old.scene }
     ensures routes { stage.new.routes ≡ stage.old.routes }
     ensures place { InPlace (applied_of stage.new.held + 1) window.new }
-    ensures most { applied_of stage.new.held ≤ 2 ^ 20 }
+    ensures most { applied_of stage.new.held ≤ max_inputs }
     ensures places { length window.old ≡ window_places }
     ensures step { (mark : List ℕ) (w : Scripted) → stage.old.held ≡ Running w
         → IsNext (cascade mark stage.old.scene stage.old.routes) w window.old result
@@ -53,11 +54,11 @@ fn apply_next<B: Behaviour>(stage: &mut Stage<B>, window: &mut Window) -> Result
 fn apply_ready<B: Behaviour>(stage: &mut Stage<B>, window: &mut Window) -> Result<Taken, TakeFault>
     requires runs { is_spoiled stage.old.held ≡ false }
     requires place { InPlace (applied_of stage.old.held + 1) window.old }
-    requires most { applied_of stage.old.held ≤ 2 ^ 20 }
+    requires most { applied_of stage.old.held ≤ max_inputs }
     ensures scene { stage.new.scene ≡ stage.old.scene }
     ensures routes { stage.new.routes ≡ stage.old.routes }
     ensures place { InPlace (applied_of stage.new.held + 1) window.new }
-    ensures most { applied_of stage.new.held ≤ 2 ^ 20 }
+    ensures most { applied_of stage.new.held ≤ max_inputs }
     ensures step { (mark : List ℕ) (w : Scripted) → stage.old.held ≡ Running w
         → IsDrained (cascade mark stage.old.scene stage.old.routes) w window.old result
         stage.new.held window.new }
@@ -81,11 +82,11 @@ pub(crate) fn take_input<B: Behaviour>(
 ) -> Result<Taken, TakeFault>
     requires runs { is_spoiled stage.old.held ≡ false }
     requires place { InPlace (applied_of stage.old.held + 1) window.old }
-    requires most { applied_of stage.old.held ≤ 2 ^ 20 }
+    requires most { applied_of stage.old.held ≤ max_inputs }
     ensures scene { stage.new.scene ≡ stage.old.scene }
     ensures routes { stage.new.routes ≡ stage.old.routes }
     ensures place { InPlace (applied_of stage.new.held + 1) window.new }
-    ensures most { applied_of stage.new.held ≤ 2 ^ 20 }
+    ensures most { applied_of stage.new.held ≤ max_inputs }
     ensures step { (mark : List ℕ) (o : Offers)
         → IsTake (cascade mark stage.old.scene stage.old.routes) o.who
         (with_offers o (view_of stage.old.held window.old)) (body.Input input) result

@@ -2,6 +2,7 @@
 
 ghost use Rattle.std.specs.Prelude.{◌≡◌, ◌<◌, Ok, length, slice_get, slice_set};
 ghost use Rattle.std.specs.Option.{option_map};
+ghost use Rattle.x3d_values.specs.Ranges.{max_inputs};
 ghost use Rattle.share_law.specs.Host.{count_for, input_packet, reply_before};
 ghost use Rattle.share_wire.specs.Datagram.{datagram};
 ghost use Rattle.share_wire.specs.Decoding.{decoded};
@@ -189,7 +190,7 @@ impl Host {
     /// How many inputs are numbered: at most 2^20.
     pub fn len(&self) -> u32
         ensures value { result ≡ self.now.part.count }
-        ensures most { result ≤ 2 ^ 20 }
+        ensures most { result ≤ max_inputs }
     {
         self.inputs.len()
     }

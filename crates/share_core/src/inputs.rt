@@ -1,6 +1,7 @@
 //! The inputs that a host numbered.
 
 ghost use Rattle.std.specs.Prelude.{◌≡◌, ◌≤◌, ◌+◌, ◌^◌, [], drop, slice_get, pos, ◌+ℤ◌};
+ghost use Rattle.x3d_values.specs.Ranges.{max_inputs, max_time};
 ghost use Rattle.share_law.specs.Parts.{fault_behind};
 ghost use Rattle.share_core.specs.Host.{dropped, entry};
 ghost use Rattle.share_core.specs.Steps.{IsListed};
@@ -23,6 +24,7 @@ pub(crate) struct HostInputs {
 
 impl Model for HostInputs {
     ghost use Rattle.std.specs.Prelude.{◌≤◌, ◌+◌, ◌^◌, pos, ◌≤ℤ◌};
+    ghost use Rattle.x3d_values.specs.Ranges.{max_inputs, max_time};
     ghost use Rattle.share_core.specs.Host.{HostInputsView};
 
     ghost Value = { HostInputsView };
@@ -34,8 +36,8 @@ impl Model for HostInputs {
       last = i.last;
     } };
 
-    ghost invariant = { λ i. (1 ≤ i.floor) × (i.floor ≤ i.count + 1) × (i.count ≤ 2 ^ 20)
-        × (pos 0 ≤ℤ i.last) × (i.last ≤ℤ pos (10 ^ 18)) };
+    ghost invariant = { λ i. (1 ≤ i.floor) × (i.floor ≤ i.count + 1) × (i.count ≤ max_inputs)
+        × (pos 0 ≤ℤ i.last) × (i.last ≤ℤ pos max_time) };
 }
 
 /// The first so many leave. Their places are used again, and freed once few are left.
@@ -73,7 +75,7 @@ impl HostInputs {
     /// How many there were in all.
     pub(crate) fn len(&self) -> u32
         ensures value { result ≡ self.now.count }
-        ensures fits { self.now.count ≤ 2 ^ 20 }
+        ensures fits { self.now.count ≤ max_inputs }
     {
         self.count
     }

@@ -1,6 +1,7 @@
 //! A viewer of a shared world: it applies the host's inputs in turn, and offers what it points at.
 
 ghost use Rattle.std.specs.Prelude.{◌≡◌, ◌≤◌, ◌+◌, ◌^◌, if◌then◌else◌, nat_lt, None, Some};
+ghost use Rattle.x3d_values.specs.Ranges.{max_inputs};
 ghost use Rattle.share_law.specs.Network.{join_result};
 
 use crate::ahead::take_input;
@@ -28,6 +29,7 @@ pub struct Viewer<B: Behaviour> {
 
 impl<B: Behaviour> Model for Viewer<B> {
     ghost use Rattle.std.specs.Prelude.{◌≡◌, ◌≤◌, ◌+◌, ◌^◌, length};
+    ghost use Rattle.x3d_values.specs.Ranges.{max_inputs};
     ghost use Rattle.cascade_core.specs.Held.{applied_of};
     ghost use Rattle.share_core.specs.Ahead.{InPlace};
     ghost use Rattle.share_core.specs.Viewer.{ViewerView, view_of};
@@ -44,7 +46,7 @@ impl<B: Behaviour> Model for Viewer<B> {
       gathering = v.gathering;
     } };
 
-    ghost invariant = { λ v. (applied_of v.stage.held ≤ 2 ^ 20)
+    ghost invariant = { λ v. (applied_of v.stage.held ≤ max_inputs)
         × InPlace (applied_of v.stage.held + 1) v.window × (length v.mark ≡ 32) };
 }
 
@@ -72,7 +74,7 @@ fn joined(rewound: Result<u32, SnapFault>) -> Result<u32, JoinFault>
 
 /// What a viewer that has applied so many inputs makes of a floor.
 fn behind(applied: u32, floor: Floor) -> Taken
-    requires { applied ≤ 2 ^ 20 }
+    requires { applied ≤ max_inputs }
     ensures { result ≡ if nat_lt (applied + 1) floor then Taken.Behind else Taken.Noted }
 {
     if floor.number() > applied + 1 {

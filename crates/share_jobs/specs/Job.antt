@@ -8,7 +8,7 @@ use Rattle.std.specs.Str.{bytes_eq}
 use Rattle.std.specs.Str.Lines.{lines}
 use Rattle.x3d_numerals.specs.Numeral.{IsNumeral}
 use Rattle.x3d_numerals.specs.Reading.{numeral}
-use Rattle.x3d_values.specs.Ranges.{is_input_time}
+use Rattle.x3d_values.specs.Ranges.{is_input_time, max_inputs}
 use Rattle.x3d_values.specs.Stamp.{StampedView}
 use Rattle.x3d_values.specs.Pointing.{PointerView}
 use Rattle.x3d_values.specs.declared.stamped.Cause.{Cause}
@@ -33,7 +33,7 @@ last_time inputs = option_map_or (λ s. s.time) (slice_get inputs (length inputs
 -- range and later
 abbrev pub is_taken : List StampedView → ℤ → Bool
 is_taken inputs t =
-    nat_lt (length inputs) (2 ^ 20) && (int_lt (last_time inputs) t && is_input_time t)
+    nat_lt (length inputs) max_inputs && (int_lt (last_time inputs) t && is_input_time t)
 
 -- what happens at a time behind these, where a host numbers it
 abbrev pub input_at : List StampedView → ℤ → Cause → Option StampedView
@@ -118,7 +118,7 @@ pub record IsPointed (before : ℤ) (line : List ℕ) (input : StampedView) : Ty
 -- a host numbers it as the input behind so many, of which the last has this time
 pub record IsNumbered (given : ℕ) (before : ℤ) (input : StampedView) : Type 0 where
   pub number : input.number ≡ given + 1
-  pub few : given < 2 ^ 20
+  pub few : given < max_inputs
   pub later : before <ℤ input.time
   pub in_range : is_input_time input.time ≡ true
 

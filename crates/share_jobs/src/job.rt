@@ -3,6 +3,7 @@
 ghost use Rattle.std.specs.Prelude.{◌≡◌, IfOk, Option, length};
 ghost use Rattle.x3d_lists.specs.Answers.{Gives};
 ghost use Rattle.std.specs.Prelude.{◌+ℤ◌, ◌≤ℤ◌, ◌^◌, pos};
+ghost use Rattle.x3d_values.specs.Ranges.{max_time};
 ghost use Rattle.share_jobs.specs.Job.{clock_time, last_time, is_taken, input_at, next_input};
 ghost use Rattle.share_jobs.specs.Job.{is_scene, job_lines, IsJob};
 ghost use Rattle.cascade_core.specs.InOrder.{AreInOrder};
@@ -40,7 +41,7 @@ fn clock_time(line: &[u8]) -> Option<i64>
 #[tactic(auto, using(crate::proofs::Passed::passed), unfolding(crate::specs::Job::last_time))]
 fn last_time(inputs: &[Stamped]) -> i64
     ensures value { result ≡ last_time inputs.now }
-    ensures few { result ≤ℤ pos (10 ^ 18) }
+    ensures few { result ≤ℤ pos max_time }
 {
     match inputs.last() {
         Some(input) => input.time(),

@@ -2,6 +2,10 @@
 use Rattle.std.specs.Prelude.{◌≡◌, ℕ, ◌+◌, ◌-◌, ◌^◌, min, List, ◌++◌, Option, Some, None, ⊤}
 use Rattle.share_port.specs.declared.traffic.Traffic.{Traffic}
 
+-- how many bytes of a datagram are received: one more than the longest that anyone takes
+abbrev pub max_received : ℕ
+max_received = 257
+
 -- what is told grows by these; a port that tells nothing claims nothing
 abbrev pub Grows : Option (List Traffic) → Option (List Traffic) → List Traffic → Type 0
 Grows None new passed = ⊤

@@ -1,9 +1,9 @@
 //! A port in memory, which tells its datagrams.
 
 ghost use Rattle.std.specs.Prelude.{◌≡◌, ◌≤◌, ◌++◌, ◌∷◌, [], length, take, Some, IfOk, OnErr};
-ghost use Rattle.share_port.specs.Told.{one_more};
+ghost use Rattle.share_port.specs.Told.{one_more, max_received};
 
-use crate::port::{Port, PortFault};
+use crate::port::{Port, PortFault, RECEIVED};
 use crate::traffic::{Bytes, Datagram, Traffic};
 use std::alloc::{AllocError, Global};
 use std::collections::VecDeque;
@@ -105,7 +105,7 @@ impl Port for FakePort {
         }))
     }
 
-    fn receive(&mut self, into: &mut [u8; 257]) -> Result<Option<(u16, usize)>, PortFault> {
+    fn receive(&mut self, into: &mut [u8; RECEIVED]) -> Result<Option<(u16, usize)>, PortFault> {
         if self.fails() {
             return Err(self.fail());
         }
@@ -125,8 +125,8 @@ impl Port for FakePort {
 }
 
 /// Copies the bytes to the front, and says how many they are.
-fn copy_front(into: &mut [u8; 257], bytes: &[u8]) -> usize
-    requires { length bytes.now ≤ 257 }
+fn copy_front(into: &mut [u8; RECEIVED], bytes: &[u8]) -> usize
+    requires { length bytes.now ≤ max_received }
     ensures count { result ≡ length bytes.now }
     ensures front { take (length bytes.now) into.new ≡ bytes.now }
 {

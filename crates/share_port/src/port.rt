@@ -2,7 +2,7 @@
 
 ghost use Rattle.std.specs.Prelude.{◌≡◌, ◌≤◌, ℕ, List, [], ◌∷◌, Option, None, take, length};
 ghost use Rattle.std.specs.Prelude.{OnOk, OnErr, MatchResult, MatchOption};
-ghost use Rattle.share_port.specs.Told.{Grows, one_more};
+ghost use Rattle.share_port.specs.Told.{Grows, one_more, max_received};
 ghost use Rattle.share_port.specs.declared.traffic.Traffic.{Traffic};
 ghost use Rattle.share_port.specs.declared.traffic.Traffic.TheVariants.{Nothing, Received, Sent};
 
@@ -29,7 +29,7 @@ pub trait Port {
     /// Sends a datagram of at most 257 bytes to a peer. A datagram for which there is no room on
     /// the way is lost, and that is no failure.
     fn send(&mut self, to: u16, bytes: &[u8]) -> Result<(), PortFault>
-        requires { length bytes.now ≤ 257 }
+        requires { length bytes.now ≤ max_received }
         ensures ok { OnOk result (Grows (told self.old) (told self.new)
             (Sent (record { peer = to; bytes = bytes.now }) ∷ [])) }
         ensures err { OnErr result (Grows (told self.old) (told self.new) []) }
@@ -39,10 +39,10 @@ pub trait Port {
 
     /// Receives a datagram, if one came: its peer, and how many bytes it has, which stand at the
     /// front of `into`. Of a datagram of more than 257 bytes the first 257 are received.
-    fn receive(&mut self, into: &mut [u8; 257]) -> Result<Option<(u16, usize)>, PortFault>
+    fn receive(&mut self, into: &mut [u8; RECEIVED]) -> Result<Option<(u16, usize)>, PortFault>
         ensures got { MatchResult result
             (λ came. MatchOption came (Grows (told self.old) (told self.new) (Nothing ∷ []))
-            (λ r. (r.1 ≤ 257) × Grows (told self.old) (told self.new)
+            (λ r. (r.1 ≤ max_received) × Grows (told self.old) (told self.new)
             (Received (record { peer = r.0; bytes = take r.1 into.new }) ∷ [])))
             (λ _. Grows (told self.old) (told self.new) []) }
         ensures count_ok { OnOk result (failure_count self.new ≡ failure_count self.old) }

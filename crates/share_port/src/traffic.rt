@@ -1,14 +1,16 @@
 //! What passed through a port.
 
 ghost use Rattle.std.specs.Prelude.{◌≡◌, ◌≤◌, length};
+ghost use Rattle.share_port.specs.Told.{max_received};
 
+use crate::port::RECEIVED;
 use arrayvec::ArrayVec;
 use std::marker::Model;
 
 /// The bytes of a datagram, at most 257.
 #[derive(Debug, Drop)]
 pub struct Bytes {
-    items: ArrayVec<u8, 257>,
+    items: ArrayVec<u8, RECEIVED>,
 }
 
 impl Model for Bytes {
@@ -21,7 +23,7 @@ impl Model for Bytes {
 
 impl Bytes {
     pub fn from_slice(bytes: &[u8]) -> Bytes
-        requires { length bytes.now ≤ 257 }
+        requires { length bytes.now ≤ max_received }
         ensures { result ≡ bytes.now }
     {
         let mut items = ArrayVec::new();
@@ -31,7 +33,7 @@ impl Bytes {
 
     pub fn as_slice(&self) -> &[u8]
         ensures bytes { result.now ≡ self.now }
-        ensures most { length result.now ≤ 257 }
+        ensures most { length result.now ≤ max_received }
     {
         self.items.as_slice()
     }

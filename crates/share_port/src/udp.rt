@@ -4,7 +4,7 @@ ghost use Rattle.std.specs.Prelude.{◌≡◌, ◌==◌, ◌||◌, IfOk, Option,
 ghost use Rattle.share_port.specs.Told.{one_more};
 ghost use Rattle.share_port.specs.Peers.{answerable};
 
-use crate::port::{Port, PortFault};
+use crate::port::{Port, PortFault, RECEIVED};
 use std::io::{self, ErrorKind};
 use std::net::{Ipv4Addr, Net, SocketAddr, UdpSocket};
 use std::time::Duration;
@@ -84,7 +84,7 @@ impl Port for UdpPort {
         }
     }
 
-    fn receive(&mut self, into: &mut [u8; 257]) -> Result<Option<(u16, usize)>, PortFault> {
+    fn receive(&mut self, into: &mut [u8; RECEIVED]) -> Result<Option<(u16, usize)>, PortFault> {
         for _passed in 0..PASSED_OVER {
             match self.socket.recv_from(into) {
                 Ok((count, from)) => {

@@ -16,7 +16,7 @@ use crate::most::MOST;
 use script_host::Behaviour;
 use share_core::Viewer;
 use share_law::{GatherFault, Gathered, JoinFault, SnapFault};
-use share_port::Port;
+use share_port::{Port, RECEIVED};
 
 /// Goes on after a datagram, unless memory was refused to the first piece. One that was refused for
 /// another cause is dropped.
@@ -48,7 +48,7 @@ fn gather_all<B: Behaviour, P: Port>(viewer: &mut Viewer<B>, port: &mut P) -> Re
     ensures failures { P.failure_count port.new
         ≡ failures_after result (P.failure_count port.old) }
 {
-    let mut bytes = [0; 257];
+    let mut bytes = [0; RECEIVED];
     for _turn in 0..MOST {
         match port.receive(&mut bytes)? {
             Some((_from, count)) => gather_one(viewer, &bytes[..count])?,

@@ -18,7 +18,7 @@ use crate::most::MOST;
 use script_host::Behaviour;
 use share_core::{Viewer, piece_count, piece_packet};
 use share_law::SaveFault;
-use share_port::{Port, PortFault};
+use share_port::{Port, PortFault, RECEIVED};
 use share_wire::Packet;
 use std::alloc::Global;
 
@@ -71,7 +71,7 @@ fn pass_over<P: Port>(port: &mut P) -> Result<(), TurnFault>
     ensures failures { P.failure_count port.new
         ≡ failures_after result (P.failure_count port.old) }
 {
-    let mut bytes = [0; 257];
+    let mut bytes = [0; RECEIVED];
     for _turn in 0..MOST {
         match port.receive(&mut bytes)? {
             Some((_from, _count)) => {}

@@ -20,7 +20,7 @@ use crate::most::MOST;
 use share_core::Host;
 use share_heard::Heard;
 use share_law::{HostFault, HostReply, NumberFault};
-use share_port::{Port, PortFault};
+use share_port::{Port, PortFault, RECEIVED};
 use share_wire::{Ask, Body, decode};
 
 /// Goes on after a clock, unless memory was refused to it. One that was refused for another cause
@@ -252,7 +252,7 @@ pub(crate) fn hearing_turn<P: Port>(
     let mark = host.mark();
     let viewers = host.viewers();
     number_clock(host, clock)?;
-    let mut bytes = [0; 257];
+    let mut bytes = [0; RECEIVED];
     for _turn in 0..MOST {
         match port.receive(&mut bytes)? {
             Some((from, count)) => {

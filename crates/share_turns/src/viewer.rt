@@ -16,7 +16,7 @@ use crate::most::MOST;
 use script_host::Behaviour;
 use share_core::Viewer;
 use share_law::{TakeFault, Taken};
-use share_port::{Port, PortFault};
+use share_port::{Port, PortFault, RECEIVED};
 use x3d_values::Point;
 
 /// Offers the point of a turn, and says whether it was offered.
@@ -60,7 +60,7 @@ fn take_all<B: Behaviour, P: Port>(viewer: &mut Viewer<B>, port: &mut P) -> Resu
     ensures failures { P.failure_count port.new
         ≡ failures_after result (P.failure_count port.old) }
 {
-    let mut bytes = [0; 257];
+    let mut bytes = [0; RECEIVED];
     for _turn in 0..MOST {
         match port.receive(&mut bytes)? {
             Some((_from, count)) => take_one(viewer, &bytes[..count])?,

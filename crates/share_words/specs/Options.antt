@@ -4,7 +4,7 @@ use Rattle.std.specs.Prelude.{ℕ, ◌-◌, [], ◌∷◌, Some, codes, pos, tru
 use Rattle.clap.specs.Words.{Rule, Text, new_rule}
 use Rattle.clap.specs.declared.builder.action.ArgAction.TheVariants.{SetTrue}
 use Rattle.clap.specs.declared.builder.value_parser.ValueParser.TheVariants.{Signed}
-use Rattle.x3d_values.specs.Ranges.{max_viewers}
+use Rattle.x3d_values.specs.Ranges.{max_viewers, max_inputs}
 use Rattle.share_words.specs.declared.options.FlagOption.{FlagOption}
 use Rattle.share_words.specs.declared.options.NumberOption.{NumberOption}
 use Rattle.share_words.specs.declared.options.Unless.{Unless}
@@ -44,13 +44,13 @@ boot_rule = record (ranged (codes "boot") 1 4294967295) { required = true }
 
 -- `--until N`, `--exactly N` and `--keep N`, from 0 to 2^20
 abbrev pub until_rule : Rule
-until_rule = ranged (codes "until") 0 1048576
+until_rule = ranged (codes "until") 0 max_inputs
 
 abbrev pub exactly_rule : Rule
-exactly_rule = ranged (codes "exactly") 0 1048576
+exactly_rule = ranged (codes "exactly") 0 max_inputs
 
 abbrev pub keep_rule : Rule
-keep_rule = ranged (codes "keep") 0 1048576
+keep_rule = ranged (codes "keep") 0 max_inputs
 
 -- `--at Q` and `--give Q`, from 1 to 65535
 abbrev pub at_rule : Rule

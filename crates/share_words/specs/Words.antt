@@ -7,7 +7,7 @@ use Rattle.std.specs.Str.Parse.{IsNumeral, digits_value, without_leading_plus}
 use Rattle.clap.specs.Words.{Row, Text, one_of, subcommand_of, fault_of, IsAmong}
 use Rattle.clap.specs.declared.error.kind.ErrorKind.{ErrorKind}
 use Rattle.clap.specs.declared.error.kind.ErrorKind.TheVariants as kind
-use Rattle.x3d_values.specs.Ranges.{max_viewers}
+use Rattle.x3d_values.specs.Ranges.{max_viewers, max_inputs}
 use Rattle.share_words.specs.Commands.{program}
 use Rattle.share_words.specs.Options.{max_who}
 use Rattle.share_words.specs.declared.order.HostOrder.{HostOrder}
@@ -63,13 +63,13 @@ abbrev pub IsBoot : List Row → ℕ → Type 0
 IsBoot rows boot = HasNumberIn (codes "boot") rows 1 4294967295 boot
 
 abbrev pub MayHaveKeep : List Row → Option ℕ → Type 0
-MayHaveKeep rows keep = MayHaveNumberIn (codes "keep") rows 0 1048576 keep
+MayHaveKeep rows keep = MayHaveNumberIn (codes "keep") rows 0 max_inputs keep
 
 abbrev pub MayHaveUntil : List Row → Option ℕ → Type 0
-MayHaveUntil rows until = MayHaveNumberIn (codes "until") rows 0 1048576 until
+MayHaveUntil rows until = MayHaveNumberIn (codes "until") rows 0 max_inputs until
 
 abbrev pub MayHaveExactly : List Row → Option ℕ → Type 0
-MayHaveExactly rows exactly = MayHaveNumberIn (codes "exactly") rows 0 1048576 exactly
+MayHaveExactly rows exactly = MayHaveNumberIn (codes "exactly") rows 0 max_inputs exactly
 
 abbrev pub MayHaveAt : List Row → Option ℕ → Type 0
 MayHaveAt rows at = MayHaveNumberIn (codes "at") rows 1 65535 at
@@ -138,8 +138,8 @@ pub record HostInRange (o : HostOrder) : Type 0 where
   pub port_low : 1 ≤ o.port
   pub viewers_low : 1 ≤ o.viewers
   pub viewers_high : o.viewers ≤ max_viewers
-  pub until_high : IfSome o.until (λ n. n ≤ 1048576)
-  pub keep_high : IfSome o.keep (λ n. n ≤ 1048576)
+  pub until_high : IfSome o.until (λ n. n ≤ max_inputs)
+  pub keep_high : IfSome o.keep (λ n. n ≤ max_inputs)
   pub turns_low : 1 ≤ o.turns
   pub turns_high : o.turns ≤ 10000000
 
@@ -148,7 +148,7 @@ pub record ViewInRange (o : ViewOrder) : Type 0 where
   pub port_low : 1 ≤ o.port
   pub who_high : o.who < max_viewers
   pub boot_low : 1 ≤ o.boot
-  pub end_high : end_count o.end ≤ 1048576
+  pub end_high : end_count o.end ≤ max_inputs
   pub turns_low : 1 ≤ o.turns
   pub turns_high : o.turns ≤ 10000000
   pub at_low : IfSome o.at (λ q. 1 ≤ q)

@@ -15,7 +15,7 @@ use crate::numbers::{is_named, number_in, optional_in};
 use crate::options::MAX_WHO;
 use crate::order::{HostOrder, Order, ViewEnd, ViewOrder};
 use clap::ArgMatches;
-use x3d_values::MAX_VIEWERS;
+use x3d_values::{MAX_INPUTS, MAX_VIEWERS};
 
 fn viewers_in(found: &ArgMatches<'_>) -> Option<u8>
     ensures some { IfSome result (λ n. IsViewers (rows_of (found_of found.now)) n) }
@@ -60,7 +60,7 @@ fn keep_in(found: &ArgMatches<'_>) -> Option<Option<u32>>
     ensures none { IfNone result
         ((o : Option ℕ) → ¬ MayHaveKeep (rows_of (found_of found.now)) o) }
 {
-    optional_in(found, "keep", 0, 1_048_576)
+    optional_in(found, "keep", 0, MAX_INPUTS)
 }
 
 fn until_in(found: &ArgMatches<'_>) -> Option<Option<u32>>
@@ -68,7 +68,7 @@ fn until_in(found: &ArgMatches<'_>) -> Option<Option<u32>>
     ensures none { IfNone result
         ((o : Option ℕ) → ¬ MayHaveUntil (rows_of (found_of found.now)) o) }
 {
-    optional_in(found, "until", 0, 1_048_576)
+    optional_in(found, "until", 0, MAX_INPUTS)
 }
 
 fn exactly_in(found: &ArgMatches<'_>) -> Option<Option<u32>>
@@ -76,7 +76,7 @@ fn exactly_in(found: &ArgMatches<'_>) -> Option<Option<u32>>
     ensures none { IfNone result
         ((o : Option ℕ) → ¬ MayHaveExactly (rows_of (found_of found.now)) o) }
 {
-    optional_in(found, "exactly", 0, 1_048_576)
+    optional_in(found, "exactly", 0, MAX_INPUTS)
 }
 
 /// A port of 127.0.0.1 that may be named, 1 to 65,535.

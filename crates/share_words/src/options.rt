@@ -8,7 +8,7 @@ ghost use Rattle.share_words.specs.Options.{flag_rule, number_rule, ranged_rule}
 use clap::builder::ValueParser;
 use clap::{Arg, ArgAction};
 use std::alloc::Global;
-use x3d_values::MAX_VIEWERS;
+use x3d_values::{MAX_INPUTS, MAX_VIEWERS};
 
 /// What an option has where it is not given.
 #[derive(Clone, Copy)]
@@ -78,7 +78,7 @@ pub const PORT: NumberOption = NumberOption {
 pub const KEEP: NumberOption = NumberOption {
     name: "keep",
     low: 0,
-    high: 1_048_576,
+    high: MAX_INPUTS,
     unless: Unless::Nothing,
     value: "N",
     help: "Keeps the last N of the inputs that all viewers have, 0 to 1048576 [default: all]",
@@ -88,7 +88,7 @@ pub const KEEP: NumberOption = NumberOption {
 pub const HOST_UNTIL: NumberOption = NumberOption {
     name: "until",
     low: 0,
-    high: 1_048_576,
+    high: MAX_INPUTS,
     unless: Unless::Nothing,
     value: "N",
     help: "Ends once N inputs are numbered, and each viewer has all, 0 to 1048576",
@@ -116,7 +116,7 @@ pub const BOOT: NumberOption = NumberOption {
 pub const VIEW_UNTIL: NumberOption = NumberOption {
     name: "until",
     low: 0,
-    high: 1_048_576,
+    high: MAX_INPUTS,
     unless: Unless::Nothing,
     value: "N",
     help: "Ends once at least N inputs are applied, 0 to 1048576",
@@ -125,7 +125,7 @@ pub const VIEW_UNTIL: NumberOption = NumberOption {
 pub const EXACTLY: NumberOption = NumberOption {
     name: "exactly",
     low: 0,
-    high: 1_048_576,
+    high: MAX_INPUTS,
     unless: Unless::Nothing,
     value: "N",
     help: "Ends once N inputs are applied, and passes over others, 0 to 1048576",

@@ -2,6 +2,7 @@
 use Rattle.std.specs.Prelude.{ℕ, ◌-◌, ◌^◌, ◌++◌, ◌==◌, List, ◌∷◌, length, take, drop, Option, Some, None, Result, Ok, Err, nat_le, nat_lt, nat_eq, slice_range, slice_index, if◌then◌else◌, codes}
 use Rattle.std.specs.Int.{w32}
 use Rattle.std.specs.Cmp.Lexicographic.{pointwise}
+use Rattle.x3d_values.specs.Ranges.{max_inputs}
 use Rattle.sha2.specs.Sha256.{sha256}
 use Rattle.byte_codec.specs.Codec.{Codec, named, pair, number}
 use Rattle.snapshot_codec.specs.declared.head.HeadFault.{HeadFault}
@@ -12,7 +13,7 @@ use Rattle.snapshot_codec.specs.Trace.{moment_codec}
 
 -- inputs are numbered up to 2^20
 abbrev pub applied_codec : Codec ℕ
-applied_codec = restricted (λ n. nat_le n (2 ^ 20)) (number w32)
+applied_codec = restricted (λ n. nat_le n max_inputs) (number w32)
 
 -- boot, applied, last time
 unfoldable pub progress_codec : Codec Progress

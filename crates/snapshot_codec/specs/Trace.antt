@@ -1,6 +1,7 @@
 -- The events that were sent, as bytes (our choice).
 use Rattle.std.specs.Prelude.{ℕ, ◌^◌, ◌++◌, ◌&&◌, ℤ, pos, Bool, false, List, Option, Some, None, int_le}
 use Rattle.std.specs.Int.{w16, w32, w64}
+use Rattle.x3d_values.specs.Ranges.{max_time}
 use Rattle.byte_codec.specs.Codec.{Codec, named, depends, pair, counted, number, signed}
 use Rattle.x3d_values.specs.declared.field_type.FieldType.{FieldType}
 use Rattle.x3d_values.specs.declared.value.Value.{Value}
@@ -10,7 +11,7 @@ use Rattle.snapshot_codec.specs.Values.{restricted, value_text, value_at, value_
 
 -- 0 to 10^18 microseconds
 abbrev pub is_moment : ℤ → Bool
-is_moment t = int_le (pos 0) t && int_le t (pos (10 ^ 18))
+is_moment t = int_le (pos 0) t && int_le t (pos max_time)
 
 abbrev pub moment_codec : Codec ℤ
 moment_codec = restricted is_moment (signed w64)

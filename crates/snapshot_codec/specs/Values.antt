@@ -3,6 +3,7 @@
 use Rattle.std.specs.Prelude.{ℕ, ◌^◌, ℤ, Bool, false, List, [], Option, Some, None, nat_le, unsigned_abs}
 use Rattle.std.specs.Int.{w32, w64}
 use Rattle.std.specs.Str.{is_utf8}
+use Rattle.x3d_values.specs.Ranges.{max_coordinate, max_time}
 use Rattle.byte_codec.specs.Codec.{Codec, ◌>>?◌, at_front, only_if, refined, named, checked, pair, counted, string, signed, truth}
 use Rattle.x3d_values.specs.declared.vector.Vec2.{Vec2}
 use Rattle.x3d_values.specs.declared.vector.Vec3.{Vec3}
@@ -27,11 +28,11 @@ within limit = restricted (is_within limit) (signed w64)
 
 -- numbers are of sizes up to 10^15 millionths
 abbrev pub number : Codec ℤ
-number = within (10 ^ 15)
+number = within max_coordinate
 
 -- times are of sizes up to 10^18 microseconds
 abbrev pub time : Codec ℤ
-time = within (10 ^ 18)
+time = within max_time
 
 -- ---- what is made of numbers and of bytes
 

@@ -13,7 +13,7 @@ use byte_codec::u32_of;
 use sha2::{Digest, Sha256};
 use std::alloc::AllocError;
 use thiserror::Error;
-use x3d_values::push_pieces;
+use x3d_values::{MAX_INPUTS, push_pieces};
 
 /// The first bytes of each snapshot.
 const MAGIC: &[u8; 4] = b"X3DW";
@@ -140,7 +140,7 @@ fn applied_of(bytes: &[u8]) -> Option<(u32, &[u8])>
     let Some((number, rest)) = u32_of(bytes) else {
         return None;
     };
-    if number <= 1 << 20 {
+    if number <= MAX_INPUTS {
         Some((number, rest))
     } else {
         None

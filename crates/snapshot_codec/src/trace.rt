@@ -17,7 +17,7 @@ use std::alloc::{AllocError, Global};
 use x3d_values::{FieldType, Items, Value, push_pieces};
 
 /// The latest time, in microseconds.
-const LATEST: i64 = 1_000_000_000_000_000_000;
+const LATEST: i64 = x3d_values::MAX_TIME;
 
 /// When and where an event was sent.
 #[derive(Clone, Copy, PartialEq, Eq)]

@@ -13,7 +13,7 @@ use std::alloc::{AllocError, Global};
 use x3d_values::{Color, FieldType, MAX_COORDINATE, Text, Value, Vec2, Vec3};
 
 /// The largest size of a time, in microseconds.
-pub(crate) const MAX_TIME: u64 = 1_000_000_000_000_000_000;
+pub(crate) const MAX_TIME: u64 = x3d_values::MAX_TIME as u64;
 
 /// The value of a field of this type at the front of the bytes, and the bytes behind it. A truth
 /// value is a byte 0 or 1, an SFInt32 an i32, a number an i64 of a size up to 10^15 millionths, a

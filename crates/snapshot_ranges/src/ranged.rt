@@ -3,6 +3,7 @@
 ghost use Rattle.std.specs.Prelude.{◌≡◌, ◌^◌};
 ghost use Rattle.std.specs.Int.{w32};
 ghost use Rattle.std.specs.List.{list_all};
+ghost use Rattle.x3d_values.specs.Ranges.{max_coordinate, max_time};
 ghost use Rattle.byte_codec.specs.Codec.{Codec, all_fit, signed, truth};
 ghost use Rattle.snapshot_codec.specs.Values.{color, is_within, list_of, number, text, time, vector2, vector3};
 
@@ -82,7 +83,7 @@ impl Ranged for Color {
 
 /// Whether a time is of a size of up to `MAX_TIME` microseconds.
 pub(crate) fn time_fits(time: i64) -> bool
-    ensures { result ≡ is_within (10 ^ 18) time }
+    ensures { result ≡ is_within max_time time }
 {
     time.unsigned_abs() <= MAX_TIME as u64
 }
@@ -106,13 +107,13 @@ pub(crate) fn list_fits<T: Ranged>(items: &[T]) -> bool
 }
 
 fn all_numbers(numbers: &[i64]) -> bool
-    ensures { result ≡ list_all (is_within (10 ^ 15)) numbers.now }
+    ensures { result ≡ list_all (is_within max_coordinate) numbers.now }
 {
     numbers.iter().all(|number| coordinate_fits(*number))
 }
 
 fn all_times(times: &[i64]) -> bool
-    ensures { result ≡ list_all (is_within (10 ^ 18)) times.now }
+    ensures { result ≡ list_all (is_within max_time) times.now }
 {
     times.iter().all(|time| time_fits(*time))
 }

@@ -3,10 +3,10 @@
 use super::sending::{Given, fields, is_sent, value_of};
 use super::{Row, all_hold, holds};
 use react_core::Outbox;
-use sensor_core::{MAX_TIME, TimeFields, TimeState};
+use sensor_core::{TimeFields, TimeState};
 use std::alloc::Global;
 use std::process::Abort;
-use x3d_values::{Fields, Value};
+use x3d_values::{Fields, MAX_TIME, Value};
 
 /// An enabled sensor's cycle interval, whether it loops, its start and its stop.
 type Setting = (i64, bool, i64, i64);
