@@ -1,4 +1,4 @@
--- A turn adds to the trace a line for each output that sends, and each output sends once.
+-- An input adds to the trace a line for each output that sends, and each output sends once.
 use Rattle.std.proofs.Common.{◌≡◌, Bool, true, false, not, ◌&&◌, ◌||◌, List, [], ◌∷◌, ◌++◌, ◌∙◌, ap, sym, refl, append_assoc}
 use Rattle.x3d_values.specs.Pointing.{PointerView}
 use Rattle.std.proofs.lemmas.List.{map-append, append-nil}
@@ -67,6 +67,6 @@ gain-state start live a g = record { lines = g.lines; gained = g.gained; sources
 pub gain-button : (start : List TraceLine) (live : Live) (p : PointerView) → IsGain start live → IsGain start (with_button live p)
 gain-button start live p g = record { lines = g.lines; gained = g.gained; sources = g.sources; differ = g.differ }
 
--- a turn that begins
+-- an input that begins
 pub gain-begin : (start : List TraceLine) (live : Live) → live.world.trace ≡ start → live.sent ≡ [] → IsGain start live
 gain-begin start live t s = record { lines = []; gained = t ∙ sym (append-nil start); sources = sym s; differ = rw s refl }

@@ -28,7 +28,7 @@ pub happen-fresh : (scene : SceneView) (wiring : Wiring) (now : ℤ) (c : Course
 happen-fresh scene wiring now c cause none =
     happen-of wiring (λ (d : Course). d.settling.settled ≡ []) (λ d s v h p. p) (λ d a p. p) (λ d q p. p) (λ d k call p. p) scene now c cause none
 
--- what a stage goes by is the plan of its scene
+-- what a stage goes by is the wiring of its scene
 pub plan-same : (g : RoutedScene) → IsFixed g → wiring_at g ≡ wiring_of g.scene g.routes
 plan-same g fixed = ap made fixed
   where
@@ -53,7 +53,7 @@ pub settled-once : (scene : SceneView) (wiring : Wiring) (c : Course) (input : S
 settled-once scene wiring c input none =
     (settles_all wiring (happen scene wiring input.time c input.cause) (happen-fresh scene wiring input.time c input.cause none)).1
 
--- it does so by the plan of the scene
+-- it does so by the wiring of the scene
 pub input-same : (scene : SceneView) (wiring real : Wiring) (c b e : Course) (input : StampedView) → e ≡ after_input scene wiring c input → wiring ≡ real → c ≡ b →
     e ≡ after_input scene real b input
 input-same scene wiring real c b e input is plans courses =

@@ -16,7 +16,7 @@ use Rattle.script_running.specs.Ports.{PortsView}
 use Rattle.script_running.proofs.CallLemmas.{kinds_stand}
 use Rattle.cascade_core.specs.Apply.{SendingView, Started, opening, sent_by_all, start_one, started, untold}
 use Rattle.cascade_core.specs.Cascade.{send_replies}
-use Rattle.cascade_core.specs.Course.{Course, PortsView, Scripted, course, ended, node_of, wiring_at, wiring_of, ports_of}
+use Rattle.cascade_core.specs.Course.{Course, Wiring, Scripted, course, ended, node_of, wiring_at, wiring_of, ports_of}
 use Rattle.cascade_core.specs.Outputs.{is_scene_output}
 use Rattle.cascade_core.specs.Scripts.{are_begun, kinds_in, scripts_in}
 use Rattle.cascade_core.specs.Settles.{settle}
@@ -92,7 +92,7 @@ take-all (r ∷ rs) (suc k) e = ap (λ (xs : List SlotView). r ∷ xs) (take-all
 lengths : (xs ys : List SlotView) → kinds_of xs ≡ kinds_of ys → length xs ≡ length ys
 lengths xs ys e = sym (length-map xs (λ (r : SlotView). r.kind)) ∙ ap length e ∙ length-map ys (λ (r : SlotView). r.kind)
 
-module _ (wiring : PortsView) where
+module _ (wiring : Wiring) where
   kinds-one : (s : Started) (k : ℕ) → kinds_of (start_one wiring s k).scripts ≡ kinds_of s.scripts
   kinds-one s k = kinds_stand (ports_of wiring k) Initialize k s.scripts
 
@@ -151,7 +151,7 @@ module _ (wiring : PortsView) where
 
 -- ---- the whole of input 0
 
-abbrev opened-from : SceneView → PortsView → List SlotView → Scripted
+abbrev opened-from : SceneView → Wiring → List SlotView → Scripted
 opened-from scene wiring given =
     let s = started wiring given in
     ended (settle wiring (sent_by_all wiring (course (record { world = untold scene; sent = [] }) s.scripts) s.sendings))
@@ -159,12 +159,12 @@ opened-from scene wiring given =
 fixed-plan : (g : RoutedScene) → IsFixed g → wiring_at g ≡ wiring_of g.scene g.routes
 fixed-plan g fixed = ap made fixed
   where
-    made : List Run → PortsView
+    made : List Run → Wiring
     made runs = record { shapes = shapes_of g.scene; routes = g.routes; runs = runs }
 
 opened-fixed : (g : RoutedScene) → IsFixed g → opened-from g.scene (wiring_at g) (scripts_in g.scene) ≡ opening g.scene g.routes
 unfolding opening
-opened-fixed g fixed = ap (λ (wiring : PortsView). opened-from g.scene wiring (scripts_in g.scene)) (fixed-plan g fixed)
+opened-fixed g fixed = ap (λ (wiring : Wiring). opened-from g.scene wiring (scripts_in g.scene)) (fixed-plan g fixed)
 
 -- the course behind the initialization of all scripts
 abbrev starts : Live → List SlotView → DueScriptsView → Course
@@ -196,7 +196,7 @@ opened_same g fixed live given rs settling many sendings before after same world
     ∙ opened-fixed g fixed
 
 -- nothing was settled before
-pub sent_fresh : (wiring : PortsView) (live : Live) (rs : List SlotView) (settling : DueScriptsView) (after : Course) (sendings : List SendingView) (many : ℕ) →
+pub sent_fresh : (wiring : Wiring) (live : Live) (rs : List SlotView) (settling : DueScriptsView) (after : Course) (sendings : List SendingView) (many : ℕ) →
     after ≡ sent_by_all wiring (record { live = live; scripts = rs; settling = settling }) sendings → settling ≡ unsettled many → after.settling.settled ≡ []
 sent_fresh wiring live rs settling after sendings many is none =
     ap (λ (c : Course). c.settling.settled) is ∙ sent_unsettled wiring (record { live = live; scripts = rs; settling = settling }) sendings (ap (λ (s : DueScriptsView). s.settled) none)
@@ -204,10 +204,10 @@ sent_fresh wiring live rs settling after sendings many is none =
 -- ---- the scripts of the course
 
 -- a script that there is is run
-pub script_run : (wiring : PortsView) (rs : List SlotView) (k : ℕ) → IsSound wiring (kinds_of rs) → k < length rs → k < length wiring.runs
+pub script_run : (wiring : Wiring) (rs : List SlotView) (k : ℕ) → IsSound wiring (kinds_of rs) → k < length rs → k < length wiring.runs
 script_run wiring rs k sound below = omega (arith, below, sound.many, length-map rs (λ (r : SlotView). r.kind))
 
-pub started_first : (wiring : PortsView) (rs : List SlotView) (sendings : List SendingView) (n : ℕ) → sendings ≡ [] → n ≡ length rs →
+pub started_first : (wiring : Wiring) (rs : List SlotView) (sendings : List SendingView) (n : ℕ) → sendings ≡ [] → n ≡ length rs →
     fold (start_one wiring) (record { scripts = rs; sendings = sendings }) (range_with_len 0 (n - 0)) ≡ started wiring rs
 unfolding started
 started_first wiring rs sendings n none e =
@@ -216,7 +216,7 @@ started_first wiring rs sendings n none e =
     ∙ ap (λ (m : ℕ). fold (start_one wiring) (record { scripts = rs; sendings = [] }) (range_with_len 0 m)) all
 
 -- one script more was initialized
-pub started_more : (wiring : PortsView) (whole : Started) (rs after : List SlotView) (sendings more : List SendingView) (one : SendingView) (k n : ℕ) → k < n →
+pub started_more : (wiring : Wiring) (whole : Started) (rs after : List SlotView) (sendings more : List SendingView) (one : SendingView) (k n : ℕ) → k < n →
     after ≡ (act (ports_of wiring k) Initialize k rs).scripts → one ≡ record { node = node_of wiring k; replies = (act (ports_of wiring k) Initialize k rs).replies } → more ≡ sendings ++ one ∷ [] →
     fold (start_one wiring) (record { scripts = rs; sendings = sendings }) (range_with_len k (n - k)) ≡ whole →
     fold (start_one wiring) (record { scripts = after; sendings = more }) (range_with_len (k + 1) (n - (k + 1))) ≡ whole
@@ -230,7 +230,7 @@ started_more wiring whole rs after sendings more one k n below scripts sent push
     pair xs ys = record { scripts = xs; sendings = ys }
 
 -- behind input 0
-pub cast_opened : (wiring : PortsView) (scene : SceneView) (given : List SlotView) (c : Course) → IsSound wiring (kinds_of given) → given ≡ scripts_in scene →
+pub cast_opened : (wiring : Wiring) (scene : SceneView) (given : List SlotView) (c : Course) → IsSound wiring (kinds_of given) → given ≡ scripts_in scene →
     kinds_of c.scripts ≡ kinds_in scene → c.settling.count ≡ length c.scripts → HasScriptsOf wiring c
 cast_opened wiring scene given c sound same kinds count = record {
   sound = subst (λ (ks : List Kind). IsSound wiring ks) (ap kinds_of same ∙ sym kinds) sound;
@@ -238,7 +238,7 @@ cast_opened wiring scene given c sound same kinds count = record {
 }
 
 -- scripts that were all initialized are of the kinds that they were of, and as many
-pub opening-cast : (wiring : PortsView) (given rs : List SlotView) (live : Live) (settling : DueScriptsView) (many : ℕ) → IsSound wiring (kinds_of given) →
+pub opening-cast : (wiring : Wiring) (given rs : List SlotView) (live : Live) (settling : DueScriptsView) (many : ℕ) → IsSound wiring (kinds_of given) →
     kinds_of rs ≡ kinds_of given → settling ≡ unsettled many → many ≡ length given → HasScriptsOf wiring (record { live = live; scripts = rs; settling = settling })
 opening-cast wiring given rs live settling many sound kinds is counted = record {
   sound = subst (λ (ks : List Kind). IsSound wiring ks) (sym kinds) sound;

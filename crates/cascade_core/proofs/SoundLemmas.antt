@@ -1,4 +1,4 @@
--- Scripts of a sound plan send by outputs of the scene, and what an event comes to at its target.
+-- Scripts of a sound wiring send by outputs of the scene, and what an event comes to at its target.
 use Rattle.std.proofs.Common.{◌≡◌, ℕ, ◌+◌, ◌<◌, Bool, true, false, ◌&&◌, List, [], ◌∷◌, Option, Some, None, ◌∙◌, ap, sym, zero, suc, refl, arith, length, map, eqb-true}
 use Rattle.std.specs.Prelude.{◌==◌, nat_lt, slice_get, slice_index_or, if◌then◌else◌}
 use Rattle.std.specs.Option.{option_and_then, option_map, option_map_or}
@@ -18,7 +18,7 @@ use Rattle.script_host.proofs.OutputLemmas.{sends_by_outputs}
 use Rattle.script_running.specs.Acting.{act, acting, call_of, kinds_of}
 use Rattle.script_running.specs.Ports.{PortsView, reply_of}
 use Rattle.script_running.proofs.CallLemmas.{kinds_stand}
-use Rattle.cascade_core.specs.Course.{Course, PortsView, node_of, ports_of, script_of}
+use Rattle.cascade_core.specs.Course.{Course, Wiring, node_of, ports_of, script_of}
 use Rattle.cascade_core.specs.Scripts.{script_from}
 use Rattle.cascade_core.specs.Outputs.{is_scene_output}
 use Rattle.cascade_core.specs.Cascade.{Arrival, arrival, reached, reached_by}
@@ -51,7 +51,7 @@ kind-at [] k r h = cc
 kind-at (s ∷ scripts) zero r h = let same : s ≡ r = cc in ap (λ (x : SlotView). Some x.kind) same
 kind-at (s ∷ scripts) (suc k) r h = kind-at scripts k r h
 
-module _ (wiring : PortsView) where
+module _ (wiring : Wiring) where
   -- what a script sends leaves by outputs of its node
   pub act-sends : (scripts : List SlotView) → IsSound wiring (kinds_of scripts) → (k : ℕ) (call : Call) →
       AllOutputs wiring.shapes (node_of wiring k) (act (ports_of wiring k) call k scripts).replies
@@ -141,15 +141,15 @@ module _ (wiring : PortsView) where
 
 -- ---- the scripts of a course
 
--- what keeps the kinds and the count keeps the cast
-pub cast_stands : (wiring : PortsView) (old new : Course) → kinds_of new.scripts ≡ kinds_of old.scripts → new.settling.count ≡ old.settling.count → HasScriptsOf wiring old → HasScriptsOf wiring new
+-- what keeps the kinds and the count keeps the scripts that the wiring runs
+pub cast_stands : (wiring : Wiring) (old new : Course) → kinds_of new.scripts ≡ kinds_of old.scripts → new.settling.count ≡ old.settling.count → HasScriptsOf wiring old → HasScriptsOf wiring new
 cast_stands wiring old new kinds count cast = record {
   sound = rw kinds cast.sound;
   counted = count ∙ cast.counted ∙ ap length (sym kinds);
 }
 
-pub cast-many : (wiring : PortsView) (c : Course) → HasScriptsOf wiring c → length wiring.runs ≡ length c.scripts
+pub cast-many : (wiring : Wiring) (c : Course) → HasScriptsOf wiring c → length wiring.runs ≡ length c.scripts
 cast-many wiring c cast = cast.sound.many ∙ length-map c.scripts (λ (r : SlotView). r.kind)
 
-pub cast-counted : (wiring : PortsView) (c : Course) → HasScriptsOf wiring c → c.settling.count ≡ length c.scripts
+pub cast-counted : (wiring : Wiring) (c : Course) → HasScriptsOf wiring c → c.settling.count ≡ length c.scripts
 cast-counted wiring c cast = cast.counted ∙ length-map c.scripts (λ (r : SlotView). r.kind)

@@ -18,12 +18,12 @@ use Rattle.cascade_world.specs.declared.world.Live.{Live}
 use Rattle.cascade_world.specs.declared.world.WorldData.{WorldData}
 
 -- what events go by: the fields of the nodes, the routes, and the scripts that are run
-pub record PortsView : Type 0 where
+pub record Wiring : Type 0 where
   pub shapes : List Shape
   pub routes : List Route
   pub runs : List Run
 
-abbrev pub wiring_of : SceneView → List Route → PortsView
+abbrev pub wiring_of : SceneView → List Route → Wiring
 wiring_of scene routes =
     record { shapes = shapes_of scene; routes = routes; runs = runs_of scene }
 
@@ -35,7 +35,7 @@ pub record Scripted : Type 0 where
   pub states : List (List ℤ)
 
 -- what events go by where a stage holds this
-abbrev pub wiring_at : RoutedScene → PortsView
+abbrev pub wiring_at : RoutedScene → Wiring
 wiring_at g = record { shapes = shapes_of g.scene; routes = g.routes; runs = g.runs }
 
 -- a world in the course of one input, and which of its scripts received and were settled
@@ -62,12 +62,12 @@ ended c = record { world = c.live.world; states = states_of c.scripts }
 -- ---- the scripts of nodes
 
 -- the number of the script of a node, where its script is run
-abbrev pub script_of : PortsView → ℕ → Option ℕ
+abbrev pub script_of : Wiring → ℕ → Option ℕ
 script_of wiring node = script_from 0 wiring.runs node
 
 -- the node of a script
-abbrev pub node_of : PortsView → ℕ → ℕ
+abbrev pub node_of : Wiring → ℕ → ℕ
 node_of wiring k = option_map_or (λ (run : Run). run.node) (slice_get wiring.runs k) 0
 
-abbrev pub ports_of : PortsView → ℕ → PortsView
+abbrev pub ports_of : Wiring → ℕ → PortsView
 ports_of wiring k = option_map_or (λ (run : Run). run.ports) (slice_get wiring.runs k) no_ports

@@ -34,7 +34,7 @@ are_sent shapes s = are_outputs shapes s.node (map (λ (r : SentEvent). r.field)
 abbrev pub IsFixed : RoutedScene → Type 0
 IsFixed g = g.runs ≡ runs_of g.scene
 
--- the scripts of a course are those that the plan runs, and none else is counted
+-- the scripts of a course are those that the wiring runs, and none else is counted
 pub record HasScriptsOf (wiring : Wiring) (c : Course) : Type 0 where
   pub sound : IsSound wiring (kinds_of c.scripts)
   pub counted : c.settling.count ≡ length (kinds_of c.scripts)

@@ -88,7 +88,7 @@ fn bench_of(alloc: Global, scene: &Scene, world: &WorldData) -> Result<Buffers, 
     })
 }
 
-/// The turn of a scene in which nothing has happened.
+/// The world of a scene in which nothing has happened, with no output that has sent.
 fn turn_of(alloc: Global, scene: &Scene) -> Result<Live, AllocError>
     ensures world { IfOk result (λ live. live.world ≡ untold scene.now) }
     ensures sent { IfOk result (λ live. live.sent ≡ []) }

@@ -8,7 +8,7 @@ use scene_core::{End, Scene};
 use std::alloc::{AllocError, Global};
 use std::marker::Model;
 
-/// The outputs that have sent in a turn, in order.
+/// The outputs that have sent in the course of an input, in order.
 #[derive(Drop)]
 pub struct SentBits {
     /// Where the bits of each node start, and where those of the last one end.

@@ -61,7 +61,7 @@ pub struct Live {
 }
 
 impl Live {
-    /// The turn of an input begins: no output has sent yet.
+    /// An input begins: no output has sent yet.
     pub fn begin(&mut self, input: &Stamped)
         requires next { input.now.number ≡ self.old.world.applied + 1 }
         ensures { self.new ≡ begin_of self.old.world input.now }

@@ -47,7 +47,7 @@ one_more shapes start live source v new o f = record {
   bound = omega (arith, f.bound, unsent-less (ends_from 0 shapes) live.sent source o new, length-append live.sent (source ∷ []));
 }
 
--- the lines that a turn adds are as many as have sent
+-- the lines that an input adds are as many as have sent
 few_lines : (shapes : List Shape) (start : List TraceLine) (live : Live) → IsFew shapes start live → length live.world.trace ≤ length start + outputs_of shapes
 few_lines shapes start live f =
     let g = f.gain in

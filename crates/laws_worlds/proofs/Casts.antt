@@ -20,7 +20,7 @@ use Rattle.laws_worlds.specs.Calls.{call_fits}
 use Rattle.laws_worlds.specs.Nodes.{RunsAll, runs}
 use Rattle.laws_worlds.proofs.Running.{runs_by}
 use Rattle.cascade_core.specs.Cascade.{Arrival, arrival}
-use Rattle.cascade_core.specs.Course.{Course, PortsView, node_of, ports_of, script_of}
+use Rattle.cascade_core.specs.Course.{Course, Wiring, node_of, ports_of, script_of}
 use Rattle.cascade_core.specs.Scripts.{kinds_in, script_for}
 use Rattle.cascade_core.proofs.SoundLemmas.{script-node}
 
@@ -75,7 +75,7 @@ are_of scene scripts same k r h =
 -- ---- the call that an event is
 
 -- the script that an event calls is that of its target's node, and takes the call
-pub record Arrives (wiring : PortsView) (scripts : List SlotView) (target : End) (at : Arrival) : Type 0 where
+pub record Arrives (wiring : Wiring) (scripts : List SlotView) (target : End) (at : Arrival) : Type 0 where
   pub node : node_of wiring at.number ≡ target.node
   pub fits : (r : SlotView) → slice_get scripts at.number ≡ Some r → call_fits r.kind at.call ≡ true
 
@@ -98,7 +98,7 @@ called scripts ports k field v call h r here =
     taken r.kind ports field v call
     (subst (λ (o : Option SlotView). option_and_then (λ (x : SlotView). call_at x.kind ports field v) o ≡ Some call) here h)
 
-pub arrives : (wiring : PortsView) (c : Course) (target : End) (v : Value) (at : Arrival) → arrival wiring c target v ≡ Some at → Arrives wiring c.scripts target at
+pub arrives : (wiring : Wiring) (c : Course) (target : End) (v : Value) (at : Arrival) → arrival wiring c target v ≡ Some at → Arrives wiring c.scripts target at
 arrives wiring c target v at h = by_script (script_of wiring target.node) refl h
   where
     numbered : ℕ → Call → Arrival

@@ -32,7 +32,7 @@ use Rattle.cascade_core.specs.Scripts.{scripts_in}
 use Rattle.cascade_world.specs.declared.world.Live.{Live}
 use Rattle.cascade_world.proofs.Shapes.{shape_at}
 use Rattle.laws_worlds.proofs.Rows.{some_is}
-use Rattle.laws_worlds.specs.Fits.{IsStaged, UntoldWorldsFit, ScriptedFits, StepsFit, WorldFits, is_event}
+use Rattle.laws_worlds.specs.Fits.{IsStaged, OpeningsFit, ScriptedFits, StepsFit, WorldFits, is_event}
 use Rattle.laws_worlds.proofs.Calls.{InStates, calls_fit, running_in, starts_in, states_are}
 use Rattle.laws_worlds.proofs.Drags.{answers_lead, meets_lead, starts_lead, ticks_lead}
 use Rattle.laws_worlds.proofs.Places.{contact_right, insides_lead, place_fits}
@@ -161,7 +161,7 @@ all_steps_fit scene routes w input staged is f =
     (record { world = record { count = omega (arith, most, number); last = m; nodes = old.nodes; buttons = old.buttons; lines = old.lines }; paths = f.paths })
     (running_in scene w.states f.states))
 
-pub all_openings_fit : UntoldWorldsFit
+pub all_openings_fit : OpeningsFit
 all_openings_fit scene routes staged world starts =
     let c : Course = first_course scene routes in
     subst (λ (w : Scripted). ScriptedFits scene w) (sym (opening_is scene routes))

@@ -42,7 +42,7 @@ use Rattle.laws_worlds.proofs.Casts.{Arrives, arrives}
 abbrev pub AllSent : (End → Value → Type 0) → ℕ → List SentEvent → Type 0
 AllSent Q node replies = AllByRecursion (λ (r : SentEvent). Q (record { node = node; field = r.field }) r.value) replies
 
--- the turn after a node has answered, and what the node sends
+-- the world after a node has answered, and what the node sends
 abbrev pub AnswerKeeps : (Live → Type 0) → (End → Value → Type 0) → ℕ → Live → NodeAnswer → Type 0
 AnswerKeeps T Q node live a = T (with_answer live a) × AllSent Q node a.replies
 
@@ -54,7 +54,7 @@ ActKeeps S Q node a = S a.scripts × AllSent Q node a.replies
 abbrev pub Takes : List SlotView → ℕ → Call → Type 0
 Takes scripts k call = (r : SlotView) → slice_get scripts k ≡ Some r → call_fits r.kind call ≡ true
 
--- T holds of turns, and S of scripts, while events leave as Q allows, and come as R allows
+-- T holds of worlds, and S of scripts, while events leave as Q allows, and come as R allows
 pub record Rules (scene : SceneView) (routes : List Route) (T : Live → Type 0) (S : List SlotView → Type 0) (Q R : End → Value → Type 0) : Type 0 where
   pub comes : (source : End) (v : Value) → Q source v → AllByRecursion (λ (target : End). R target v) (targets_of routes source)
   pub records : (live : Live) (source : End) (v : Value) → has_sent live.sent source ≡ false → Q source v → T live → T (record_event live source v)
@@ -79,7 +79,7 @@ pub record Aims (scene : SceneView) (w : WorldData) (p : PointerView) (x : Conce
   pub drags : Bool
   pub tracked : x.tracked ≡ (if drags then tracked_at scene w p x.sensor else None)
 
--- where a viewer points: what is fixed before, of the first turn, and what the sensor does at its turn
+-- where a viewer points: what is fixed before, of the first world, and what the sensor does at its turn
 abbrev pub PointKeeps : SceneView → (Live → Type 0) → (End → Value → Type 0) → PointerView → Type 0
 PointKeeps scene T Q p =
     (first : Live) (before : Bool) (live : Live) (x : Concerned) → T first → Aims scene first.world p x → T live

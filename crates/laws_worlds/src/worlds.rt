@@ -1,6 +1,6 @@
 //! That what an input does keeps all ranges, and that worlds in their ranges have snapshots.
 
-ghost use Rattle.laws_worlds.specs.Fits.{UntoldWorldsFit, StepsFit};
+ghost use Rattle.laws_worlds.specs.Fits.{OpeningsFit, StepsFit};
 ghost use Rattle.laws_worlds.specs.Snapshots.{FittingHaveSnapshots};
 
 /// A world that fits, after the next input, fits.
@@ -10,7 +10,7 @@ pub fn steps_fit()
 
 /// The world that input 0 leaves fits, where the one before it and the states of all scripts do.
 pub fn openings_fit()
-    ensures { UntoldWorldsFit }
+    ensures { OpeningsFit }
 {}
 
 /// A world that fits is one that a snapshot can be read of again.

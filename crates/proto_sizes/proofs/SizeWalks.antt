@@ -7,7 +7,7 @@ use Rattle.proto_flat.specs.declared.fault.ExpandFault.{ExpandFault}
 use Rattle.proto_flat.specs.declared.fault.ExpandFaultKind.{ExpandFaultKind}
 use Rattle.proto_meaning.specs.Limits.{Met, Outcome, follow, item_count}
 use Rattle.proto_meaning.specs.Names.{Name, Filled}
-use Rattle.proto_meaning.specs.Sight.{Prototype, Sight, Step, and_see, aside, declared, each, no_names}
+use Rattle.proto_meaning.specs.Sight.{Prototype, Sight, Look, and_see, aside, declared, each, no_names}
 use Rattle.proto_meaning.specs.Flat.{Walk, Does, ◌>>=◌, Inside, comes, meet, pure, refuse, see, through}
 use Rattle.proto_sizes.specs.Sizes.{Alike, AreSized, ComeAlike, EachSized, EndAlike, IsSized, sizes}
 
@@ -116,27 +116,27 @@ LastSized s (Ok t) = (p : Prototype) → t.here ≡ s.here ++ p ∷ [] → IsSiz
 LastSized s (Err e) = Unit {0}
 
 -- the step declares sized prototypes alone
-abbrev pub SeesSized : Step → Type 0
+abbrev pub SeesSized : Look → Type 0
 SeesSized p = (s : Sight) → AreSized s → SeenSized (p s)
 
 pub with_taken : (s : Sight) (t : Sight) → t.here ≡ s.here → t.outside ≡ s.outside → AreSized s → AreSized t
 with_taken s t e f h = record { here = subst EachSized (sym e) h.here; outside = subst EachSized (sym f) h.outside }
 
-pub sees_then : (r : Seen) (f : Step) → SeenSized r → SeesSized f → SeenSized (and_see r f)
+pub sees_then : (r : Seen) (f : Look) → SeenSized r → SeesSized f → SeenSized (and_see r f)
 sees_then (Ok s) f h k = k s h
 sees_then (Err e) f h k = tt
 
-pub aside_sized : (p : Step) → SeesSized p → SeesSized (aside p)
+pub aside_sized : (p : Look) → SeesSized p → SeesSized (aside p)
 aside_sized p h s k =
     sees_then (p (record s { taken = no_names })) (λ u. Ok (record u { taken = s.taken }))
     (h (record s { taken = no_names }) (with_taken s (record s { taken = no_names }) refl refl k))
     (λ u i. with_taken u (record u { taken = s.taken }) refl refl i)
 
-pub each_sized : {A : Type 0} (f : A → Step) (as' : List A) → AllByRecursion (λ a. SeesSized (f a)) as' → SeesSized (each f as')
+pub each_sized : {A : Type 0} (f : A → Look) (as' : List A) → AllByRecursion (λ a. SeesSized (f a)) as' → SeesSized (each f as')
 each_sized f [] h s k = k
 each_sized f (a ∷ as') h s k = sees_then (f a s) (each f as') (h.0 s k) (each_sized f as' h.1)
 
-pub sees_if : (b : Bool) (p q : Step) → SeesSized p → SeesSized q → SeesSized (if b then p else q)
+pub sees_if : (b : Bool) (p q : Look) → SeesSized p → SeesSized q → SeesSized (if b then p else q)
 sees_if true p q h k = h
 sees_if false p q h k = k
 
@@ -144,7 +144,7 @@ now_seen : (w v : Walk) → Alike w v → (r : Seen) → SeenSized r → GoAlike
 now_seen w v h (Ok s) k = record { met = refl; goes = (tt, record { sight = refl; sized = k; braces = h.braces; interface = h.interface; given = h.given }) }
 now_seen w v h (Err e) k = record { met = refl; goes = refl }
 
-pub see_alike : (p : Step) → SeesSized p → DoAlike (Any {A = Unit {0}}) (see p) (see p)
+pub see_alike : (p : Look) → SeesSized p → DoAlike (Any {A = Unit {0}}) (see p) (see p)
 see_alike p h w v k =
     subst (λ t. GoAlike (Any {A = Unit {0}}) (see p w) (follow [] (p t) (λ s. comes (Ok (tt {0}, record v { sight = s }))))) (sym k.sight)
     (now_seen w v k (p w.sight) (h w.sight k.sized))

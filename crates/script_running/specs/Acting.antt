@@ -11,7 +11,7 @@ use Rattle.script_running.specs.Ports.{PortsView, call_at, reply_of}
 -- the scripts after a call, and what the node of the script that was called sends, in order
 pub record Acted : Type 0 where
   pub scripts : List SlotView
-  pub replies : List node.Reply
+  pub replies : List node.SentEvent
 
 abbrev pub idle : List SlotView → Acted
 idle scripts = record { scripts = scripts; replies = [] }

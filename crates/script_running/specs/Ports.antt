@@ -59,7 +59,7 @@ value_from (Some e) numbers = value_of e.field_type numbers
 value_from None numbers = SFBool false
 
 -- what the node sends where its script sends this
-abbrev pub reply_of : Kind → PortsView → Reply → node.Reply
+abbrev pub reply_of : Kind → PortsView → Reply → node.SentEvent
 reply_of kind ports r = record {
   field = slice_index_or ports.outputs r.output 0;
   value = value_from (slice_get (outputs kind) r.output) r.numbers;

@@ -1,4 +1,4 @@
--- The offers that wait, as a queue in a ring: made - settled of them, from place settled % 64 on.
+-- The offers that wait, as a queue in a ring: made - covered of them, from place covered % 64 on.
 use Rattle.std.proofs.Common.{◌≡◌, ℕ, ◌+◌, ◌-◌, ◌%◌, ◌<◌, ◌≤◌, min, max, Bool, true, false, refl, List, [], ◌∷◌, ◌++◌, length, map, get_or, take, drop, inl, inr, sym, ap, ◌∙◌, arith}
 use native.Mathlib.Nat.{mod-add-mod}
 use Rattle.std.specs.Prelude.{slice_get, slice_set, ◌==◌, if◌then◌else◌, Some}

@@ -146,7 +146,7 @@ is_caught_up issued m = (m.host.count == issued) && are_at issued m.seats.viewer
 abbrev pub due : {P : Type 0} → List StampedView → (issued : ℕ) → Meeting P → Option StampedView
 due steps issued m = if is_caught_up issued m then slice_get steps issued else None
 
--- all steps are issued, and what came of them is settled
+-- all steps are issued, and every viewer has caught up
 abbrev pub is_over : {P : Type 0} → List StampedView → (issued : ℕ) → Meeting P → Bool
 is_over steps issued m = is_caught_up issued m && (issued == length steps)
 

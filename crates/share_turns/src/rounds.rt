@@ -134,7 +134,7 @@ fn is_caught_up<B: Behaviour>(host: &Host, viewers: &[Viewer<B>], issued: u32) -
     host.len() == issued && are_at(issued, viewers)
 }
 
-/// Whether all steps are issued, and what came of them is settled.
+/// Whether all steps are issued, and every viewer has caught up.
 fn is_over(caught_up: bool, issued: u32, count: usize) -> bool
     ensures { result ≡ (caught_up && (issued == count)) }
 {
