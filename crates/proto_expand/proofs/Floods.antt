@@ -1,17 +1,17 @@
 -- Rows of instances that are given nothing: what the first takes, each of the others takes.
-use Rattle.std.proofs.Common.{◌≡◌, ℕ, zero, suc, ◌+◌, ◌-◌, ◌*◌, ◌<◌, Bool, true, false, not, ◌&&◌, if◌then◌else◌, cond, List, [], ◌∷◌, ◌++◌, length, Bor, Option, Some, None, Result, Ok, Err, map, refl, ap, sym, ◌∙◌, subst, arith}
+use Rattle.std.proofs.Common.{◌≡◌, mul_comm, ℕ, zero, suc, ◌+◌, ◌-◌, ◌*◌, ◌<◌, Bool, true, false, not, ◌&&◌, if◌then◌else◌, cond, List, [], ◌∷◌, ◌++◌, length, Bor, Option, Some, None, Result, Ok, Err, map, refl, ap, sym, ◌∙◌, subst, arith}
 use Rattle.std.specs.Prelude.{IfSome, nat_eq, nat_lt, option_map, slice_get}
 use Rattle.std.specs.List.{fold, prefix_len, sum_by}
 use Rattle.std.specs.Option.{option_map_or}
-use Rattle.std.proofs.lemmas.Bool.{eqb-true, ltb-false}
+use Rattle.std.proofs.lemmas.Bool.{eq-eqb, eqb-true, ltb-false, ltb-true}
 use Rattle.proto_flat.specs.Fault.{fault}
 use Rattle.proto_flat.specs.declared.fault.ExpandFault.{ExpandFault}
-use Rattle.proto_flat.specs.declared.fault.ExpandFaultKind.TheVariants.{TooLarge}
+use Rattle.proto_flat.specs.declared.fault.ExpandFaultKind.TheVariants.{TooLarge, UnknownNode}
 use Rattle.proto_meaning.specs.Limits.{Met, Outcome, all_met, and_then, behind, has_room, instances_met, items_met, nodes_met}
 use Rattle.proto_meaning.specs.Names.{Name}
 use Rattle.proto_meaning.specs.Sight.{OfProto, Prototype, Sight, and_see}
 use Rattle.proto_meaning.specs.Flat as flat
-use Rattle.proto_meaning.specs.Flat.{Does, ◌>>=◌, Item, Node, Stated, Walk, full_node, pure, through}
+use Rattle.proto_meaning.specs.Flat.{Does, ◌>>=◌, Item, Node, Stated, Walk, full_node, pure, refuse, through}
 use Rattle.proto_limits.specs.declared.room.Room.{Room}
 use Rattle.proto_limits.specs.Settled.{State, beside, doing, onward, settle, spend, spend_all, too_large}
 use Rattle.proto_limits.proofs.Settling.{parts_settle_in_turn, settle-then}
@@ -25,7 +25,7 @@ use Rattle.proto_tree.specs.declared.tree.ItemTree.{ItemTree}
 use Rattle.proto_tree.specs.declared.tree.ItemTree.TheOpen.{NodeTree-F}
 use Rattle.proto_tree.specs.declared.tree.NodeTree.{NodeTree, fold-roll-NodeTree, out-NodeTree, roll-NodeTree, roll-out-NodeTree}
 use Rattle.proto_tree.specs.declared.tree.Word.TheVariants as word
-use Rattle.proto_expand.specs.Rows.{RootSized, bare_in, bare_number, is_bare_of, number_between, row_len}
+use Rattle.proto_expand.specs.Rows.{RootSized, bare_in, bare_number, is_bare_of, look_along, number_between, row_len}
 
 -- ---- room
 
@@ -226,3 +226,69 @@ flooded ps number p means sized met was trees roots t over =
     ap (λ xs. doing (through add_root xs roots) t) row.parts
     ∙ ap (λ o. and_see (settle o t.room) onward) r.3
     ∙ begins_over (mets row.known) (through add_root row.rest r.0 r.1) t.room (over_all (mets row.known) t.room (subst (λ n. t.room.all < n) (sym sum) over))
+
+-- ---- the row that begins there
+
+no_row : {P : Type 0} (left each : ℕ) → nat_lt left (each * (0 - 1)) ≡ true → P
+no_row left each h = absurd (omega (arith, ltb-true left (each * (0 - 1)) h))
+
+product : (each count a b : ℕ) → each ≡ a → count ≡ b → each * count ≡ b * a
+product each count a b e f = ap (λ k. k * count) e ∙ ap (λ k. a * k) f ∙ mul_comm a b
+
+row_counts : (number : ℕ) (n : NodeTree) (rest : List BodyTree) → bare_in n ≡ Some number → row_len (body.Node n ∷ rest) ≡ 1 + prefix_len (is_bare_of number) rest
+row_counts number n rest is =
+    ap (λ o. option_map_or (λ k. prefix_len (is_bare_of k) (body.Node n ∷ rest)) o 0) is
+    ∙ ap (λ b. cond b (1 + prefix_len (is_bare_of number) rest) 0) (ap (λ o. option_map_or (λ found. nat_eq found number) o false) is ∙ eq-eqb number number refl)
+
+-- the first was put in, and for the others there is no room
+module _ (ps : List Prototype) (n : NodeTree) (rest : List BodyTree) (roots more : List ℕ) (s t : State) (number first : ℕ) (bare : bare_in n ≡ Some number) (done : WasDone (node ps n).does first s t) (over : nat_lt t.room.all ((s.room.all - t.room.all) * (row_len (body.Node n ∷ rest) - 1)) ≡ true) where
+  too_many : t.room.all < prefix_len (is_bare_of number) rest * sum_by all_met done.met
+  too_many =
+      let many : (s.room.all - t.room.all) * (row_len (body.Node n ∷ rest) - 1) ≡ prefix_len (is_bare_of number) rest * sum_by all_met done.met = product (s.room.all - t.room.all) (row_len (body.Node n ∷ rest) - 1) (sum_by all_met done.met) (prefix_len (is_bare_of number) rest) (omega (arith, done.all)) (omega (arith, row_counts number n rest bare)) in
+      subst (λ k. t.room.all < k) many (ltb-true t.room.all ((s.room.all - t.room.all) * (row_len (body.Node n ∷ rest) - 1)) over)
+
+  abbrev Found : Option Prototype → Type 0
+  Found o = slice_get ps number ≡ o → IfSome o IsSized → doing (through add_root (map (statement ps) rest) more) t ≡ too_large
+
+  by_prototype : (o : Option Prototype) → Found o
+  by_prototype None means sized =
+      let is = is_bare ps n number bare in
+      let was : refuse UnknownNode is.line s.walk ≡ record { met = done.met; comes = Ok (first, t.walk) } = ap (λ (d : Does ℕ). d s.walk) (sym (is.does ∙ ap (λ o. full_node is.line is.name [] (option_map OfProto o)) means)) ∙ done.was in
+      no_fault (fault UnknownNode is.line) (first, t.walk) (ap (λ (o : Outcome (ℕ × Walk)). o.comes) was)
+  by_prototype (Some p) means sized =
+      let is = is_bare ps n number bare in
+      let was : MetIn p done.met = record {
+        line = is.line;
+        name = is.name;
+        walk = s.walk;
+        first = (first, t.walk);
+        was = ap (λ (d : Does ℕ). d s.walk) (sym (is.does ∙ ap (λ o. full_node is.line is.name [] (option_map OfProto o)) means)) ∙ done.was;
+      } in
+      flooded ps number p means sized done.met was rest more t too_many
+
+pub row_floods : (ps : List Prototype) (x : BodyTree) (rest : List BodyTree) (roots more : List ℕ) (s t : State) → RootSized ps x → doing (add_root (statement ps x) roots) s ≡ Ok (more, t)
+    → nat_lt t.room.all ((s.room.all - t.room.all) * (row_len (x ∷ rest) - 1)) ≡ true → doing (through add_root (map (statement ps) rest) more) t ≡ too_large
+row_floods ps (body.Route r) rest roots more s t sized is over = no_row t.room.all (s.room.all - t.room.all) over
+row_floods ps (body.Wrong e) rest roots more s t sized is over = no_row t.room.all (s.room.all - t.room.all) over
+row_floods ps (body.Node n) rest roots more s t sized is over = by_number (bare_in n) refl where
+  by_number : (o : Option ℕ) → bare_in n ≡ o → doing (through add_root (map (statement ps) rest) more) t ≡ too_large
+  by_number None bare =
+      no_row t.room.all (s.room.all - t.room.all) (ap (λ o. nat_lt t.room.all ((s.room.all - t.room.all) * (option_map_or (λ k. prefix_len (is_bare_of k) (body.Node n ∷ rest)) o 0 - 1))) (sym bare) ∙ over)
+  by_number (Some number) bare =
+      let done = root_done ps n roots more s t is in
+      by_prototype ps n rest roots more s t number done.0 bare done.1 over (slice_get ps number) refl (subst (λ o. IfSome o (λ k. IfSome (slice_get ps k) IsSized)) bare sized)
+
+-- ---- a look along it
+
+abbrev Fails : Result ℕ ExpandFault → Bool → Type 0
+Fails (Ok count) over = Unit {0}
+Fails (Err e) over = (over ≡ true) × (e ≡ fault TooLarge 0)
+
+looked : (over : Bool) (count : ℕ) → Fails (if over then too_large else Ok count) over
+looked true count = (refl, refl)
+looked false count = tt
+
+pub look_fails : (trees : List BodyTree) (before left : ℕ) (e : ExpandFault) → look_along trees before left ≡ Err e
+    → (nat_lt left ((before - left) * (row_len trees - 1)) ≡ true) × (e ≡ fault TooLarge 0)
+look_fails trees before left e is =
+    subst (λ r. Fails r (nat_lt left ((before - left) * (row_len trees - 1)))) is (looked (nat_lt left ((before - left) * (row_len trees - 1))) (row_len trees))

@@ -1,6 +1,7 @@
 //! Rows of instances that are given nothing.
 
 ghost use Rattle.std.specs.Prelude.{◌≡◌, ◌*◌, nat_lt};
+ghost use Rattle.std.specs.List.{prefix_len};
 ghost use Rattle.proto_expand.specs.Rows as rows;
 ghost use Rattle.proto_expand.specs.Rows.{bare_in, bare_number, instance_number, is_bare_of};
 
@@ -55,20 +56,27 @@ fn is_bare(statement: &BodyTree<'_>, number: usize) -> bool
     }
 }
 
-/// How many statements from the first on are instances of one prototype, and are given nothing.
+/// How many statements from the first on are such instances of that prototype.
+fn count_bare(statements: &[BodyTree<'_>], number: usize) -> usize
+    ensures { result ≡ prefix_len (is_bare_of number) statements.now }
+{
+    statements
+        .iter()
+        .take_while(|statement| is_bare(*statement, number))
+        .count()
+}
+
+/// How many statements from the first on are such instances of one prototype.
 fn row_len(statements: &[BodyTree<'_>]) -> usize
     ensures { result ≡ rows.row_len statements.now }
 {
     let [first, ..] = statements else {
         return 0;
     };
-    let Some(number) = bare_proto(first) else {
-        return 0;
-    };
-    statements
-        .iter()
-        .take_while(|statement| is_bare(*statement, number))
-        .count()
+    match bare_proto(first) {
+        Some(number) => count_bare(statements, number),
+        None => 0,
+    }
 }
 
 /// Whether so many take more room than is left, where each takes so much.
