@@ -1,5 +1,5 @@
 -- Rows of instances that are given nothing: what the first takes, each of the others takes.
-use Rattle.std.proofs.Common.{◌≡◌, mul_comm, ℕ, zero, suc, ◌+◌, ◌-◌, ◌*◌, ◌<◌, Bool, true, false, not, ◌&&◌, if◌then◌else◌, cond, List, [], ◌∷◌, ◌++◌, length, Bor, Option, Some, None, Result, Ok, Err, map, refl, ap, sym, ◌∙◌, subst, arith}
+use Rattle.std.proofs.Common.{◌≡◌, mul_comm, ℕ, suc, ◌+◌, ◌-◌, ◌*◌, ◌<◌, Bool, true, false, not, ◌&&◌, if◌then◌else◌, cond, List, [], ◌∷◌, ◌++◌, length, Option, Some, None, Result, Ok, Err, map, refl, ap, sym, ◌∙◌, subst, arith}
 use Rattle.std.specs.Prelude.{IfSome, nat_eq, nat_lt, option_map, slice_get}
 use Rattle.std.specs.List.{fold, prefix_len, sum_by}
 use Rattle.std.specs.Option.{option_map_or}
@@ -7,7 +7,7 @@ use Rattle.std.proofs.lemmas.Bool.{eq-eqb, eqb-true, ltb-false, ltb-true}
 use Rattle.proto_flat.specs.Fault.{fault}
 use Rattle.proto_flat.specs.declared.fault.ExpandFault.{ExpandFault}
 use Rattle.proto_flat.specs.declared.fault.ExpandFaultKind.TheVariants.{TooLarge, UnknownNode}
-use Rattle.proto_meaning.specs.Limits.{Met, Outcome, all_met, and_then, behind, has_room, instances_met, items_met, nodes_met}
+use Rattle.proto_meaning.specs.Limits.{Met, Outcome, all_met, behind, has_room, instances_met, items_met, nodes_met}
 use Rattle.proto_meaning.specs.Names.{Name}
 use Rattle.proto_meaning.specs.Sight.{OfProto, Prototype, Sight, and_see}
 use Rattle.proto_meaning.specs.Flat as flat
@@ -25,7 +25,7 @@ use Rattle.proto_tree.specs.declared.tree.ItemTree.{ItemTree}
 use Rattle.proto_tree.specs.declared.tree.ItemTree.TheOpen.{NodeTree-F}
 use Rattle.proto_tree.specs.declared.tree.NodeTree.{NodeTree, fold-roll-NodeTree, out-NodeTree, roll-NodeTree, roll-out-NodeTree}
 use Rattle.proto_tree.specs.declared.tree.Word.TheVariants as word
-use Rattle.proto_expand.specs.Rows.{RootSized, bare_in, bare_number, is_bare_of, look_along, number_between, row_len}
+use Rattle.proto_expand.specs.Rows.{RootSized, bare_in, is_bare_of, look_along, number_between, row_len}
 
 -- ---- room
 

@@ -1,15 +1,14 @@
 -- Where no prototype is in sight before a text, those that its statements are instances of are
 -- sized.
-use Rattle.std.proofs.Common.{◌≡◌, ℕ, List, [], ◌∷◌, Bor, Option, Some, None, Result, Ok, Err, refl, ap, sym, ◌∙◌, subst}
+use Rattle.std.proofs.Common.{◌≡◌, ℕ, List, [], ◌∷◌, Bor, Option, Some, None, Ok, Err, refl, ap, sym, ◌∙◌, subst}
 use Rattle.std.specs.Prelude.{IfSome, option_map, slice_get}
-use Rattle.std.specs.List.{AllByRecursion}
 use Rattle.classic_tree.specs.declared.tree.NodeText.{NodeText}
 use Rattle.classic_tree.specs.declared.tree.ProtoText.{ProtoText}
 use Rattle.classic_tree.specs.declared.tree.Statement.{Statement}
 use Rattle.classic_tree.specs.declared.tree.Statement.TheVariants as text_statement
 use Rattle.proto_meaning.specs.Flat as flat
 use Rattle.proto_meaning.specs.Flat.{Stated}
-use Rattle.proto_meaning.specs.Sight.{OfProto, Owner, Prototype, Sight, meant, no_names}
+use Rattle.proto_meaning.specs.Sight.{OfProto, Prototype, Sight, no_names}
 use Rattle.proto_meaning.proofs.Trees.{statement-node, statement-proto}
 use Rattle.proto_sizes.specs.Sizes.{AreSized, IsSized}
 use Rattle.proto_sizes.proofs.SizeWalks.{none_sized}
@@ -23,7 +22,7 @@ use Rattle.proto_tree.specs.declared.tree.BodyTree.{BodyTree}
 use Rattle.proto_tree.specs.declared.tree.BodyTree.TheVariants as body
 use Rattle.proto_tree.specs.declared.tree.ItemTree.{ItemTree}
 use Rattle.proto_tree.specs.declared.tree.ItemTree.TheOpen.{NodeTree-F}
-use Rattle.proto_tree.specs.declared.tree.NodeTree.{NodeTree, out-NodeTree, out-roll-NodeTree}
+use Rattle.proto_tree.specs.declared.tree.NodeTree.{NodeTree, out-roll-NodeTree}
 use Rattle.proto_tree.specs.declared.tree.NodeTree.TheVariants as tree_node
 use Rattle.proto_tree.specs.declared.tree.Word.{Word}
 use Rattle.proto_tree.specs.declared.tree.Word.TheVariants as word

@@ -35,7 +35,7 @@ use Rattle.proto_expand.specs.Tied.{AreTied, Tied, known_of, read_of}
 use Rattle.proto_nodes.specs.Does.{Comes}
 use Rattle.proto_nodes.specs.Frames.{Ends}
 use Rattle.proto_expand.specs.Rows.{RootsSized, look_along, row_len}
-use Rattle.proto_expand.specs.Whole.{all_of, content_by, content_of, content_or, root_does, roots_do, with_content, with_header}
+use Rattle.proto_expand.specs.Whole.{all_of, content_by, content_of, content_or, root_does, roots_do, with_content}
 use Rattle.proto_nodes.proofs.Steps.{did, stopped, same-stop}
 use Rattle.proto_expand.proofs.Floods.{look_fails, row_floods}
 

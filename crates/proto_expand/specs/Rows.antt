@@ -1,5 +1,5 @@
 -- Statements that are instances of one prototype, given nothing, one behind the other.
-use Rattle.std.specs.Prelude.{ℕ, ◌-◌, ◌*◌, Bool, false, nat_eq, nat_lt, if◌then◌else◌, List, [], ◌∷◌, Option, Some, None, IfSome, Result, Ok, Err, slice_get}
+use Rattle.std.specs.Prelude.{ℕ, ◌-◌, ◌*◌, Bool, false, nat_eq, nat_lt, if◌then◌else◌, List, [], ◌∷◌, Option, Some, None, IfSome, Result, Ok, slice_get}
 use Rattle.std.specs.List.{AllByRecursion, prefix_len}
 use Rattle.std.specs.Option.{option_map_or}
 use Rattle.proto_flat.specs.declared.fault.ExpandFault.{ExpandFault}

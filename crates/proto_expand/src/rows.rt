@@ -89,11 +89,7 @@ fn is_too_much(each: u32, count: usize, left: u32) -> bool
 /// How many of the statements stand in a row, where so much room was left before the first of them
 /// was put in, and so much is left behind it; or TooLarge, where the others of the row can't be put
 /// in.
-pub fn look_along(
-    statements: &[BodyTree<'_>],
-    before: u32,
-    left: u32,
-) -> Result<usize, ExpandFault>
+pub fn look_along(statements: &[BodyTree<'_>], before: u32, left: u32) -> Result<usize, ExpandFault>
     ensures { result ≡ rows.look_along statements.now before left }
 {
     let count = row_len(statements);

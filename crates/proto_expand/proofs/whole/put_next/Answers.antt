@@ -1,4 +1,4 @@
-use Rattle.std.proofs.Common.{◌≡◌, ◌∷◌, Err, drop, rules, subst, sym}
+use Rattle.std.proofs.Common.{◌≡◌, Err, drop, rules, subst, sym}
 use Rattle.proto_walker.specs.Shown.{shown}
 use Rattle.proto_expand.specs.Whole.{RootsGo}
 use Rattle.proto_expand.proofs.Together.{first-of, roots-flooded, roots-next, roots-stop}
