@@ -14,18 +14,18 @@ use Rattle.proto_tree.specs.declared.tree.NodeTree.{NodeTree, out-NodeTree}
 use Rattle.proto_tree.specs.declared.tree.Word.{Word}
 use Rattle.proto_tree.specs.declared.tree.Word.TheVariants as word
 
--- of which prototype, by its number
+-- of which prototype it is an instance, by its number
 abbrev pub instance_number : Word → Option ℕ
 instance_number word.Unknown = None
 instance_number (word.Node t) = None
 instance_number (word.Instance number) = Some number
 
+-- the same, where nothing stands between the braces
 abbrev pub number_between : NodeTree-F ItemTree NodeTree → Option ℕ
 number_between (NodeTree-F.Use line name) = None
 number_between (NodeTree-F.Full line name w []) = instance_number w
 number_between (NodeTree-F.Full line name w (item ∷ items)) = None
 
--- the same of braces with nothing between them
 abbrev pub bare_in : NodeTree → Option ℕ
 bare_in n = number_between (out-NodeTree n)
 

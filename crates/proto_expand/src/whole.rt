@@ -142,8 +142,9 @@ fn put_statement<'t, 'a>(
     }
 }
 
-/// Puts the first statement in, and gives how many behind it were looked at, where so many were
-/// from it on. Where none was it looks along the row that begins there.
+/// Puts the first statement in. So many of the statements were looked at before, this one among
+/// them; where none was, it looks along the row that begins here. Gives how many of the others were
+/// looked at.
 fn put_next<'t, 'a>(
     alloc: Global,
     machine: &mut WalkState<'t, 'a>,
