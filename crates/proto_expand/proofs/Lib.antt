@@ -1,2 +1,4 @@
 mod Together
+mod Floods
+mod Sized
 mod Resolved

@@ -1,7 +1,7 @@
 -- A whole text: statements in turn, and what is left when all is put in.
-use Rattle.std.proofs.Common.{suc, ◌≡◌, ℕ, ◌+◌, ◌<◌, get_or, add-one, drop-cons, Bool, true, false, if◌then◌else◌, List, [], ◌∷◌, ◌++◌, Bor, map, drop, Option, Some, None, Result, Ok, Err, refl, ap, sym, subst, ◌∙◌, inl, inr}
+use Rattle.std.proofs.Common.{zero, suc, arith, ◌≡◌, ℕ, ◌+◌, ◌-◌, ◌*◌, ◌<◌, ◌≤◌, get_or, add-one, drop-cons, Bool, true, false, if◌then◌else◌, List, [], ◌∷◌, ◌++◌, Bor, map, drop, take, Option, Some, None, Result, Ok, Err, refl, ap, sym, subst, ◌∙◌, inl, inr}
 use Rattle.std.specs.Prelude.{◌⊎◌, nat_lt, length, option_map, slice_get, IfOk}
-use Rattle.std.proofs.lemmas.List.{append-nil}
+use Rattle.std.proofs.lemmas.List.{append-nil, drop-drop, take_rest}
 use Rattle.std.proofs.lemmas.Option.{slice_get-map}
 use Rattle.classic_tree.specs.declared.tree.ProtoText.{out-ProtoText}
 use Rattle.classic_tree.specs.declared.tree.RouteText.{RouteText}
@@ -34,8 +34,10 @@ use Rattle.proto_nodes.specs.Protos.{AreKnown, Knows}
 use Rattle.proto_expand.specs.Tied.{AreTied, Tied, known_of, read_of}
 use Rattle.proto_nodes.specs.Does.{Comes}
 use Rattle.proto_nodes.specs.Frames.{Ends}
-use Rattle.proto_expand.specs.Whole.{all_of, content_by, content_of, content_or, root_does, roots_do, with_content, with_header}
+use Rattle.proto_expand.specs.Rows.{RootsSized, look_along, row_len}
+use Rattle.proto_expand.specs.Whole.{all_of, content_by, content_of, content_or, root_does, roots_do, with_content}
 use Rattle.proto_nodes.proofs.Steps.{did, stopped, same-stop}
+use Rattle.proto_expand.proofs.Floods.{look_fails, row_floods}
 
 -- ---- the prototypes
 
@@ -93,6 +95,32 @@ roots-next ps all x rest roots more s t is done =
 pub roots-stop : (ps : List Prototype) (all : List BodyTree) (x : BodyTree) (rest : List BodyTree) (roots : List ℕ) (s : State) (e : ExpandFault) → all ≡ x ∷ rest → (e ≡ memory) ⊎ (doing (root_does ps x roots) s ≡ Err e) → (e ≡ memory) ⊎ (doing (roots_do ps all roots) s ≡ Err e)
 roots-stop ps all x rest roots s e is k =
     same-stop (doing (roots_do ps all roots) s) (doing (roots_do ps (x ∷ rest) roots) s) e (ap (λ xs. doing (roots_do ps xs roots) s) is) (stopped (root_does ps x roots) (roots_do ps rest) s e k)
+
+-- so many stand in a row that they can't be put in
+pub roots-flooded : (ps : List Prototype) (all : List BodyTree) (x : BodyTree) (rest : List BodyTree) (roots more : List ℕ) (s t : State) (e : ExpandFault) → all ≡ x ∷ rest → RootsSized ps all → doing (root_does ps x roots) s ≡ Ok (more, t)
+    → look_along all s.room.all t.room.all ≡ Err e → (e ≡ memory) ⊎ (doing (roots_do ps all roots) s ≡ Err e)
+roots-flooded ps all x rest roots more s t e is sized done looked =
+    let fails = look_fails all s.room.all t.room.all e looked in
+    let first : RootsSized ps (x ∷ rest) = subst (λ xs. RootsSized ps xs) is sized in
+    let over : nat_lt t.room.all ((s.room.all - t.room.all) * (row_len (x ∷ rest) - 1)) ≡ true = subst (λ xs. nat_lt t.room.all ((s.room.all - t.room.all) * (row_len xs - 1)) ≡ true) is fails.0 in
+    inr (roots-next ps all x rest roots more s t is done ∙ row_floods ps x rest roots more s t first.0 done over ∙ ap (λ (f : ExpandFault). Err f) (sym fails.1))
+
+pub first-of : {A : Type 0} (xs : List A) (x : A) → 1 ≤ length xs → x ≡ get_or xs 0 x → xs ≡ x ∷ drop 1 xs
+first-of [] x h is = absurd (omega (arith, h))
+first-of (y ∷ xs) x h is = ap (λ z. z ∷ xs) (sym is)
+
+pub sized-left : (ps : List Prototype) (xs : List BodyTree) (i : ℕ) → RootsSized ps xs → RootsSized ps (drop i xs)
+sized-left ps xs zero h = h
+sized-left ps [] (suc i) h = tt
+sized-left ps (x ∷ xs) (suc i) h = sized-left ps xs i h.1
+
+-- those from one on, as a slice
+pub next-root : (ps : List Prototype) (xs : List BodyTree) (i : ℕ) (roots more : List ℕ) (s t : State) → RootsSized ps xs
+    → (RootsSized ps (take (length xs - i) (drop i xs)) → doing (roots_do ps (take (length xs - i) (drop i xs)) roots) s ≡ doing (roots_do ps (drop 1 (take (length xs - i) (drop i xs))) more) t)
+    → doing (roots_do ps (drop i xs) roots) s ≡ doing (roots_do ps (drop (i + 1) xs) more) t
+next-root ps xs i roots more s t sized h =
+    subst (λ ys. RootsSized ps ys → doing (roots_do ps ys roots) s ≡ doing (roots_do ps (drop 1 ys) more) t) (take_rest xs i) h (sized-left ps xs i sized)
+    ∙ ap (λ ys. doing (roots_do ps ys more) t) (drop-drop 1 i xs)
 
 -- ---- all that was put in
 

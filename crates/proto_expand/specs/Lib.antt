@@ -1,2 +1,3 @@
 pub mod Tied
+pub mod Rows
 pub mod Whole

@@ -1,5 +1,5 @@
 -- A whole text.
-use Rattle.std.specs.Prelude.{ℕ, List, ◌++◌, map, Result, Ok, Err}
+use Rattle.std.specs.Prelude.{◌≡◌, ◌⊎◌, ℕ, List, ◌++◌, drop, map, Result, Ok, Err}
 use Rattle.std.specs.declared.alloc.AllocError.{AllocError}
 use Rattle.proto_flat.specs.Fault.{memory}
 use Rattle.proto_flat.specs.declared.fault.ExpandFault.{ExpandFault}
@@ -8,6 +8,7 @@ use Rattle.proto_flat.specs.declared.flat.FlatRoute.{FlatRoute}
 use Rattle.proto_flat.specs.declared.flat.Header.{Header}
 use Rattle.proto_meaning.specs.Flat.{Does, ◌>>=◌, pure, through, Stated}
 use Rattle.proto_meaning.specs.Sight.{Prototype, Put, and_see}
+use Rattle.proto_limits.specs.Settled.{State, doing}
 use Rattle.proto_routes.specs.Ends.{few}
 use Rattle.proto_tree.specs.Meaning.{statement}
 use Rattle.proto_tree.specs.declared.tree.BodyTree.{BodyTree}
@@ -23,6 +24,14 @@ root_does ps s roots = root_by (statement ps s) roots
 
 abbrev pub roots_do : List Prototype → List BodyTree → List ℕ → Does (List ℕ)
 roots_do ps statements = through root_by (map (statement ps) statements)
+
+-- the first of these was put in: what is left comes to the same, memory aside; or all are too many
+abbrev pub RootsGo : List Prototype → List BodyTree → List ℕ → State → Result ℕ ExpandFault
+    → List ℕ → State → Type 0
+RootsGo ps statements roots s (Ok looked) more t =
+    doing (roots_do ps statements roots) s ≡ doing (roots_do ps (drop 1 statements) more) t
+RootsGo ps statements roots s (Err e) more t =
+    (e ≡ memory) ⊎ (doing (roots_do ps statements roots) s ≡ Err e)
 
 -- the roots, the routes if they are few, and what was put in
 abbrev pub all_of : Comes (List ℕ) → Result (List ℕ × List FlatRoute × Put) ExpandFault

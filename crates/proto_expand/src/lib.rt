@@ -3,6 +3,7 @@
 #![tactic(auto)]
 
 mod document;
+mod rows;
 mod whole;
 
 pub use document::expand;

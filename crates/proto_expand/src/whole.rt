@@ -15,8 +15,10 @@ ghost use Rattle.proto_walker.specs.Shown as shown;
 ghost use Rattle.proto_nodes.specs.Protos.{Knows};
 ghost use Rattle.proto_nodes.specs.Frames.{Ends, MachineSound};
 ghost use Rattle.proto_expand.specs.Tied.{Tied, known_of, read_of};
-ghost use Rattle.proto_expand.specs.Whole.{all_of, content_by, content_of, content_or, root_does, roots_do, with_content};
+ghost use Rattle.proto_expand.specs.Rows.{RootsSized};
+ghost use Rattle.proto_expand.specs.Whole.{RootsGo, all_of, content_by, content_of, content_or, root_does, roots_do, with_content};
 
+use crate::rows::look_along;
 use classic_tree::RouteText;
 use proto_flat::{ExpandFault, FlatNode, FlatRoute};
 use proto_interface::Interface;
@@ -140,6 +142,37 @@ fn put_statement<'t, 'a>(
     }
 }
 
+/// Puts the first statement in. So many of the statements were looked at before, this one among
+/// them; where none was, it looks along the row that begins here. Gives how many of the others were
+/// looked at.
+fn put_next<'t, 'a>(
+    alloc: Global,
+    machine: &mut WalkState<'t, 'a>,
+    statements: &'t [BodyTree<'a>],
+    looked: usize,
+    roots: &mut Items<u32>,
+) -> Result<usize, ExpandFault>
+    requires machine { MachineSound machine.old }
+    requires idle { machine.old.frames.items ≡ [] }
+    ensures goes { (ps : List Prototype) → Knows ps machine.old.protos.now
+        → RootsSized ps statements.now → RootsGo ps statements.now roots.old
+        (shown.shown machine.old.walker) result roots.new (shown.shown machine.new.walker) }
+    ensures machine { IfOk result (λ _. MachineSound machine.new) }
+    ensures frames { IfOk result (λ _. machine.new.frames.items ≡ []) }
+    ensures protos { machine.new.protos ≡ machine.old.protos }
+{
+    let [first, ..] = statements else {
+        return Ok(0);
+    };
+    let before = machine.walker.room.all;
+    put_statement(alloc, machine, first, roots)?;
+    if looked > 0 {
+        return Ok(looked - 1);
+    }
+    let count = look_along(statements, before, machine.walker.room.all)?;
+    Ok(count.saturating_sub(1))
+}
+
 /// Puts all in, and gives the numbers of the nodes that are statements.
 fn put_roots<'t, 'a>(
     alloc: Global,
@@ -148,13 +181,15 @@ fn put_roots<'t, 'a>(
 ) -> Result<Items<u32>, ExpandFault>
     requires machine { MachineSound machine.old }
     requires idle { machine.old.frames.items ≡ [] }
-    ensures { (ps : List Prototype) → Knows ps machine.old.protos.now → Ends (λ rs. rs)
+    ensures { (ps : List Prototype) → Knows ps machine.old.protos.now
+        → RootsSized ps statements.now → Ends (λ rs. rs)
         (doing (roots_do ps statements.now []) (shown.shown machine.old.walker)) result
         (shown.shown machine.new.walker) }
 {
     let mut roots = Items::new(alloc);
-    for statement in statements {
-        put_statement(alloc, machine, statement, &mut roots)?;
+    let mut looked = 0;
+    for index in 0..statements.len() {
+        looked = put_next(alloc, machine, &statements[index..], looked, &mut roots)?;
     }
     Ok(roots)
 }
@@ -179,6 +214,7 @@ fn put_all<'t, 'a>(
     requires machine { MachineSound machine.old }
     requires idle { machine.old.frames.items ≡ [] }
     ensures { (ps : List Prototype) → Knows ps machine.old.protos.now
+        → RootsSized ps statements.now
         → Gives memory (λ m. (m.roots, m.routes, put.shown machine.new.walker.put)) result
         (all_of (doing (roots_do ps statements.now []) (shown.shown machine.old.walker))) }
 {
@@ -234,7 +270,8 @@ fn put_text<'t, 'a>(
     protos: &'t [Proto<'t, 'a>],
     statements: &'t [BodyTree<'a>],
 ) -> Result<Content, ExpandFault>
-    ensures { (ps : List Prototype) → Knows ps protos.now → Gives memory (λ c. c) result
+    ensures { (ps : List Prototype) → Knows ps protos.now → RootsSized ps statements.now
+        → Gives memory (λ c. c) result
         (content_by (all_of (doing (roots_do ps statements.now []) shown.before))) }
 {
     let walker = Walker::new(alloc);
@@ -262,7 +299,7 @@ pub fn walk<'t, 'a>(
     statements: &'t [BodyTree<'a>],
 ) -> Result<Content, ExpandFault>
     ensures { (ps : List Prototype) (header : Header) → Knows ps protos.now
-        → Gives memory (with_content header) result
+        → RootsSized ps statements.now → Gives memory (with_content header) result
         (limited (stand_together ps header statements.now)) }
 {
     put_text(alloc, protos, statements)

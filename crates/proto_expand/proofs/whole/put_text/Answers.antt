@@ -13,11 +13,11 @@ put_all-made-requires-clause-machine c =
 
 pub returns-in-Ok : goal.returns-in-Ok
 returns-in-Ok c =
-    λ ps k. gathered (all_of (doing (roots_do ps c.args.statements.now []) before)) c.gather.result c.or_memory.result c.in-Ok.made.roots c.in-Ok.made.routes (put.shown c.put_in-put.result) c.or_memory.ensures c.gather.ensures
-    (ap (λ s. all_of (doing (roots_do ps c.args.statements.now []) s)) (sym c.new-walker.ensures.shown) ∙ c.in-Ok.ensures ps k ∙ ap (λ p. Ok (c.in-Ok.made.roots, c.in-Ok.made.routes, put.shown p)) (sym c.put_in-put.ensures))
+    λ ps k sized. gathered (all_of (doing (roots_do ps c.args.statements.now []) before)) c.gather.result c.or_memory.result c.in-Ok.made.roots c.in-Ok.made.routes (put.shown c.put_in-put.result) c.or_memory.ensures c.gather.ensures
+    (ap (λ s. all_of (doing (roots_do ps c.args.statements.now []) s)) (sym c.new-walker.ensures.shown) ∙ c.in-Ok.ensures ps k sized ∙ ap (λ p. Ok (c.in-Ok.made.roots, c.in-Ok.made.routes, put.shown p)) (sym c.put_in-put.ensures))
 
 pub returns-in-Err : goal.returns-in-Err
 returns-in-Err c =
-    λ ps k. content-fails (all_of (doing (roots_do ps c.args.statements.now []) before)) c.in-Err.fault
+    λ ps k sized. content-fails (all_of (doing (roots_do ps c.args.statements.now []) before)) c.in-Err.fault
     (same-parts (all_of (doing (roots_do ps c.args.statements.now []) before)) (all_of (doing (roots_do ps c.args.statements.now []) (shown c.new-walker.result))) c.in-Err.fault
-    (ap (λ s. all_of (doing (roots_do ps c.args.statements.now []) s)) (sym c.new-walker.ensures.shown)) (c.in-Err.ensures ps k))
+    (ap (λ s. all_of (doing (roots_do ps c.args.statements.now []) s)) (sym c.new-walker.ensures.shown)) (c.in-Err.ensures ps k sized))
