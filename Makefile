@@ -132,10 +132,11 @@ refusals:
 check: definitions
 	@$(RT) all check
 
-# Whether docs/DEFINITIONS.md lists every file that a definition to believe uses, the test of the
-# stored snapshots has their bytes, and scripts/rt has the sums that the kit's rt has.
+# Whether docs/DEFINITIONS.md lists every file that a definition to believe uses, imports name what is
+# there, the test of the stored snapshots has their bytes, and scripts/rt has the sums of the kit's rt.
 definitions:
 	@scripts/definitions
+	@scripts/imports
 	@scripts/pages
 	@scripts/calls
 	@scripts/snapshots
