@@ -112,8 +112,8 @@ module _ (line : ℕ) (name : Name) (g : Given NodeText) (h : OfGiven OfNode g) 
   field_ok : ItemOk of_field
   field_ok k t all rest b r x now i a =
       subst (λ (m : ItemReads). Right t all rest (m t b) r) (sym (texts.read-field line name g))
-      (field_right (subst (λ (p : parts_of.Item). AreSound p.inside) (parts.part_field line name g) k) t all rest b r x now.before now.state
-      (first_entry of_field (Gives name ∷ []) (ap (λ (p : parts_of.Item). p.entries) (parts.part_field line name g)) t all now.before rest now.once) i (subst AllNamed (read-field steps line name g x) a))
+      (field_right (subst (λ (p : parts_of.BraceItem). AreSound p.inside) (parts.part_field line name g) k) t all rest b r x now.before now.state
+      (first_entry of_field (Gives name ∷ []) (ap (λ (p : parts_of.BraceItem). p.entries) (parts.part_field line name g)) t all now.before rest now.once) i (subst AllNamed (read-field steps line name g x) a))
 
 module _ (d : Declaration NodeText) (h : OfGiven OfNode d.given) where
   abbrev of_declaration : BodyItem
@@ -144,8 +144,8 @@ module _ (d : Declaration NodeText) (h : OfGiven OfNode d.given) where
   declaration_ok : ItemOk of_declaration
   declaration_ok k t all rest b r x now i a =
       subst (λ (m : ItemReads). Right t all rest (m t b) r) (sym (texts.read-declaration d))
-      (declaration_right (subst (λ (p : parts_of.Item). AreSound p.inside) (parts.part_declaration d) k) t all rest b r x now.before now.state
-      (first_entry of_declaration (Declares (signature d) ∷ []) (ap (λ (p : parts_of.Item). p.entries) (parts.part_declaration d)) t all now.before rest now.once) i (subst AllNamed (read-declaration steps d x) a))
+      (declaration_right (subst (λ (p : parts_of.BraceItem). AreSound p.inside) (parts.part_declaration d) k) t all rest b r x now.before now.state
+      (first_entry of_declaration (Declares (signature d) ∷ []) (ap (λ (p : parts_of.BraceItem). p.entries) (parts.part_declaration d)) t all now.before rest now.once) i (subst AllNamed (read-declaration steps d x) a))
 
 route_item_ok : (route : RouteText) → ItemOk (item_text.Route route)
 unfolding item_step
@@ -155,12 +155,12 @@ route_item_ok route k t all rest b r x now i a =
       record {
         before = now.before;
         state = now.state;
-        once = first_entry (item_text.Route route) [] (ap (λ (p : parts_of.Item). p.entries) (parts.part_route route)) t all now.before rest now.once;
+        once = first_entry (item_text.Route route) [] (ap (λ (p : parts_of.BraceItem). p.entries) (parts.part_route route)) t all now.before rest now.once;
       },
     )
 
 proto_item_ok : (p : ProtoText) → ItemOk (item_text.Proto p)
-proto_item_ok p k t all rest b r x now i a = absurd (subst (λ (q : parts_of.Item). AreSound q.inside) (parts.part_proto p) k).0
+proto_item_ok p k t all rest b r x now i a = absurd (subst (λ (q : parts_of.BraceItem). AreSound q.inside) (parts.part_proto p) k).0
 
 -- ---- nodes
 
