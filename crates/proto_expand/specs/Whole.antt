@@ -25,8 +25,7 @@ root_does ps s roots = root_by (statement ps s) roots
 abbrev pub roots_do : List Prototype → List BodyTree → List ℕ → Does (List ℕ)
 roots_do ps statements = through root_by (map (statement ps) statements)
 
--- the first of these was put in, and what is left comes to the same; or all come to that fault,
--- memory aside
+-- the first of these was put in: what is left comes to the same, memory aside; or all are too many
 abbrev pub RootsGo : List Prototype → List BodyTree → List ℕ → State → Result ℕ ExpandFault
     → List ℕ → State → Type 0
 RootsGo ps statements roots s (Ok looked) more t =
