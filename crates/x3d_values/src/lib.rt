@@ -3,13 +3,11 @@
 //!
 //! Of the table: `field_type` and `node_type` are the types with what may be done with them,
 //! `names` their words, `rows` the table itself, `default` what stands where a scene gives nothing,
-//! `table` fields by name and number, `aliases` fields as routes name them, `laws` what holds of
-//! all rows. Of values: `vector` and `value` are the values, `show` their texts, `pieces` rows of
+//! `table` fields by name and number, `laws` what holds of all rows. Of values: `vector` and `value` are the values, `show` their texts, `pieces` rows of
 //! texts, `fields` what a node keeps, `script` what a scene asks of scripts. Of inputs: `ranges`
 //! has the limits, `pointing` rays and pointers, `stamped` the numbered input.
 #![tactic(auto)]
 
-mod aliases;
 mod default;
 mod field_type;
 mod fields;
@@ -27,7 +25,6 @@ mod table;
 mod value;
 mod vector;
 
-pub use aliases::{source_field, target_field};
 pub use default::{FieldDefault, default_value};
 pub use field_type::{Access, FieldType};
 pub use fields::{Fields, Position};
