@@ -5,7 +5,7 @@ import copy
 import re
 from fractions import Fraction
 
-MOST_INPUTS, MOST_WAITING, WINDOW, MOST_OFFERS = 2**20, 64, 64, 2**32 - 1
+MOST_INPUTS, MOST_WAITING, WINDOW, MOST_ASKED, MOST_OFFERS = 2**20, 64, 64, 64, 2**32 - 1
 MOST_TIME, MOST_COORDINATE = 10**18, 10**15
 
 
@@ -103,7 +103,7 @@ class Host:
         if kind == "offer":
             return self.offer_comes(*rest)
         count = len(self.inputs) + 1 - rest[1] if kind == "ask" else 0
-        return f"Asked {rest[1]} {min(count, WINDOW)}" if count > 0 else "NothingToDo"
+        return f"Asked {rest[1]} {min(count, MOST_ASKED)}" if count > 0 else "NothingToDo"
 
     def offer_comes(self, who, boot, number, line):
         kept, count = self.kept[who]
