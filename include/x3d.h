@@ -46,7 +46,7 @@ enum x3d_status {
   X3D_KIND_DIFFERS = 27,   /* the script is of another kind */
   X3D_SHORT = 30,          /* a snapshot: fewer than 85 bytes */
   X3D_BAD_MAGIC = 31,      /* it is none */
-  X3D_BAD_VERSION = 32,    /* its version is not 1; that of a datagram too */
+  X3D_BAD_VERSION = 32,    /* its version is not 1 or 2; that of a datagram is not 1 */
   X3D_WRONG_SCENE = 33,    /* it is of another scene; so may a datagram be */
   X3D_BAD_DIGEST = 34,     /* it was altered */
   X3D_NOT_CANONICAL = 35,  /* it is of no world of the scene */
