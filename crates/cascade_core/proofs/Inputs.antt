@@ -13,6 +13,7 @@ use Rattle.cascade_core.specs.Apply.{after_input, apply, begin, begun, happen}
 use Rattle.cascade_core.specs.Course.{Course, Wiring, Scripted, course, ended, wiring_at, wiring_of}
 use Rattle.cascade_core.specs.Scripts.{kinds_in, running, states_of}
 use Rattle.cascade_core.specs.Settles.{settle}
+use Rattle.cascade_core.specs.Resting.{HasSameScripts}
 use Rattle.cascade_core.specs.Sound.{HasScriptsOf, IsFixed}
 use Rattle.cascade_core.specs.declared.fixed.RoutedScene.{RoutedScene}
 use Rattle.cascade_trace.specs.declared.trace.TraceLine.{TraceLine}
@@ -21,7 +22,7 @@ use Rattle.cascade_core.proofs.Gained.{gain-input}
 use Rattle.cascade_core.proofs.Gains.{IsGain}
 use Rattle.cascade_core.proofs.Keeping.{happen-of}
 use Rattle.cascade_core.proofs.SettleLemmas.{settles_all}
-use Rattle.cascade_core.proofs.SoundLemmas.{cast-counted, cast_stands}
+use Rattle.cascade_core.proofs.SoundLemmas.{cast-counted}
 
 -- no script was settled before what happened is over
 pub happen-fresh : (scene : SceneView) (wiring : Wiring) (now : ℤ) (c : Course) (cause : Cause) → c.settling.settled ≡ [] → (happen scene wiring now c cause).settling.settled ≡ []
@@ -67,14 +68,11 @@ gained-by scene wiring start c e input none same is =
     (subst (λ (t : List TraceLine). IsGain t (after_input scene wiring c input).live) same (gain-input scene wiring c input none))
 
 -- a course that has begun has the scripts that it had
-pub begun-kinds : (old new : Course) (live : Live) → new ≡ course live old.scripts → kinds_of new.scripts ≡ kinds_of old.scripts
-begun-kinds old new live is = ap (λ (d : Course). kinds_of d.scripts) is
-
-pub begun-count : (wiring : Wiring) (old new : Course) (live : Live) → new ≡ course live old.scripts → HasScriptsOf wiring old → new.settling.count ≡ old.settling.count
-begun-count wiring old new live is cast = ap (λ (d : Course). d.settling.count) is ∙ sym (cast-counted wiring old cast)
-
-pub begun-cast : (wiring : Wiring) (old new : Course) (live : Live) → new ≡ course live old.scripts → HasScriptsOf wiring old → HasScriptsOf wiring new
-begun-cast wiring old new live is cast = cast_stands wiring old new (begun-kinds old new live is) (begun-count wiring old new live is cast) cast
+pub begun-scripts : (wiring : Wiring) (old new : Course) (live : Live) → new ≡ course live old.scripts → HasScriptsOf wiring old → HasSameScripts old new
+begun-scripts wiring old new live is cast = record {
+  kinds = ap (λ (d : Course). kinds_of d.scripts) is;
+  count = ap (λ (d : Course). d.settling.count) is ∙ sym (cast-counted wiring old cast);
+}
 
 -- an input that has begun, has happened and after which scripts have settled is the definition's
 pub input-done : (g : RoutedScene) (old b d e : Course) (input : StampedView) → IsFixed g → b ≡ course (begin old.live.world input) old.scripts →

@@ -18,7 +18,7 @@ use Rattle.cascade_core.specs.Apply.{SendingView, Started, opening, sent_by_all,
 use Rattle.cascade_core.specs.Cascade.{send_replies}
 use Rattle.cascade_core.specs.Course.{Course, Wiring, Scripted, course, ended, node_of, wiring_at, wiring_of, ports_of}
 use Rattle.cascade_core.specs.Outputs.{is_scene_output}
-use Rattle.cascade_core.specs.Scripts.{are_begun, kinds_in, scripts_in}
+use Rattle.cascade_core.specs.Scripts.{are_begun, scripts_in}
 use Rattle.cascade_core.specs.Settles.{settle}
 use Rattle.cascade_core.specs.Sound.{HasScriptsOf, IsFixed, IsSound, are_outputs, are_sent}
 use Rattle.cascade_core.specs.Stack.{IsReady}
@@ -170,10 +170,14 @@ opened-fixed g fixed = ap (λ (wiring : Wiring). opened-from g.scene wiring (scr
 abbrev starts : Live → List SlotView → DueScriptsView → Course
 starts live rs settling = record { live = live; scripts = rs; settling = settling }
 
+-- a world in which nothing has happened, and nothing has sent
+pub live_untold : (live : Live) (scene : SceneView) → live.world ≡ untold scene → live.sent ≡ [] → live ≡ record { world = untold scene; sent = [] }
+live_untold live scene world unsent = ap (λ w. record { world = w; sent = live.sent }) world ∙ ap (λ s. record { world = untold scene; sent = s }) unsent
+
 starts-same : (live : Live) (scene : SceneView) (rs given : List SlotView) (settling : DueScriptsView) (many : ℕ) → live.world ≡ untold scene → live.sent ≡ [] → rs ≡ given →
     settling ≡ unsettled many → many ≡ length given → starts live rs settling ≡ course (record { world = untold scene; sent = [] }) given
 starts-same live scene rs given settling many world unsent e is counted =
-    let same : live ≡ record { world = untold scene; sent = [] } = ap (λ w. record { world = w; sent = live.sent }) world ∙ ap (λ s. record { world = untold scene; sent = s }) unsent in
+    let same : live ≡ record { world = untold scene; sent = [] } = live_untold live scene world unsent in
     let all : settling ≡ unsettled (length given) = is ∙ ap unsettled counted in
     ap (λ (t : Live). starts t rs settling) same
     ∙ ap (λ (xs : List SlotView). starts (record { world = untold scene; sent = [] }) xs settling) e
@@ -229,14 +233,6 @@ started_more wiring whole rs after sendings more one k n below scripts sent push
     pair : List SlotView → List SendingView → Started
     pair xs ys = record { scripts = xs; sendings = ys }
 
--- behind input 0
-pub cast_opened : (wiring : Wiring) (scene : SceneView) (given : List SlotView) (c : Course) → IsSound wiring (kinds_of given) → given ≡ scripts_in scene →
-    kinds_of c.scripts ≡ kinds_in scene → c.settling.count ≡ length c.scripts → HasScriptsOf wiring c
-cast_opened wiring scene given c sound same kinds count = record {
-  sound = subst (λ (ks : List Kind). IsSound wiring ks) (ap kinds_of same ∙ sym kinds) sound;
-  counted = count ∙ sym (length-map c.scripts (λ (r : SlotView). r.kind));
-}
-
 -- scripts that were all initialized are of the kinds that they were of, and as many
 pub opening-cast : (wiring : Wiring) (given rs : List SlotView) (live : Live) (settling : DueScriptsView) (many : ℕ) → IsSound wiring (kinds_of given) →
     kinds_of rs ≡ kinds_of given → settling ≡ unsettled many → many ≡ length given → HasScriptsOf wiring (record { live = live; scripts = rs; settling = settling })
@@ -244,8 +240,3 @@ opening-cast wiring given rs live settling many sound kinds is counted = record 
   sound = subst (λ (ks : List Kind). IsSound wiring ks) (sym kinds) sound;
   counted = ap (λ (s : DueScriptsView). s.count) is ∙ counted ∙ sym (length-map given (λ (r : SlotView). r.kind)) ∙ ap length (sym kinds);
 }
-
-pub opening-count : (given after : List SlotView) (settling : DueScriptsView) (many count : ℕ) → count ≡ settling.count → settling ≡ unsettled many →
-    many ≡ length given → kinds_of after ≡ kinds_of given → count ≡ length after
-opening-count given after settling many count same is counted kinds =
-    same ∙ ap (λ (s : DueScriptsView). s.count) is ∙ counted ∙ lengths given after (sym kinds)

@@ -4,10 +4,8 @@
 ghost use Rattle.std.specs.Prelude.{◌≡◌, ◌*◌, ◌-◌, ◌≤◌, [], OnOk, true};
 ghost use Rattle.std.specs.List.{fold, range_with_len};
 ghost use Rattle.scene_core.specs.Scene.{types_of};
-ghost use Rattle.pick_core.specs.Sites.{rows_of};
-ghost use Rattle.script_running.specs.Acting.{kinds_of};
 ghost use Rattle.cascade_core.specs.Course.{wiring_at, seen};
-ghost use Rattle.cascade_core.specs.Sound.{HasScriptsOf};
+ghost use Rattle.cascade_core.specs.Resting.{HasSameScripts, IsAtRest};
 ghost use Rattle.cascade_world.specs.Nodes.{clocks_of, is_clock};
 ghost use Rattle.cascade_core.specs.Apply.{tick_node as tick_node_of};
 ghost use Rattle.cascade_core.specs.Walks.{over_block, where_passes};
@@ -33,19 +31,14 @@ fn tick_node<B: Behaviour>(
     node: u32,
     input: &Stamped,
 ) -> Result<(), AllocError>
-    requires empty { tasks.old.items ≡ [] }
-    requires none { replies.old.items ≡ [] }
-    requires boxes { boxes.old ≡ rows_of fixed.now.scene course.old.live.world.fields }
-    requires cast { HasScriptsOf (wiring_at fixed.now) (seen course.old) }
+    requires rest { IsAtRest fixed.now tasks.old.items replies.old.items boxes.old
+        (seen course.old) }
     requires clock { is_clock (types_of fixed.now.scene) node ≡ true }
     ensures course { OnOk result (seen course.new
         ≡ tick_node_of (wiring_at fixed.now) input.now.time (seen course.old) node) }
-    ensures empty { OnOk result (tasks.new.items ≡ []) }
-    ensures none { OnOk result (replies.new.items ≡ []) }
-    ensures boxes { OnOk result
-        (boxes.new ≡ rows_of fixed.now.scene course.new.live.world.fields) }
-    ensures kinds { kinds_of course.new.scripts ≡ kinds_of course.old.scripts }
-    ensures count { course.new.settling.count ≡ course.old.settling.count }
+    ensures rest { OnOk result
+        (IsAtRest fixed.now tasks.new.items replies.new.items boxes.new (seen course.new)) }
+    ensures scripts { HasSameScripts (seen course.old) (seen course.new) }
 {
     course.live.world.tick(node, input, replies);
     send_replies(fixed, tasks, course, replies, boxes, node)
@@ -61,19 +54,14 @@ fn tick_any<B: Behaviour>(
     node: u32,
     input: &Stamped,
 ) -> Result<(), AllocError>
-    requires empty { tasks.old.items ≡ [] }
-    requires none { replies.old.items ≡ [] }
-    requires boxes { boxes.old ≡ rows_of fixed.now.scene course.old.live.world.fields }
-    requires cast { HasScriptsOf (wiring_at fixed.now) (seen course.old) }
+    requires rest { IsAtRest fixed.now tasks.old.items replies.old.items boxes.old
+        (seen course.old) }
     ensures course { OnOk result (seen course.new
         ≡ where_passes (is_clock (types_of fixed.now.scene))
         (tick_node_of (wiring_at fixed.now) input.now.time) (seen course.old) node) }
-    ensures empty { OnOk result (tasks.new.items ≡ []) }
-    ensures none { OnOk result (replies.new.items ≡ []) }
-    ensures boxes { OnOk result
-        (boxes.new ≡ rows_of fixed.now.scene course.new.live.world.fields) }
-    ensures kinds { kinds_of course.new.scripts ≡ kinds_of course.old.scripts }
-    ensures count { course.new.settling.count ≡ course.old.settling.count }
+    ensures rest { OnOk result
+        (IsAtRest fixed.now tasks.new.items replies.new.items boxes.new (seen course.new)) }
+    ensures scripts { HasSameScripts (seen course.old) (seen course.new) }
 {
     if !is_clock(&fixed.scene, node) {
         return Ok(());
@@ -92,20 +80,15 @@ fn tick_all<B: Behaviour>(
     end: u32,
     input: &Stamped,
 ) -> Result<(), AllocError>
-    requires empty { tasks.old.items ≡ [] }
-    requires none { replies.old.items ≡ [] }
-    requires boxes { boxes.old ≡ rows_of fixed.now.scene course.old.live.world.fields }
-    requires cast { HasScriptsOf (wiring_at fixed.now) (seen course.old) }
+    requires rest { IsAtRest fixed.now tasks.old.items replies.old.items boxes.old
+        (seen course.old) }
     ensures course { OnOk result (seen course.new
         ≡ fold (where_passes (is_clock (types_of fixed.now.scene))
         (tick_node_of (wiring_at fixed.now) input.now.time)) (seen course.old)
         (range_with_len start (end - start))) }
-    ensures empty { OnOk result (tasks.new.items ≡ []) }
-    ensures none { OnOk result (replies.new.items ≡ []) }
-    ensures boxes { OnOk result
-        (boxes.new ≡ rows_of fixed.now.scene course.new.live.world.fields) }
-    ensures kinds { kinds_of course.new.scripts ≡ kinds_of course.old.scripts }
-    ensures count { course.new.settling.count ≡ course.old.settling.count }
+    ensures rest { OnOk result
+        (IsAtRest fixed.now tasks.new.items replies.new.items boxes.new (seen course.new)) }
+    ensures scripts { HasSameScripts (seen course.old) (seen course.new) }
 {
     for node in start..end {
         tick_any(fixed, tasks, course, replies, boxes, node, input)?;
@@ -126,19 +109,14 @@ fn tick_block<B: Behaviour>(
     input: &Stamped,
 ) -> Result<(), AllocError>
     requires within { block * 32 ≤ count }
-    requires empty { tasks.old.items ≡ [] }
-    requires none { replies.old.items ≡ [] }
-    requires boxes { boxes.old ≡ rows_of fixed.now.scene course.old.live.world.fields }
-    requires cast { HasScriptsOf (wiring_at fixed.now) (seen course.old) }
+    requires rest { IsAtRest fixed.now tasks.old.items replies.old.items boxes.old
+        (seen course.old) }
     ensures course { OnOk result (seen course.new
         ≡ over_block (where_passes (is_clock (types_of fixed.now.scene))
         (tick_node_of (wiring_at fixed.now) input.now.time)) (seen course.old) block count) }
-    ensures empty { OnOk result (tasks.new.items ≡ []) }
-    ensures none { OnOk result (replies.new.items ≡ []) }
-    ensures boxes { OnOk result
-        (boxes.new ≡ rows_of fixed.now.scene course.new.live.world.fields) }
-    ensures kinds { kinds_of course.new.scripts ≡ kinds_of course.old.scripts }
-    ensures count { course.new.settling.count ≡ course.old.settling.count }
+    ensures rest { OnOk result
+        (IsAtRest fixed.now tasks.new.items replies.new.items boxes.new (seen course.new)) }
+    ensures scripts { HasSameScripts (seen course.old) (seen course.new) }
 {
     if course.live.world.is_idle(block, input) {
         return Ok(());
@@ -167,17 +145,13 @@ pub fn clock<B: Behaviour>(
     boxes: &mut BoxCache,
     input: &Stamped,
 ) -> Result<(), AllocError>
-    requires empty { tasks.old.items ≡ [] }
-    requires boxes { boxes.old ≡ rows_of fixed.now.scene course.old.live.world.fields }
-    requires cast { HasScriptsOf (wiring_at fixed.now) (seen course.old) }
+    requires rest { IsAtRest fixed.now tasks.old.items [] boxes.old (seen course.old) }
     ensures course { OnOk result (seen course.new
         ≡ fold (tick_node_of (wiring_at fixed.now) input.now.time) (seen course.old)
         (clocks_of (types_of fixed.now.scene))) }
-    ensures empty { OnOk result (tasks.new.items ≡ []) }
-    ensures boxes { OnOk result
-        (boxes.new ≡ rows_of fixed.now.scene course.new.live.world.fields) }
-    ensures kinds { kinds_of course.new.scripts ≡ kinds_of course.old.scripts }
-    ensures count { course.new.settling.count ≡ course.old.settling.count }
+    ensures rest { OnOk result
+        (IsAtRest fixed.now tasks.new.items [] boxes.new (seen course.new)) }
+    ensures scripts { HasSameScripts (seen course.old) (seen course.new) }
 {
     let count = fixed.scene.count()?;
     let mut replies = Outbox::new();

@@ -2,10 +2,10 @@
 
 ghost use Rattle.std.specs.Prelude.{◌≡◌, [], IfOk, OnOk, is_some};
 ghost use Rattle.pick_core.specs.Sites.{rows_of};
-ghost use Rattle.script_running.specs.Acting.{kinds_of};
 ghost use Rattle.cascade_core.specs.Course.{wiring_at, seen};
 ghost use Rattle.cascade_core.specs.Cascade.{arrival, reached, received_by};
 ghost use Rattle.cascade_core.specs.Sound.{HasScriptsOf};
+ghost use Rattle.cascade_core.specs.Resting.{HasSameScripts, IsAtRest};
 
 use crate::fixed::RoutedScene;
 use cascade_rules::deliver;
@@ -48,8 +48,7 @@ impl<B: Behaviour> Course<B> {
             ≡ (received_by (wiring_at fixed.now) (seen self.old)
             (arrival (wiring_at fixed.now) (seen self.old) target value.now)).replies) }
         ensures live { self.new.live ≡ self.old.live }
-        ensures kinds { kinds_of self.new.scripts ≡ kinds_of self.old.scripts }
-        ensures count { self.new.settling.count ≡ self.old.settling.count }
+        ensures scripts { HasSameScripts (seen self.old) (seen self.new) }
     {
         let Some(k) = fixed.runs.script_of(target.node) else {
             return Ok(false);
@@ -74,17 +73,14 @@ impl<B: Behaviour> Course<B> {
         value: &Value,
         out: &mut Outbox,
     ) -> Result<(), AllocError>
-        requires empty { out.old.items ≡ [] }
-        requires boxes { boxes.old ≡ rows_of fixed.now.scene self.old.live.world.fields }
-        requires cast { HasScriptsOf (wiring_at fixed.now) (seen self.old) }
+        requires rest { IsAtRest fixed.now [] out.old.items boxes.old (seen self.old) }
         ensures course { OnOk result (seen self.new
             ≡ (reached (wiring_at fixed.now) (seen self.old) target value.now).course) }
         ensures replies { OnOk result (out.new.items
             ≡ (reached (wiring_at fixed.now) (seen self.old) target value.now).replies) }
         ensures boxes { OnOk result
             (boxes.new ≡ rows_of fixed.now.scene self.new.live.world.fields) }
-        ensures kinds { kinds_of self.new.scripts ≡ kinds_of self.old.scripts }
-        ensures count { self.new.settling.count ≡ self.old.settling.count }
+        ensures scripts { HasSameScripts (seen self.old) (seen self.new) }
     {
         if self.receive(fixed, target, value, out)? {
             return Ok(());

@@ -2,16 +2,16 @@
 
 ghost use Rattle.std.specs.Prelude.{◌≡◌, ◌<◌, [], IfOk, OnOk, true, length};
 ghost use Rattle.std.specs.List.{list_all};
-ghost use Rattle.pick_core.specs.Sites.{rows_of};
 ghost use Rattle.scene_core.specs.Scene.{shapes_of};
 ghost use Rattle.script_host.specs.Behaviour.{Initialize};
 ghost use Rattle.script_running.specs.Acting.{act, kinds_of};
 ghost use Rattle.cascade_core.specs.Apply.{opening as opening_of, sent_by_all, started, untold};
 ghost use Rattle.cascade_core.specs.Cascade.{send_replies as send_replies_of};
-ghost use Rattle.cascade_core.specs.Course.{ended, node_of, wiring_at, ports_of, seen};
-ghost use Rattle.cascade_core.specs.Scripts.{kinds_in, scripts_in};
+ghost use Rattle.cascade_core.specs.Course.{course as course_of, ended, node_of, wiring_at, ports_of, seen};
+ghost use Rattle.cascade_core.specs.Scripts.{scripts_in};
 ghost use Rattle.cascade_core.specs.Settles.{settle as settle_of};
-ghost use Rattle.cascade_core.specs.Sound.{HasScriptsOf, IsSound, IsFixed, are_sent};
+ghost use Rattle.cascade_core.specs.Sound.{IsSound, IsFixed, are_sent};
+ghost use Rattle.cascade_core.specs.Resting.{HasSameScripts, HasSceneScripts, IsAtRest};
 
 use crate::bench::Buffers;
 use crate::course::Course;
@@ -94,17 +94,13 @@ fn send_one<B: Behaviour>(
     boxes: &mut BoxCache,
     sending: Sending,
 ) -> Result<(), AllocError>
-    requires empty { tasks.old.items ≡ [] }
-    requires boxes { boxes.old ≡ rows_of fixed.now.scene course.old.live.world.fields }
-    requires cast { HasScriptsOf (wiring_at fixed.now) (seen course.old) }
+    requires rest { IsAtRest fixed.now tasks.old.items [] boxes.old (seen course.old) }
     requires outputs { are_sent (shapes_of fixed.now.scene) sending ≡ true }
     ensures course { OnOk result (seen course.new
         ≡ send_replies_of (wiring_at fixed.now) sending.node (seen course.old) sending.replies) }
-    ensures empty { OnOk result (tasks.new.items ≡ []) }
-    ensures boxes { OnOk result
-        (boxes.new ≡ rows_of fixed.now.scene course.new.live.world.fields) }
-    ensures kinds { kinds_of course.new.scripts ≡ kinds_of course.old.scripts }
-    ensures count { course.new.settling.count ≡ course.old.settling.count }
+    ensures rest { OnOk result
+        (IsAtRest fixed.now tasks.new.items [] boxes.new (seen course.new)) }
+    ensures scripts { HasSameScripts (seen course.old) (seen course.new) }
 {
     let Sending { node, mut replies } = sending;
     send_replies(fixed, tasks, course, &mut replies, boxes, node)
@@ -118,17 +114,13 @@ fn send_all<B: Behaviour>(
     boxes: &mut BoxCache,
     sendings: Vec<Sending>,
 ) -> Result<(), AllocError>
-    requires empty { tasks.old.items ≡ [] }
-    requires boxes { boxes.old ≡ rows_of fixed.now.scene course.old.live.world.fields }
-    requires cast { HasScriptsOf (wiring_at fixed.now) (seen course.old) }
+    requires rest { IsAtRest fixed.now tasks.old.items [] boxes.old (seen course.old) }
     requires outputs { list_all (are_sent (shapes_of fixed.now.scene)) sendings.items ≡ true }
     ensures course { OnOk result (seen course.new
         ≡ sent_by_all (wiring_at fixed.now) (seen course.old) sendings.items) }
-    ensures empty { OnOk result (tasks.new.items ≡ []) }
-    ensures boxes { OnOk result
-        (boxes.new ≡ rows_of fixed.now.scene course.new.live.world.fields) }
-    ensures kinds { kinds_of course.new.scripts ≡ kinds_of course.old.scripts }
-    ensures count { course.new.settling.count ≡ course.old.settling.count }
+    ensures rest { OnOk result
+        (IsAtRest fixed.now tasks.new.items [] boxes.new (seen course.new)) }
+    ensures scripts { HasSameScripts (seen course.old) (seen course.new) }
 {
     for sending in sendings {
         send_one(fixed, tasks, course, boxes, sending)?;
@@ -143,17 +135,14 @@ fn send_and_settle<B: Behaviour>(
     course: &mut Course<B>,
     sendings: Vec<Sending>,
 ) -> Result<(), AllocError>
-    requires empty { bench.old.tasks.items ≡ [] }
-    requires boxes { bench.old.boxes ≡ rows_of fixed.now.scene course.old.live.world.fields }
-    requires cast { HasScriptsOf (wiring_at fixed.now) (seen course.old) }
+    requires rest { IsAtRest fixed.now bench.old.tasks.items [] bench.old.boxes (seen course.old) }
     requires outputs { list_all (are_sent (shapes_of fixed.now.scene)) sendings.items ≡ true }
     requires fresh { course.old.settling.settled ≡ [] }
     ensures course { OnOk result (seen course.new ≡ settle_of (wiring_at fixed.now)
         (sent_by_all (wiring_at fixed.now) (seen course.old) sendings.items)) }
-    ensures boxes { OnOk result
-        (bench.new.boxes ≡ rows_of fixed.now.scene course.new.live.world.fields) }
-    ensures kinds { kinds_of course.new.scripts ≡ kinds_of course.old.scripts }
-    ensures count { course.new.settling.count ≡ course.old.settling.count }
+    ensures rest { OnOk result
+        (IsAtRest fixed.now bench.new.tasks.items [] bench.new.boxes (seen course.new)) }
+    ensures scripts { HasSameScripts (seen course.old) (seen course.new) }
 {
     send_all(fixed, &mut bench.tasks, course, &mut bench.boxes, sendings)?;
     settle(fixed, &mut bench.tasks, course, &mut bench.boxes)?;
@@ -168,19 +157,16 @@ pub fn open<B: Behaviour>(
     live: Live,
     mut scripts: Scripts<B>,
 ) -> Result<Course<B>, AllocError>
+    requires rest { IsAtRest fixed.now bench.old.tasks.items [] bench.old.boxes
+        (course_of live scripts) }
     requires fixed { IsFixed fixed.now }
-    requires sound { IsSound (wiring_at fixed.now) (kinds_of scripts) }
     requires scripts { scripts ≡ scripts_in fixed.now.scene }
-    requires empty { bench.old.tasks.items ≡ [] }
-    requires world { live.world ≡ untold fixed.now.scene }
-    requires unsent { live.sent ≡ [] }
-    requires boxes { bench.old.boxes ≡ rows_of fixed.now.scene live.world.fields }
+    requires live { live ≡ record { world = untold fixed.now.scene; sent = [] } }
     ensures world { IfOk result (λ course.
         ended (seen course) ≡ opening_of fixed.now.scene fixed.now.routes) }
-    ensures boxes { IfOk result (λ course.
-        bench.new.boxes ≡ rows_of fixed.now.scene course.live.world.fields) }
-    ensures kinds { IfOk result (λ course. kinds_of course.scripts ≡ kinds_in fixed.now.scene) }
-    ensures count { IfOk result (λ course. course.settling.count ≡ length course.scripts) }
+    ensures rest { IfOk result (λ course.
+        IsAtRest fixed.now bench.new.tasks.items [] bench.new.boxes (seen course)) }
+    ensures scene { IfOk result (λ course. HasSceneScripts fixed.now (seen course)) }
 {
     // Each exit drops by calls: a drop in place is proved anew at each.
     let Ok(settling) = DueScripts::new(alloc, scripts.len()) else {

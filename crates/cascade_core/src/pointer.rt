@@ -4,10 +4,8 @@
 ghost use Rattle.std.specs.Prelude.{◌≡◌, ◌*◌, ◌-◌, ◌≤◌, [], OnOk, map};
 ghost use Rattle.std.specs.List.{fold, range_with_len};
 ghost use Rattle.scene_core.specs.Scene.{types_of};
-ghost use Rattle.pick_core.specs.Sites.{rows_of};
-ghost use Rattle.script_running.specs.Acting.{kinds_of};
 ghost use Rattle.cascade_core.specs.Course.{wiring_at, seen};
-ghost use Rattle.cascade_core.specs.Sound.{HasScriptsOf};
+ghost use Rattle.cascade_core.specs.Resting.{HasSameScripts, IsAtRest};
 ghost use Rattle.cascade_core.specs.Apply.{point as point_of, point_node as point_node_of};
 ghost use Rattle.cascade_world.specs.Insides.{seen as insides_seen};
 ghost use Rattle.cascade_world.specs.Nodes.{is_sensor, pointing_sensors_of};
@@ -37,20 +35,15 @@ fn point_node<B: Behaviour>(
     concerned: Concerned,
     aim: &AimedAt,
 ) -> Result<(), AllocError>
-    requires empty { tasks.old.items ≡ [] }
-    requires none { replies.old.items ≡ [] }
-    requires boxes { boxes.old ≡ rows_of fixed.now.scene course.old.live.world.fields }
-    requires cast { HasScriptsOf (wiring_at fixed.now) (seen course.old) }
+    requires rest { IsAtRest fixed.now tasks.old.items replies.old.items boxes.old
+        (seen course.old) }
     ensures course { OnOk result
         (seen course.new
         ≡ point_node_of fixed.now.scene (wiring_at fixed.now) aim.now.pointer aim.now.before
         (insides_seen aim.now.inside) (seen course.old) concerned) }
-    ensures empty { OnOk result (tasks.new.items ≡ []) }
-    ensures none { OnOk result (replies.new.items ≡ []) }
-    ensures boxes { OnOk result
-        (boxes.new ≡ rows_of fixed.now.scene course.new.live.world.fields) }
-    ensures kinds { kinds_of course.new.scripts ≡ kinds_of course.old.scripts }
-    ensures count { course.new.settling.count ≡ course.old.settling.count }
+    ensures rest { OnOk result
+        (IsAtRest fixed.now tasks.new.items replies.new.items boxes.new (seen course.new)) }
+    ensures scripts { HasSameScripts (seen course.old) (seen course.new) }
 {
     if course.live.world.passes(concerned, aim) {
         return Ok(());
@@ -71,20 +64,16 @@ fn point_all<B: Behaviour>(
     boxes: &mut BoxCache,
     aim: &AimedAt,
 ) -> Result<(), AllocError>
-    requires empty { tasks.old.items ≡ [] }
-    requires boxes { boxes.old ≡ rows_of fixed.now.scene course.old.live.world.fields }
-    requires cast { HasScriptsOf (wiring_at fixed.now) (seen course.old) }
+    requires rest { IsAtRest fixed.now tasks.old.items [] boxes.old (seen course.old) }
     ensures course { OnOk result
         (seen course.new
         ≡ fold
         (point_node_of fixed.now.scene (wiring_at fixed.now) aim.now.pointer aim.now.before
         (insides_seen aim.now.inside))
         (seen course.old) sensors.now) }
-    ensures empty { OnOk result (tasks.new.items ≡ []) }
-    ensures boxes { OnOk result
-        (boxes.new ≡ rows_of fixed.now.scene course.new.live.world.fields) }
-    ensures kinds { kinds_of course.new.scripts ≡ kinds_of course.old.scripts }
-    ensures count { course.new.settling.count ≡ course.old.settling.count }
+    ensures rest { OnOk result
+        (IsAtRest fixed.now tasks.new.items [] boxes.new (seen course.new)) }
+    ensures scripts { HasSameScripts (seen course.old) (seen course.new) }
 {
     let mut replies = Outbox::new();
     for sensor in sensors {
@@ -103,20 +92,15 @@ fn point_any<B: Behaviour>(
     node: u32,
     aim: &AimedAt,
 ) -> Result<(), AllocError>
-    requires empty { tasks.old.items ≡ [] }
-    requires none { replies.old.items ≡ [] }
-    requires boxes { boxes.old ≡ rows_of fixed.now.scene course.old.live.world.fields }
-    requires cast { HasScriptsOf (wiring_at fixed.now) (seen course.old) }
+    requires rest { IsAtRest fixed.now tasks.old.items replies.old.items boxes.old
+        (seen course.old) }
     ensures course { OnOk result (seen course.new
         ≡ where_passes (is_sensor (types_of fixed.now.scene))
         (untracked_by (point_node_of fixed.now.scene (wiring_at fixed.now) aim.now.pointer
         aim.now.before (insides_seen aim.now.inside))) (seen course.old) node) }
-    ensures empty { OnOk result (tasks.new.items ≡ []) }
-    ensures none { OnOk result (replies.new.items ≡ []) }
-    ensures boxes { OnOk result
-        (boxes.new ≡ rows_of fixed.now.scene course.new.live.world.fields) }
-    ensures kinds { kinds_of course.new.scripts ≡ kinds_of course.old.scripts }
-    ensures count { course.new.settling.count ≡ course.old.settling.count }
+    ensures rest { OnOk result
+        (IsAtRest fixed.now tasks.new.items replies.new.items boxes.new (seen course.new)) }
+    ensures scripts { HasSameScripts (seen course.old) (seen course.new) }
 {
     if !is_sensor(&fixed.scene, node) {
         return Ok(());
@@ -139,21 +123,16 @@ fn point_some<B: Behaviour>(
     end: u32,
     aim: &AimedAt,
 ) -> Result<(), AllocError>
-    requires empty { tasks.old.items ≡ [] }
-    requires none { replies.old.items ≡ [] }
-    requires boxes { boxes.old ≡ rows_of fixed.now.scene course.old.live.world.fields }
-    requires cast { HasScriptsOf (wiring_at fixed.now) (seen course.old) }
+    requires rest { IsAtRest fixed.now tasks.old.items replies.old.items boxes.old
+        (seen course.old) }
     ensures course { OnOk result (seen course.new
         ≡ fold (where_passes (is_sensor (types_of fixed.now.scene))
         (untracked_by (point_node_of fixed.now.scene (wiring_at fixed.now) aim.now.pointer
         aim.now.before (insides_seen aim.now.inside)))) (seen course.old)
         (range_with_len start (end - start))) }
-    ensures empty { OnOk result (tasks.new.items ≡ []) }
-    ensures none { OnOk result (replies.new.items ≡ []) }
-    ensures boxes { OnOk result
-        (boxes.new ≡ rows_of fixed.now.scene course.new.live.world.fields) }
-    ensures kinds { kinds_of course.new.scripts ≡ kinds_of course.old.scripts }
-    ensures count { course.new.settling.count ≡ course.old.settling.count }
+    ensures rest { OnOk result
+        (IsAtRest fixed.now tasks.new.items replies.new.items boxes.new (seen course.new)) }
+    ensures scripts { HasSameScripts (seen course.old) (seen course.new) }
 {
     for node in start..end {
         point_any(fixed, tasks, course, replies, boxes, node, aim)?;
@@ -174,20 +153,15 @@ fn point_block<B: Behaviour>(
     aim: &AimedAt,
 ) -> Result<(), AllocError>
     requires within { block * 32 ≤ count }
-    requires empty { tasks.old.items ≡ [] }
-    requires none { replies.old.items ≡ [] }
-    requires boxes { boxes.old ≡ rows_of fixed.now.scene course.old.live.world.fields }
-    requires cast { HasScriptsOf (wiring_at fixed.now) (seen course.old) }
+    requires rest { IsAtRest fixed.now tasks.old.items replies.old.items boxes.old
+        (seen course.old) }
     ensures course { OnOk result (seen course.new
         ≡ over_block (where_passes (is_sensor (types_of fixed.now.scene))
         (untracked_by (point_node_of fixed.now.scene (wiring_at fixed.now) aim.now.pointer
         aim.now.before (insides_seen aim.now.inside)))) (seen course.old) block count) }
-    ensures empty { OnOk result (tasks.new.items ≡ []) }
-    ensures none { OnOk result (replies.new.items ≡ []) }
-    ensures boxes { OnOk result
-        (boxes.new ≡ rows_of fixed.now.scene course.new.live.world.fields) }
-    ensures kinds { kinds_of course.new.scripts ≡ kinds_of course.old.scripts }
-    ensures count { course.new.settling.count ≡ course.old.settling.count }
+    ensures rest { OnOk result
+        (IsAtRest fixed.now tasks.new.items replies.new.items boxes.new (seen course.new)) }
+    ensures scripts { HasSameScripts (seen course.old) (seen course.new) }
 {
     if course.live.world.passes_block(block, aim) {
         return Ok(());
@@ -216,9 +190,7 @@ fn point_each<B: Behaviour>(
     boxes: &mut BoxCache,
     aim: &AimedAt,
 ) -> Result<(), AllocError>
-    requires empty { tasks.old.items ≡ [] }
-    requires boxes { boxes.old ≡ rows_of fixed.now.scene course.old.live.world.fields }
-    requires cast { HasScriptsOf (wiring_at fixed.now) (seen course.old) }
+    requires rest { IsAtRest fixed.now tasks.old.items [] boxes.old (seen course.old) }
     ensures course { OnOk result
         (seen course.new
         ≡ fold
@@ -226,11 +198,9 @@ fn point_each<B: Behaviour>(
         (insides_seen aim.now.inside))
         (seen course.old)
         (map untracked (pointing_sensors_of (types_of fixed.now.scene)))) }
-    ensures empty { OnOk result (tasks.new.items ≡ []) }
-    ensures boxes { OnOk result
-        (boxes.new ≡ rows_of fixed.now.scene course.new.live.world.fields) }
-    ensures kinds { kinds_of course.new.scripts ≡ kinds_of course.old.scripts }
-    ensures count { course.new.settling.count ≡ course.old.settling.count }
+    ensures rest { OnOk result
+        (IsAtRest fixed.now tasks.new.items [] boxes.new (seen course.new)) }
+    ensures scripts { HasSameScripts (seen course.old) (seen course.new) }
 {
     let count = fixed.scene.count()?;
     let mut replies = Outbox::new();
@@ -250,9 +220,7 @@ fn point_concerned<B: Behaviour>(
     boxes: &mut BoxCache,
     aim: &AimedAt,
 ) -> Result<(), AllocError>
-    requires empty { tasks.old.items ≡ [] }
-    requires boxes { boxes.old ≡ rows_of fixed.now.scene course.old.live.world.fields }
-    requires cast { HasScriptsOf (wiring_at fixed.now) (seen course.old) }
+    requires rest { IsAtRest fixed.now tasks.old.items [] boxes.old (seen course.old) }
     ensures course { OnOk result
         (seen course.new
         ≡ fold
@@ -260,11 +228,9 @@ fn point_concerned<B: Behaviour>(
         (insides_seen aim.now.inside))
         (seen course.old)
         (or_all pressed.now (map untracked (pointing_sensors_of (types_of fixed.now.scene))))) }
-    ensures empty { OnOk result (tasks.new.items ≡ []) }
-    ensures boxes { OnOk result
-        (boxes.new ≡ rows_of fixed.now.scene course.new.live.world.fields) }
-    ensures kinds { kinds_of course.new.scripts ≡ kinds_of course.old.scripts }
-    ensures count { course.new.settling.count ≡ course.old.settling.count }
+    ensures rest { OnOk result
+        (IsAtRest fixed.now tasks.new.items [] boxes.new (seen course.new)) }
+    ensures scripts { HasSameScripts (seen course.old) (seen course.new) }
 {
     match pressed {
         [] => point_each(fixed, tasks, course, boxes, aim),
@@ -280,16 +246,12 @@ pub fn point<B: Behaviour>(
     course: &mut Course<B>,
     pointer: Pointer,
 ) -> Result<(), AllocError>
-    requires empty { bench.old.tasks.items ≡ [] }
-    requires boxes { bench.old.boxes ≡ rows_of fixed.now.scene course.old.live.world.fields }
-    requires cast { HasScriptsOf (wiring_at fixed.now) (seen course.old) }
+    requires rest { IsAtRest fixed.now bench.old.tasks.items [] bench.old.boxes (seen course.old) }
     ensures course { OnOk result (seen course.new
         ≡ point_of fixed.now.scene (wiring_at fixed.now) (seen course.old) pointer) }
-    ensures empty { OnOk result (bench.new.tasks.items ≡ []) }
-    ensures boxes { OnOk result
-        (bench.new.boxes ≡ rows_of fixed.now.scene course.new.live.world.fields) }
-    ensures kinds { kinds_of course.new.scripts ≡ kinds_of course.old.scripts }
-    ensures count { course.new.settling.count ≡ course.old.settling.count }
+    ensures rest { OnOk result
+        (IsAtRest fixed.now bench.new.tasks.items [] bench.new.boxes (seen course.new)) }
+    ensures scripts { HasSameScripts (seen course.old) (seen course.new) }
 {
     let world = &course.live.world;
     list_pressed(world, &fixed.scene, pointer, &mut bench.pressed)?;

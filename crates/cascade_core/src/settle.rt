@@ -1,11 +1,9 @@
 //! Scripts settle behind the events of a timestamp, the lowest first.
 
 ghost use Rattle.std.specs.Prelude.{◌≡◌, ◌<◌, [], OnOk, true, length};
-ghost use Rattle.pick_core.specs.Sites.{rows_of};
 ghost use Rattle.script_slots.specs.Settling.{is_due};
-ghost use Rattle.script_running.specs.Acting.{kinds_of};
 ghost use Rattle.cascade_core.specs.Course.{wiring_at, seen};
-ghost use Rattle.cascade_core.specs.Sound.{HasScriptsOf};
+ghost use Rattle.cascade_core.specs.Resting.{HasSameScripts, IsAtRest};
 ghost use Rattle.cascade_core.specs.Settles.{settle as settle_of, settle_one as settle_one_of};
 
 use crate::course::Course;
@@ -26,20 +24,15 @@ fn settle_one<B: Behaviour>(
     boxes: &mut BoxCache,
     k: usize,
 ) -> Result<(), AllocError>
-    requires empty { tasks.old.items ≡ [] }
-    requires none { replies.old.items ≡ [] }
-    requires boxes { boxes.old ≡ rows_of fixed.now.scene course.old.live.world.fields }
-    requires cast { HasScriptsOf (wiring_at fixed.now) (seen course.old) }
+    requires rest { IsAtRest fixed.now tasks.old.items replies.old.items boxes.old
+        (seen course.old) }
     requires there { k < length course.old.scripts }
     requires due { is_due course.old.settling k ≡ true }
     ensures course { OnOk result
         (seen course.new ≡ settle_one_of (wiring_at fixed.now) (seen course.old) k) }
-    ensures empty { OnOk result (tasks.new.items ≡ []) }
-    ensures none { OnOk result (replies.new.items ≡ []) }
-    ensures boxes { OnOk result
-        (boxes.new ≡ rows_of fixed.now.scene course.new.live.world.fields) }
-    ensures kinds { kinds_of course.new.scripts ≡ kinds_of course.old.scripts }
-    ensures count { course.new.settling.count ≡ course.old.settling.count }
+    ensures rest { OnOk result
+        (IsAtRest fixed.now tasks.new.items replies.new.items boxes.new (seen course.new)) }
+    ensures scripts { HasSameScripts (seen course.old) (seen course.new) }
 {
     course.scripts.settle(k, fixed.runs.ports(k), replies);
     course.settling.settle(k)?;
@@ -53,16 +46,13 @@ pub fn settle<B: Behaviour>(
     course: &mut Course<B>,
     boxes: &mut BoxCache,
 ) -> Result<(), AllocError>
-    requires empty { tasks.old.items ≡ [] }
-    requires boxes { boxes.old ≡ rows_of fixed.now.scene course.old.live.world.fields }
-    requires cast { HasScriptsOf (wiring_at fixed.now) (seen course.old) }
+    requires rest { IsAtRest fixed.now tasks.old.items [] boxes.old (seen course.old) }
     requires fresh { course.old.settling.settled ≡ [] }
     ensures course { OnOk result
         (seen course.new ≡ settle_of (wiring_at fixed.now) (seen course.old)) }
-    ensures boxes { OnOk result
-        (boxes.new ≡ rows_of fixed.now.scene course.new.live.world.fields) }
-    ensures kinds { kinds_of course.new.scripts ≡ kinds_of course.old.scripts }
-    ensures count { course.new.settling.count ≡ course.old.settling.count }
+    ensures rest { OnOk result
+        (IsAtRest fixed.now tasks.new.items [] boxes.new (seen course.new)) }
+    ensures scripts { HasSameScripts (seen course.old) (seen course.new) }
 {
     let mut replies = Outbox::new();
     while let Some(k) = course.settling.next() {

@@ -3,15 +3,13 @@
 ghost use Rattle.std.specs.Prelude.{◌≡◌, ◌+◌, ◌≤◌, ◌<◌, ◌^◌, [], true, false, None, Some, IfNone, IfSome, OnOk, map, reverse, slice_get};
 ghost use Rattle.std.specs.List.{AllByRecursion};
 ghost use Rattle.scene_core.specs.Scene.{shapes_of};
-ghost use Rattle.pick_core.specs.Sites.{rows_of};
 ghost use Rattle.cascade_trace.specs.Ends.{targets_of};
 ghost use Rattle.cascade_rules.specs.Replies.{send_by};
 ghost use Rattle.cascade_core.specs.Outputs.{is_scene_output};
 ghost use Rattle.cascade_core.specs.Course.{wiring_at, seen};
 ghost use Rattle.cascade_core.specs.Cascade.{send_full, send_replies as send_replies_of};
-ghost use Rattle.cascade_core.specs.Sound.{HasScriptsOf};
+ghost use Rattle.cascade_core.specs.Resting.{HasSameScripts, IsAtRest, IsWorking};
 ghost use Rattle.cascade_core.specs.Stack.{do_task, finish, IsReady, weight, work_left};
-ghost use Rattle.script_running.specs.Acting.{kinds_of};
 
 use crate::course::Course;
 use crate::fixed::RoutedScene;
@@ -33,19 +31,14 @@ pub fn send_replies<B: Behaviour>(
     boxes: &mut BoxCache,
     node: u32,
 ) -> Result<(), AllocError>
-    requires empty { tasks.old.items ≡ [] }
+    requires rest { IsAtRest fixed.now tasks.old.items [] boxes.old (seen course.old) }
     requires ready { AllByRecursion (IsReady (shapes_of fixed.now.scene))
         (map (send_by node) (reverse replies.old.items)) }
-    requires boxes { boxes.old ≡ rows_of fixed.now.scene course.old.live.world.fields }
-    requires cast { HasScriptsOf (wiring_at fixed.now) (seen course.old) }
     ensures course { OnOk result (seen course.new
         ≡ send_replies_of (wiring_at fixed.now) node (seen course.old) replies.old.items) }
-    ensures empty { OnOk result (tasks.new.items ≡ []) }
-    ensures none { OnOk result (replies.new.items ≡ []) }
-    ensures boxes { OnOk result
-        (boxes.new ≡ rows_of fixed.now.scene course.new.live.world.fields) }
-    ensures kinds { kinds_of course.new.scripts ≡ kinds_of course.old.scripts }
-    ensures count { course.new.settling.count ≡ course.old.settling.count }
+    ensures rest { OnOk result
+        (IsAtRest fixed.now tasks.new.items replies.new.items boxes.new (seen course.new)) }
+    ensures scripts { HasSameScripts (seen course.old) (seen course.new) }
 {
     push_replies(tasks, node, replies)?;
     run_tasks(fixed, tasks, course, replies, boxes)?;
@@ -60,18 +53,13 @@ fn run_tasks<B: Behaviour>(
     replies: &mut Outbox,
     boxes: &mut BoxCache,
 ) -> Result<(), AllocError>
-    requires none { replies.old.items ≡ [] }
-    requires ready { AllByRecursion (IsReady (shapes_of fixed.now.scene)) tasks.old.items }
-    requires boxes { boxes.old ≡ rows_of fixed.now.scene course.old.live.world.fields }
-    requires cast { HasScriptsOf (wiring_at fixed.now) (seen course.old) }
+    requires working { IsWorking fixed.now tasks.old.items replies.old.items boxes.old
+        (seen course.old) }
     ensures course { OnOk result
         (seen course.new ≡ finish (wiring_at fixed.now) (seen course.old) tasks.old.items) }
-    ensures empty { OnOk result (tasks.new.items ≡ []) }
-    ensures none { OnOk result (replies.new.items ≡ []) }
-    ensures boxes { OnOk result
-        (boxes.new ≡ rows_of fixed.now.scene course.new.live.world.fields) }
-    ensures kinds { kinds_of course.new.scripts ≡ kinds_of course.old.scripts }
-    ensures count { course.new.settling.count ≡ course.old.settling.count }
+    ensures rest { OnOk result
+        (IsAtRest fixed.now tasks.new.items replies.new.items boxes.new (seen course.new)) }
+    ensures scripts { HasSameScripts (seen course.old) (seen course.new) }
 {
     while let Some(task) = tasks.pop() {
         step(fixed, tasks, course, replies, boxes, task)?;
@@ -88,26 +76,20 @@ fn step<B: Behaviour>(
     boxes: &mut BoxCache,
     task: CascadeTask,
 ) -> Result<(), AllocError>
-    requires none { replies.old.items ≡ [] }
+    requires working { IsWorking fixed.now tasks.old.items replies.old.items boxes.old
+        (seen course.old) }
     requires task { IsReady (shapes_of fixed.now.scene) task }
-    requires tasks { AllByRecursion (IsReady (shapes_of fixed.now.scene)) tasks.old.items }
-    requires boxes { boxes.old ≡ rows_of fixed.now.scene course.old.live.world.fields }
-    requires cast { HasScriptsOf (wiring_at fixed.now) (seen course.old) }
     ensures done { OnOk result
         (finish (wiring_at fixed.now) (seen course.new) tasks.new.items
         ≡ finish (wiring_at fixed.now) (do_task (wiring_at fixed.now) (seen course.old) task)
         tasks.old.items) }
-    ensures ready { OnOk result
-        (AllByRecursion (IsReady (shapes_of fixed.now.scene)) tasks.new.items) }
     ensures fewer { OnOk result
         (work_left (wiring_at fixed.now) (seen course.new) tasks.new.items + 1
         ≤ work_left (wiring_at fixed.now) (seen course.old) tasks.old.items
         + weight fixed.now.routes task) }
-    ensures none { OnOk result (replies.new.items ≡ []) }
-    ensures boxes { OnOk result
-        (boxes.new ≡ rows_of fixed.now.scene course.new.live.world.fields) }
-    ensures kinds { kinds_of course.new.scripts ≡ kinds_of course.old.scripts }
-    ensures count { course.new.settling.count ≡ course.old.settling.count }
+    ensures working { OnOk result
+        (IsWorking fixed.now tasks.new.items replies.new.items boxes.new (seen course.new)) }
+    ensures scripts { HasSameScripts (seen course.old) (seen course.new) }
 {
     match task {
         CascadeTask::Send(source, value) => begin(
@@ -129,26 +111,20 @@ fn begin<B: Behaviour>(
     source: End,
     value: Value,
 ) -> Result<(), AllocError>
-    requires none { replies.old.items ≡ [] }
+    requires working { IsWorking fixed.now tasks.old.items replies.old.items boxes.old
+        (seen course.old) }
     requires task { is_scene_output (shapes_of fixed.now.scene) source ≡ true }
-    requires tasks { AllByRecursion (IsReady (shapes_of fixed.now.scene)) tasks.old.items }
-    requires boxes { boxes.old ≡ rows_of fixed.now.scene course.old.live.world.fields }
-    requires cast { HasScriptsOf (wiring_at fixed.now) (seen course.old) }
     ensures done { OnOk result
         (finish (wiring_at fixed.now) (seen course.new) tasks.new.items
         ≡ finish (wiring_at fixed.now)
         (send_full (wiring_at fixed.now) (seen course.old) source value)
         tasks.old.items) }
-    ensures ready { OnOk result
-        (AllByRecursion (IsReady (shapes_of fixed.now.scene)) tasks.new.items) }
     ensures fewer { OnOk result
         (work_left (wiring_at fixed.now) (seen course.new) tasks.new.items + 1
         ≤ work_left (wiring_at fixed.now) (seen course.old) tasks.old.items + 1) }
-    ensures none { OnOk result (replies.new.items ≡ []) }
-    ensures boxes { OnOk result
-        (boxes.new ≡ rows_of fixed.now.scene course.new.live.world.fields) }
-    ensures kinds { kinds_of course.new.scripts ≡ kinds_of course.old.scripts }
-    ensures count { course.new.settling.count ≡ course.old.settling.count }
+    ensures working { OnOk result
+        (IsWorking fixed.now tasks.new.items replies.new.items boxes.new (seen course.new)) }
+    ensures scripts { HasSameScripts (seen course.old) (seen course.new) }
 {
     // A value is dropped by a call: left to the exits, its drop is proved once for each of them.
     let alloc = *tasks.allocator();
@@ -175,26 +151,20 @@ fn follow<B: Behaviour>(
     value: Value,
     next: usize,
 ) -> Result<(), AllocError>
-    requires none { replies.old.items ≡ [] }
-    requires tasks { AllByRecursion (IsReady (shapes_of fixed.now.scene)) tasks.old.items }
-    requires boxes { boxes.old ≡ rows_of fixed.now.scene course.old.live.world.fields }
-    requires cast { HasScriptsOf (wiring_at fixed.now) (seen course.old) }
+    requires working { IsWorking fixed.now tasks.old.items replies.old.items boxes.old
+        (seen course.old) }
     ensures done { OnOk result
         (finish (wiring_at fixed.now) (seen course.new) tasks.new.items
         ≡ finish (wiring_at fixed.now)
         (do_task (wiring_at fixed.now) (seen course.old) (CascadeTask.Follow source value next))
         tasks.old.items) }
-    ensures ready { OnOk result
-        (AllByRecursion (IsReady (shapes_of fixed.now.scene)) tasks.new.items) }
     ensures fewer { OnOk result
         (work_left (wiring_at fixed.now) (seen course.new) tasks.new.items + 1
         ≤ work_left (wiring_at fixed.now) (seen course.old) tasks.old.items
         + weight fixed.now.routes (CascadeTask.Follow source value next)) }
-    ensures none { OnOk result (replies.new.items ≡ []) }
-    ensures boxes { OnOk result
-        (boxes.new ≡ rows_of fixed.now.scene course.new.live.world.fields) }
-    ensures kinds { kinds_of course.new.scripts ≡ kinds_of course.old.scripts }
-    ensures count { course.new.settling.count ≡ course.old.settling.count }
+    ensures working { OnOk result
+        (IsWorking fixed.now tasks.new.items replies.new.items boxes.new (seen course.new)) }
+    ensures scripts { HasSameScripts (seen course.old) (seen course.new) }
 {
     // A value is dropped by a call: left to the exits, its drop is proved once for each of them.
     let Some(hop) = hop_at(&fixed.routes, source, next) else {

@@ -16,3 +16,9 @@ returns-clause-course g c =
     rw c.remember_idle.ensures
     (c.in_ok-tick_all.ensures.course
     ∙ block_is _ _ c.args.block c.args.count (c.args.block * 32) (c.args.block * 32 + c.min-many.result) refl (ap (λ (k : ℕ). c.args.block * 32 + k) c.min-many.ensures))
+
+pub returns-clause-rest : goal.returns-clause-rest
+returns-clause-rest g c = rw c.remember_idle.ensures c.in_ok-tick_all.ensures.rest
+
+pub returns-clause-scripts : goal.returns-clause-scripts
+returns-clause-scripts g c = record { kinds = c.tick_all.ensures.scripts.kinds; count = c.tick_all.ensures.scripts.count }

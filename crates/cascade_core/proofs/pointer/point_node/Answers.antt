@@ -1,4 +1,4 @@
-use Rattle.std.proofs.Common.{◌∙◌}
+use Rattle.std.proofs.Common.{◌∙◌, refl}
 use Rattle.cascade_world.specs.Answers.{pointer_at}
 use Rattle.cascade_world.specs.Insides.{seen as insides_seen}
 use Rattle.cascade_core.specs.Apply.{point_node}
@@ -20,11 +20,17 @@ send_replies-requires g c =
     let x = c.args.concerned in
     let at = pointer_at c.args.aim.now.pointer c.args.aim.now.before (insides_seen c.args.aim.now.inside) x.tracked x.sensor in
     record {
-      empty = c.requires.empty;
+      rest = record {
+        empty = c.requires.rest.empty;
+        none = refl;
+        boxes = rw c.meet.ensures.world (c.requires.rest.boxes ∙ met-rows scene w x.sensor at);
+        cast = record { sound = c.requires.rest.cast.sound; counted = c.requires.rest.cast.counted };
+      };
       ready = rw c.meet.ensures.replies (met-ready scene w x.sensor at);
-      boxes = rw c.meet.ensures.world (c.requires.boxes ∙ met-rows scene w x.sensor at);
-      cast = record { sound = c.requires.cast.sound; counted = c.requires.cast.counted };
     }
+
+pub returns-clause-scripts : goal.returns-clause-scripts
+returns-clause-scripts g c = record { kinds = c.send_replies.ensures.scripts.kinds; count = c.send_replies.ensures.scripts.count }
 
 pub returns-clause-course : goal.returns-clause-course
 unfolding point_node

@@ -13,13 +13,15 @@ use Rattle.cascade_core.proofs.stack.begin.Goals as goal
 
 -- ---- it sends
 
-pub follow-requires-clause-boxes : goal.follow-requires-clause-boxes
-follow-requires-clause-boxes g c =
+pub follow-requires-clause-working : goal.follow-requires-clause-working
+follow-requires-clause-working g c =
     let new : has_sent c.args.course.now.live.sent c.args.source ≡ false = is_first _ _ c.in-Ok.ensures.first c.if-sends.true in
-    rw (moves _ _ _ _ c.in-Ok.ensures.live new) c.requires.boxes
-
-pub follow-requires-clause-cast : goal.follow-requires-clause-cast
-follow-requires-clause-cast g c = cast_stands (wiring_at c.args.fixed.now) (seen c.args.course.now) _ refl refl c.requires.cast
+    record {
+      ready = c.requires.working.ready;
+      none = c.requires.working.none;
+      boxes = rw (moves _ _ _ _ c.in-Ok.ensures.live new) c.requires.working.boxes;
+      cast = cast_stands (wiring_at c.args.fixed.now) (seen c.args.course.now) _ refl refl c.requires.working.cast;
+    }
 
 pub returns-then-sends-clause-done : goal.returns-then-sends-clause-done
 returns-then-sends-clause-done g c =
@@ -27,7 +29,7 @@ returns-then-sends-clause-done g c =
     c.in_ok-follow.ensures.done
     ∙ (rw (moves _ _ _ _ c.in-Ok.ensures.live new)
     (sym (finish-push (wiring_at c.args.fixed.now) (recorded (seen c.args.course.now) c.args.source c.args.value) c.args.tasks.now.items (Follow c.args.source c.args.value 0))
-    ∙ begin-done (wiring_at c.args.fixed.now) (kinds_of c.args.course.now.scripts) c.requires.cast.sound (seen c.args.course.now) c.args.source c.args.value c.args.tasks.now.items c.requires.task refl new))
+    ∙ begin-done (wiring_at c.args.fixed.now) (kinds_of c.args.course.now.scripts) c.requires.working.cast.sound (seen c.args.course.now) c.args.source c.args.value c.args.tasks.now.items c.requires.task refl new))
 
 pub returns-then-sends-clause-fewer : goal.returns-then-sends-clause-fewer
 returns-then-sends-clause-fewer g c =
@@ -53,7 +55,10 @@ returns-clause-fewer g c =
     let before : has_sent c.args.course.now.live.sent c.args.source ≡ true = was_sent _ _ c.in-Ok.ensures.first c.if-sends.false in
     rw (stands _ _ _ _ c.in-Ok.ensures.live before) (omega arith)
 
-pub returns-clause-boxes : goal.returns-clause-boxes
-returns-clause-boxes g c =
+pub returns-clause-working : goal.returns-clause-working
+returns-clause-working g c =
     let before : has_sent c.args.course.now.live.sent c.args.source ≡ true = was_sent _ _ c.in-Ok.ensures.first c.if-sends.false in
-    rw (stands _ _ _ _ c.in-Ok.ensures.live before) c.requires.boxes
+    rw (stands _ _ _ _ c.in-Ok.ensures.live before) c.requires.working
+
+pub returns-then-sends-clause-scripts : goal.returns-then-sends-clause-scripts
+returns-then-sends-clause-scripts g c = record { kinds = c.follow.ensures.scripts.kinds; count = c.follow.ensures.scripts.count }

@@ -3,7 +3,11 @@ use Rattle.cascade_core.specs.Course.{Course, wiring_at, seen}
 use Rattle.cascade_core.specs.Stack.{finish}
 use Rattle.cascade_core.proofs.Tasks.{follow-none, follow-done, follow-fewer, follow-ready, last-done, last-fewer, reached-ready}
 use Rattle.cascade_trace.proofs.RoutePlaces.{target-few}
+use Rattle.cascade_core.proofs.Resting.{cast_then, rest_working}
 use Rattle.cascade_core.proofs.stack.follow.Goals as goal
+
+pub deliver-requires-clause-rest : goal.deliver-requires-clause-rest
+deliver-requires-clause-rest g c = rest_working c.requires.working
 
 pub returns-in_default-clause-done : goal.returns-in_default-clause-done
 returns-in_default-clause-done g c =
@@ -16,10 +20,15 @@ returns-clause-done g c =
     (last-done (wiring_at c.args.fixed.now) (seen c.args.course.now) c.args.source c.args.value c.args.next c.in-Some.hop.target c.args.tasks.now.items
     c.in-Some.ensures.target (c.in-Some.ensures.last c.if-hop.false))
 
-pub returns-clause-ready : goal.returns-clause-ready
-returns-clause-ready g c =
-    rw (c.in_ok-push_replies.ensures.tasks, c.in-Ok.ensures.replies)
-    (reached-ready (wiring_at c.args.fixed.now) (seen c.args.course.now) c.in-Some.hop.target c.args.value c.args.tasks.now.items c.requires.cast.sound c.requires.tasks)
+pub returns-clause-working : goal.returns-clause-working
+returns-clause-working g c = record {
+  ready =
+      rw (c.in_ok-push_replies.ensures.tasks, c.in-Ok.ensures.replies)
+      (reached-ready (wiring_at c.args.fixed.now) (seen c.args.course.now) c.in-Some.hop.target c.args.value c.args.tasks.now.items c.requires.working.cast.sound c.requires.working.ready);
+  none = c.in_ok-push_replies.ensures.none;
+  boxes = c.in-Ok.ensures.boxes;
+  cast = cast_then c.deliver.ensures.scripts c.requires.working.cast;
+}
 
 pub returns-clause-fewer : goal.returns-clause-fewer
 returns-clause-fewer g c =
@@ -33,11 +42,16 @@ returns-then-hop-clause-done g c =
     rw (c.in_ok-push_before.ensures.tasks, c.in-Ok.ensures.replies, c.in-Ok.ensures.course)
     (follow-done (wiring_at c.args.fixed.now) (seen c.args.course.now) c.args.source c.args.value c.args.next c.in-Some.hop.target c.args.tasks.now.items c.in-Some.ensures.target)
 
-pub returns-then-hop-clause-ready : goal.returns-then-hop-clause-ready
-returns-then-hop-clause-ready g c =
-    rw (c.in_ok-push_before.ensures.tasks, c.in-Ok.ensures.replies)
-    (reached-ready (wiring_at c.args.fixed.now) (seen c.args.course.now) c.in-Some.hop.target c.args.value _ c.requires.cast.sound
-    (follow-ready (wiring_at c.args.fixed.now).shapes c.args.source c.args.value (c.args.next + 1) c.args.tasks.now.items c.requires.tasks))
+pub returns-then-hop-clause-working : goal.returns-then-hop-clause-working
+returns-then-hop-clause-working g c = record {
+  ready =
+      rw (c.in_ok-push_before.ensures.tasks, c.in-Ok.ensures.replies)
+      (reached-ready (wiring_at c.args.fixed.now) (seen c.args.course.now) c.in-Some.hop.target c.args.value _ c.requires.working.cast.sound
+      (follow-ready (wiring_at c.args.fixed.now).shapes c.args.source c.args.value (c.args.next + 1) c.args.tasks.now.items c.requires.working.ready));
+  none = c.in_ok-push_before.ensures.none;
+  boxes = c.in-Ok.ensures.boxes;
+  cast = cast_then c.deliver.ensures.scripts c.requires.working.cast;
+}
 
 pub returns-then-hop-clause-fewer : goal.returns-then-hop-clause-fewer
 returns-then-hop-clause-fewer g c =
