@@ -55,12 +55,17 @@ pub begin-requires-clause-counted : goal.begin-requires-clause-counted
 begin-requires-clause-counted g c =
     cast-counted (wiring_at c.args.fixed.now) (seen c.args.course.now) c.requires.rest.cast
 
-pub happen-requires-clause-rest : goal.happen-requires-clause-rest
-happen-requires-clause-rest g c = record {
-  empty = c.clear.ensures.items;
-  none = refl;
-  boxes = c.requires.rest.boxes ∙ ap (λ (d : Course). rows_of c.args.fixed.now.scene d.live.world.fields) (sym c.begin.ensures.course);
-  cast = cast_then (begun-scripts (wiring_at c.args.fixed.now) (seen c.args.course.now) (seen c.begin.new.self) (begin c.args.course.now.live.world c.args.input.now) c.begin.ensures.course c.requires.rest.cast) c.requires.rest.cast;
+pub happen-requires : goal.happen-requires
+happen-requires g c = record {
+  rest = record {
+    empty = c.clear.ensures.items;
+    none = refl;
+    boxes = c.requires.rest.boxes ∙ ap (λ (d : Course). rows_of c.args.fixed.now.scene d.live.world.fields) (sym c.begin.ensures.course);
+    cast =
+        cast_then
+        (begun-scripts (wiring_at c.args.fixed.now) (seen c.args.course.now) (seen c.begin.new.self) (begin c.args.course.now.live.world c.args.input.now) c.begin.ensures.course c.requires.rest.cast)
+        c.requires.rest.cast;
+  };
 }
 
 pub returns-in_err-happen-clause-scripts : goal.returns-in_err-happen-clause-scripts

@@ -13,14 +13,16 @@ use Rattle.cascade_core.proofs.stack.begin.Goals as goal
 
 -- ---- it sends
 
-pub follow-requires-clause-working : goal.follow-requires-clause-working
-follow-requires-clause-working g c =
+pub follow-requires : goal.follow-requires
+follow-requires g c =
     let new : has_sent c.args.course.now.live.sent c.args.source ≡ false = is_first _ _ c.in-Ok.ensures.first c.if-sends.true in
     record {
-      ready = c.requires.working.ready;
-      none = c.requires.working.none;
-      boxes = rw (moves _ _ _ _ c.in-Ok.ensures.live new) c.requires.working.boxes;
-      cast = cast_stands (wiring_at c.args.fixed.now) (seen c.args.course.now) _ refl refl c.requires.working.cast;
+      working = record {
+        ready = c.requires.working.ready;
+        none = c.requires.working.none;
+        boxes = rw (moves _ _ _ _ c.in-Ok.ensures.live new) c.requires.working.boxes;
+        cast = cast_stands (wiring_at c.args.fixed.now) (seen c.args.course.now) _ refl refl c.requires.working.cast;
+      };
     }
 
 pub returns-then-sends-clause-done : goal.returns-then-sends-clause-done

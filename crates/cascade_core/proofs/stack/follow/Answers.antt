@@ -6,8 +6,8 @@ use Rattle.cascade_trace.proofs.RoutePlaces.{target-few}
 use Rattle.cascade_core.proofs.Resting.{cast_then, rest_working}
 use Rattle.cascade_core.proofs.stack.follow.Goals as goal
 
-pub deliver-requires-clause-rest : goal.deliver-requires-clause-rest
-deliver-requires-clause-rest g c = rest_working c.requires.working
+pub deliver-requires : goal.deliver-requires
+deliver-requires g c = record { rest = rest_working c.requires.working }
 
 pub returns-in_default-clause-done : goal.returns-in_default-clause-done
 returns-in_default-clause-done g c =

@@ -3,12 +3,14 @@ use Rattle.cascade_core.specs.Course.{wiring_at, seen}
 use Rattle.cascade_core.proofs.Tasks.{finish-all}
 use Rattle.cascade_core.proofs.stack.send_replies.Goals as goal
 
-pub run_tasks-requires-clause-working : goal.run_tasks-requires-clause-working
-run_tasks-requires-clause-working g c = record {
-  ready = rw (c.in_ok-push_replies.ensures.tasks, c.requires.rest.empty) c.requires.ready;
-  none = c.in_ok-push_replies.ensures.none;
-  boxes = c.requires.rest.boxes;
-  cast = c.requires.rest.cast;
+pub run_tasks-requires : goal.run_tasks-requires
+run_tasks-requires g c = record {
+  working = record {
+    ready = rw (c.in_ok-push_replies.ensures.tasks, c.requires.rest.empty) c.requires.ready;
+    none = c.in_ok-push_replies.ensures.none;
+    boxes = c.requires.rest.boxes;
+    cast = c.requires.rest.cast;
+  };
 }
 
 pub returns-clause-course : goal.returns-clause-course
