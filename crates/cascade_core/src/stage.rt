@@ -164,7 +164,7 @@ impl<B: Behaviour> Stage<B> {
     }
 
     /// Applies the next input.
-    #[tactic(auto, using(crate::proofs::SoundLemmas::cast_stands))]
+    #[tactic(auto, using(crate::proofs::Resting::cast_then))]
     pub fn apply(&mut self, input: &Stamped) -> Result<Work, ApplyFault>
         // Whatever can be said before the work starts is answered then, and the stage is as it was.
         ensures refused { IfSome (refusal_of self.old.held input.now) (λ fault. (result ≡ Err fault)
