@@ -20,10 +20,10 @@ use Rattle.cascade_core.specs.Course.{Course, Wiring, Scripted, course, ended, n
 use Rattle.cascade_core.specs.Outputs.{is_scene_output}
 use Rattle.cascade_core.specs.Scripts.{are_begun, scripts_in}
 use Rattle.cascade_core.specs.Settles.{settle}
-use Rattle.cascade_core.specs.Sound.{HasScriptsOf, IsFixed, IsSound, are_outputs, are_sent}
+use Rattle.cascade_core.specs.Sound.{HasScriptsOf, RunsItsScripts, IsSound, are_outputs, are_sent}
 use Rattle.cascade_core.specs.Stack.{IsReady}
 use Rattle.cascade_rules.specs.Replies.{send_by}
-use Rattle.cascade_core.specs.declared.fixed.RoutedScene.{RoutedScene}
+use Rattle.cascade_core.specs.declared.routed.RoutedScene.{RoutedScene}
 use Rattle.cascade_world.specs.declared.world.Live.{Live}
 use Rattle.cascade_core.proofs.Keeping.{replies-of}
 use Rattle.cascade_core.proofs.SceneOutputs.{AllOutputs}
@@ -156,15 +156,15 @@ opened-from scene wiring given =
     let s = started wiring given in
     ended (settle wiring (sent_by_all wiring (course (record { world = untold scene; sent = [] }) s.scripts) s.sendings))
 
-fixed-plan : (g : RoutedScene) → IsFixed g → wiring_at g ≡ wiring_of g.scene g.routes
-fixed-plan g fixed = ap made fixed
+routed-plan : (g : RoutedScene) → RunsItsScripts g → wiring_at g ≡ wiring_of g.scene g.routes
+routed-plan g routed = ap made routed
   where
     made : List Run → Wiring
     made runs = record { shapes = shapes_of g.scene; routes = g.routes; runs = runs }
 
-opened-fixed : (g : RoutedScene) → IsFixed g → opened-from g.scene (wiring_at g) (scripts_in g.scene) ≡ opening g.scene g.routes
+opened-routed : (g : RoutedScene) → RunsItsScripts g → opened-from g.scene (wiring_at g) (scripts_in g.scene) ≡ opening g.scene g.routes
 unfolding opening
-opened-fixed g fixed = ap (λ (wiring : Wiring). opened-from g.scene wiring (scripts_in g.scene)) (fixed-plan g fixed)
+opened-routed g routed = ap (λ (wiring : Wiring). opened-from g.scene wiring (scripts_in g.scene)) (routed-plan g routed)
 
 -- the course behind the initialization of all scripts
 abbrev starts : Live → List SlotView → DueScriptsView → Course
@@ -184,12 +184,12 @@ starts-same live scene rs given settling many world unsent e is counted =
     ∙ ap (λ (s : DueScriptsView). starts (record { world = untold scene; sent = [] }) given s) all
 
 -- how input 0 ends
-pub opened_same : (g : RoutedScene) → IsFixed g → (live : Live) (given rs : List SlotView) (settling : DueScriptsView) (many : ℕ) (sendings : List SendingView) (before after : Course) →
+pub opened_same : (g : RoutedScene) → RunsItsScripts g → (live : Live) (given rs : List SlotView) (settling : DueScriptsView) (many : ℕ) (sendings : List SendingView) (before after : Course) →
     given ≡ scripts_in g.scene → live.world ≡ untold g.scene → live.sent ≡ [] →
     rs ≡ (started (wiring_at g) given).scripts → settling ≡ unsettled many → many ≡ length given → sendings ≡ (started (wiring_at g) given).sendings →
     before ≡ sent_by_all (wiring_at g) (record { live = live; scripts = rs; settling = settling }) sendings → after ≡ settle (wiring_at g) before →
     ended after ≡ opening g.scene g.routes
-opened_same g fixed live given rs settling many sendings before after same world unsent scripts is counted sent was done =
+opened_same g routed live given rs settling many sendings before after same world unsent scripts is counted sent was done =
     let wiring = wiring_at g in
     let all : many ≡ length (started wiring given).scripts = counted ∙ sym (started_many wiring given) in
     ap ended done
@@ -197,7 +197,7 @@ opened_same g fixed live given rs settling many sendings before after same world
     ∙ ap (λ (c : Course). ended (settle wiring (sent_by_all wiring c sendings))) (starts-same live g.scene rs (started wiring given).scripts settling many world unsent scripts is all)
     ∙ ap (λ (xs : List SendingView). ended (settle wiring (sent_by_all wiring (course (record { world = untold g.scene; sent = [] }) (started wiring given).scripts) xs))) sent
     ∙ ap (λ (xs : List SlotView). opened-from g.scene wiring xs) same
-    ∙ opened-fixed g fixed
+    ∙ opened-routed g routed
 
 -- nothing was settled before
 pub sent_fresh : (wiring : Wiring) (live : Live) (rs : List SlotView) (settling : DueScriptsView) (after : Course) (sendings : List SendingView) (many : ℕ) →
@@ -234,9 +234,9 @@ started_more wiring whole rs after sendings more one k n below scripts sent push
     pair xs ys = record { scripts = xs; sendings = ys }
 
 -- scripts that were all initialized are of the kinds that they were of, and as many
-pub opening-cast : (wiring : Wiring) (given rs : List SlotView) (live : Live) (settling : DueScriptsView) (many : ℕ) → IsSound wiring (kinds_of given) →
+pub opening-has_scripts : (wiring : Wiring) (given rs : List SlotView) (live : Live) (settling : DueScriptsView) (many : ℕ) → IsSound wiring (kinds_of given) →
     kinds_of rs ≡ kinds_of given → settling ≡ unsettled many → many ≡ length given → HasScriptsOf wiring (record { live = live; scripts = rs; settling = settling })
-opening-cast wiring given rs live settling many sound kinds is counted = record {
+opening-has_scripts wiring given rs live settling many sound kinds is counted = record {
   sound = subst (λ (ks : List Kind). IsSound wiring ks) (sym kinds) sound;
   counted = ap (λ (s : DueScriptsView). s.count) is ∙ counted ∙ sym (length-map given (λ (r : SlotView). r.kind)) ∙ ap length (sym kinds);
 }

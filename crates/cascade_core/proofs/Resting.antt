@@ -10,8 +10,8 @@ use Rattle.cascade_world.specs.declared.world.Live.{Live}
 use Rattle.cascade_core.specs.Course.{Course, Wiring, course}
 use Rattle.cascade_core.specs.Resting.{HasSameScripts, IsAtRest, IsWorking}
 use Rattle.cascade_core.specs.Sound.{HasScriptsOf, IsSound}
-use Rattle.cascade_core.specs.declared.fixed.RoutedScene.{RoutedScene}
-use Rattle.cascade_core.proofs.SoundLemmas.{cast_stands}
+use Rattle.cascade_core.specs.declared.routed.RoutedScene.{RoutedScene}
+use Rattle.cascade_core.proofs.SoundLemmas.{has_scripts_still}
 
 -- ---- the same scripts
 
@@ -20,19 +20,19 @@ pub scripts_then : {a b c : Course} → HasSameScripts a b → HasSameScripts b 
 scripts_then first next = record { kinds = next.kinds ∙ first.kinds; count = next.count ∙ first.count }
 
 -- they are those that are run, as they were
-pub cast_then : {wiring : Wiring} {old new : Course} → HasSameScripts old new → HasScriptsOf wiring old → HasScriptsOf wiring new
-cast_then {wiring} {old} {new} same cast = cast_stands wiring old new same.kinds same.count cast
+pub has_scripts_then : {wiring : Wiring} {old new : Course} → HasSameScripts old new → HasScriptsOf wiring old → HasScriptsOf wiring new
+has_scripts_then {wiring} {old} {new} same has_scripts = has_scripts_still wiring old new same.kinds same.count has_scripts
 
 -- as many as there are, before any was settled
-pub cast_begun : (wiring : Wiring) (live : Live) (scripts : List SlotView) → IsSound wiring (kinds_of scripts) → HasScriptsOf wiring (course live scripts)
-cast_begun wiring live scripts sound = record { sound = sound; counted = sym (length-map scripts (λ (r : SlotView). r.kind)) }
+pub has_scripts_begun : (wiring : Wiring) (live : Live) (scripts : List SlotView) → IsSound wiring (kinds_of scripts) → HasScriptsOf wiring (course live scripts)
+has_scripts_begun wiring live scripts sound = record { sound = sound; counted = sym (length-map scripts (λ (r : SlotView). r.kind)) }
 
 -- ---- at rest
 
 -- whatever replies nothing says
-pub rest_said : {fixed : RoutedScene} {tasks : List CascadeTask} {replies : List SentEvent} {rows : List BoxRow} {c : Course} → IsAtRest fixed tasks replies rows c → IsAtRest fixed tasks [] rows c
-rest_said rest = record { empty = rest.empty; none = refl; boxes = rest.boxes; cast = rest.cast }
+pub rest_said : {routed : RoutedScene} {tasks : List CascadeTask} {replies : List SentEvent} {rows : List BoxRow} {c : Course} → IsAtRest routed tasks replies rows c → IsAtRest routed tasks [] rows c
+rest_said rest = record { empty = rest.empty; none = refl; boxes = rest.boxes; has_scripts = rest.has_scripts }
 
 -- while tasks are left the next event may be delivered
-pub rest_working : {fixed : RoutedScene} {tasks : List CascadeTask} {replies : List SentEvent} {rows : List BoxRow} {c : Course} → IsWorking fixed tasks replies rows c → IsAtRest fixed [] replies rows c
-rest_working working = record { empty = refl; none = working.none; boxes = working.boxes; cast = working.cast }
+pub rest_working : {routed : RoutedScene} {tasks : List CascadeTask} {replies : List SentEvent} {rows : List BoxRow} {c : Course} → IsWorking routed tasks replies rows c → IsAtRest routed [] replies rows c
+rest_working working = record { empty = refl; none = working.none; boxes = working.boxes; has_scripts = working.has_scripts }

@@ -9,26 +9,26 @@ use Rattle.script_running.specs.Acting.{kinds_of}
 use Rattle.cascade_rules.specs.declared.tasks.CascadeTask.{CascadeTask}
 use Rattle.cascade_core.specs.Course.{Course, wiring_at}
 use Rattle.cascade_core.specs.Scripts.{kinds_in}
-use Rattle.cascade_core.specs.Sound.{HasScriptsOf, IsFixed}
+use Rattle.cascade_core.specs.Sound.{HasScriptsOf, RunsItsScripts}
 use Rattle.cascade_core.specs.Stack.{IsReady}
-use Rattle.cascade_core.specs.declared.fixed.RoutedScene.{RoutedScene}
+use Rattle.cascade_core.specs.declared.routed.RoutedScene.{RoutedScene}
 
 -- no task is left and nothing is unsaid, the boxes are those of the nodes, and the scripts those
 -- that are run
-pub record IsAtRest (fixed : RoutedScene) (tasks : List CascadeTask) (replies : List SentEvent)
+pub record IsAtRest (routed : RoutedScene) (tasks : List CascadeTask) (replies : List SentEvent)
     (rows : List BoxRow) (c : Course) : Type 0 where
   pub empty : tasks ≡ []
   pub none : replies ≡ []
-  pub boxes : rows ≡ rows_of fixed.scene c.live.world.fields
-  pub cast : HasScriptsOf (wiring_at fixed) c
+  pub boxes : rows ≡ rows_of routed.scene c.live.world.fields
+  pub has_scripts : HasScriptsOf (wiring_at routed) c
 
 -- the same while tasks are left: each sends by an output of the scene
-pub record IsWorking (fixed : RoutedScene) (tasks : List CascadeTask) (replies : List SentEvent)
+pub record IsWorking (routed : RoutedScene) (tasks : List CascadeTask) (replies : List SentEvent)
     (rows : List BoxRow) (c : Course) : Type 0 where
-  pub ready : AllByRecursion (IsReady (shapes_of fixed.scene)) tasks
+  pub ready : AllByRecursion (IsReady (shapes_of routed.scene)) tasks
   pub none : replies ≡ []
-  pub boxes : rows ≡ rows_of fixed.scene c.live.world.fields
-  pub cast : HasScriptsOf (wiring_at fixed) c
+  pub boxes : rows ≡ rows_of routed.scene c.live.world.fields
+  pub has_scripts : HasScriptsOf (wiring_at routed) c
 
 -- the scripts are of the kinds that they were of, and as many are counted
 pub record HasSameScripts (old new : Course) : Type 0 where
@@ -36,6 +36,6 @@ pub record HasSameScripts (old new : Course) : Type 0 where
   pub count : new.settling.count ≡ old.settling.count
 
 -- the scripts that are run are those of the scene, and so are those of the course
-pub record HasSceneScripts (fixed : RoutedScene) (c : Course) : Type 0 where
-  pub runs : IsFixed fixed
-  pub kinds : kinds_of c.scripts ≡ kinds_in fixed.scene
+pub record HasSceneScripts (routed : RoutedScene) (c : Course) : Type 0 where
+  pub runs : RunsItsScripts routed
+  pub kinds : kinds_of c.scripts ≡ kinds_in routed.scene

@@ -10,11 +10,11 @@ ghost use Rattle.cascade_core.specs.Apply.{begin as begin_of};
 ghost use Rattle.cascade_core.specs.Work.{IsWork};
 ghost use Rattle.cascade_core.specs.Apply.{apply, course_after, happen};
 
-use crate::bench::Buffers;
+use crate::buffers::Buffers;
 use crate::clock::clock;
 use crate::course::Course;
-use crate::fixed::RoutedScene;
 use crate::pointer::point;
+use crate::routed::RoutedScene;
 use crate::settle::settle;
 use crate::work::Work;
 use cascade_trace::deliveries;
@@ -39,54 +39,61 @@ impl<B: Behaviour> Course<B> {
 
 /// What happened at an input goes to the nodes that it concerns.
 fn happen<B: Behaviour>(
-    fixed: &RoutedScene,
-    bench: &mut Buffers,
+    routed: &RoutedScene,
+    buffers: &mut Buffers,
     course: &mut Course<B>,
     input: &Stamped,
 ) -> Result<(), AllocError>
-    requires rest { IsAtRest fixed.now bench.old.tasks.items [] bench.old.boxes (seen course.old) }
+    requires rest { IsAtRest routed.now buffers.old.tasks.items [] buffers.old.boxes
+        (seen course.old) }
     ensures course { OnOk result (seen course.new
-        ≡ happen fixed.now.scene (wiring_at fixed.now) input.now.time (seen course.old)
+        ≡ happen routed.now.scene (wiring_at routed.now) input.now.time (seen course.old)
         input.now.cause) }
     ensures rest { OnOk result
-        (IsAtRest fixed.now bench.new.tasks.items [] bench.new.boxes (seen course.new)) }
+        (IsAtRest routed.now buffers.new.tasks.items [] buffers.new.boxes (seen course.new)) }
     ensures scripts { HasSameScripts (seen course.old) (seen course.new) }
 {
     match input.cause() {
-        Cause::Clock => clock(fixed, &mut bench.tasks, course, &mut bench.boxes, input),
-        Cause::Pointer(pointer) => point(fixed, bench, course, pointer),
+        Cause::Clock => clock(
+            routed,
+            &mut buffers.tasks,
+            course,
+            &mut buffers.boxes,
+            input,
+        ),
+        Cause::Pointer(pointer) => point(routed, buffers, course, pointer),
     }
 }
 
 /// The world moves on by one input.
 #[tactic(auto, unfolding(crate::specs::Apply::apply))]
 pub fn advance<B: Behaviour>(
-    fixed: &RoutedScene,
-    bench: &mut Buffers,
+    routed: &RoutedScene,
+    buffers: &mut Buffers,
     course: &mut Course<B>,
     input: &Stamped,
 ) -> Result<Work, AllocError>
-    requires rest { IsAtRest fixed.now [] [] bench.old.boxes (seen course.old) }
-    requires scene { HasSceneScripts fixed.now (seen course.old) }
+    requires rest { IsAtRest routed.now [] [] buffers.old.boxes (seen course.old) }
+    requires scene { HasSceneScripts routed.now (seen course.old) }
     requires next { input.now.number ≡ course.old.live.world.applied + 1 }
     ensures world { OnOk result (ended (seen course.new)
-        ≡ apply fixed.now.scene fixed.now.routes (ended (seen course.old)) input.now) }
+        ≡ apply routed.now.scene routed.now.routes (ended (seen course.old)) input.now) }
     ensures rest { OnOk result
-        (IsAtRest fixed.now bench.new.tasks.items [] bench.new.boxes (seen course.new)) }
+        (IsAtRest routed.now buffers.new.tasks.items [] buffers.new.boxes (seen course.new)) }
     ensures work { IfOk result
-        (IsWork fixed.now.routes course.old.live.world.trace course.new.live.world.trace
-        (course_after fixed.now.scene fixed.now.routes (ended (seen course.old))
+        (IsWork routed.now.routes course.old.live.world.trace course.new.live.world.trace
+        (course_after routed.now.scene routed.now.routes (ended (seen course.old))
         input.now).settling.settled) }
     ensures scripts { HasSameScripts (seen course.old) (seen course.new) }
 {
-    bench.tasks.clear();
+    buffers.tasks.clear();
     course.begin(input);
-    happen(fixed, bench, course, input)?;
-    settle(fixed, &mut bench.tasks, course, &mut bench.boxes)?;
+    happen(routed, buffers, course, input)?;
+    settle(routed, &mut buffers.tasks, course, &mut buffers.boxes)?;
     let sent = course.live.sent.as_slice();
     Ok(Work {
         sends: sent.len(),
-        deliveries: deliveries(&fixed.routes, sent),
+        deliveries: deliveries(&routed.routes, sent),
         settles: course.settling.settles(),
     })
 }

@@ -7,7 +7,7 @@ ghost use Rattle.cascade_core.specs.Resting.{HasSameScripts, IsAtRest};
 ghost use Rattle.cascade_core.specs.Settles.{settle as settle_of, settle_one as settle_one_of};
 
 use crate::course::Course;
-use crate::fixed::RoutedScene;
+use crate::routed::RoutedScene;
 use crate::stack::send_replies;
 use cascade_rules::CascadeTask;
 use pick_core::BoxCache;
@@ -17,46 +17,46 @@ use std::alloc::AllocError;
 
 /// A script that is due settles, and what its node sends is followed.
 fn settle_one<B: Behaviour>(
-    fixed: &RoutedScene,
+    routed: &RoutedScene,
     tasks: &mut Vec<CascadeTask>,
     course: &mut Course<B>,
     replies: &mut Outbox,
     boxes: &mut BoxCache,
     k: usize,
 ) -> Result<(), AllocError>
-    requires rest { IsAtRest fixed.now tasks.old.items replies.old.items boxes.old
+    requires rest { IsAtRest routed.now tasks.old.items replies.old.items boxes.old
         (seen course.old) }
     requires there { k < length course.old.scripts }
     requires due { is_due course.old.settling k ≡ true }
     ensures course { OnOk result
-        (seen course.new ≡ settle_one_of (wiring_at fixed.now) (seen course.old) k) }
+        (seen course.new ≡ settle_one_of (wiring_at routed.now) (seen course.old) k) }
     ensures rest { OnOk result
-        (IsAtRest fixed.now tasks.new.items replies.new.items boxes.new (seen course.new)) }
+        (IsAtRest routed.now tasks.new.items replies.new.items boxes.new (seen course.new)) }
     ensures scripts { HasSameScripts (seen course.old) (seen course.new) }
 {
-    course.scripts.settle(k, fixed.runs.ports(k), replies);
+    course.scripts.settle(k, routed.runs.ports(k), replies);
     course.settling.settle(k)?;
-    send_replies(fixed, tasks, course, replies, boxes, fixed.runs.node(k))
+    send_replies(routed, tasks, course, replies, boxes, routed.runs.node(k))
 }
 
 /// Scripts settle until none is due.
 pub fn settle<B: Behaviour>(
-    fixed: &RoutedScene,
+    routed: &RoutedScene,
     tasks: &mut Vec<CascadeTask>,
     course: &mut Course<B>,
     boxes: &mut BoxCache,
 ) -> Result<(), AllocError>
-    requires rest { IsAtRest fixed.now tasks.old.items [] boxes.old (seen course.old) }
+    requires rest { IsAtRest routed.now tasks.old.items [] boxes.old (seen course.old) }
     requires fresh { course.old.settling.settled ≡ [] }
     ensures course { OnOk result
-        (seen course.new ≡ settle_of (wiring_at fixed.now) (seen course.old)) }
+        (seen course.new ≡ settle_of (wiring_at routed.now) (seen course.old)) }
     ensures rest { OnOk result
-        (IsAtRest fixed.now tasks.new.items [] boxes.new (seen course.new)) }
+        (IsAtRest routed.now tasks.new.items [] boxes.new (seen course.new)) }
     ensures scripts { HasSameScripts (seen course.old) (seen course.new) }
 {
     let mut replies = Outbox::new();
     while let Some(k) = course.settling.next() {
-        settle_one(fixed, tasks, course, &mut replies, boxes, k)?;
+        settle_one(routed, tasks, course, &mut replies, boxes, k)?;
     }
     Ok(())
 }

@@ -16,7 +16,7 @@ loop-block-preserved g c = record {
 pub returns-clause-course : goal.returns-clause-course
 returns-clause-course g c =
     blocks_ended _ _ c.loop-block.block _ c.loop-block-test.false ∙ c.loop-block.invariant.done
-    ∙ by-type is_time_sensor c.args.fixed.now.scene.nodes (tick_node (wiring_at c.args.fixed.now) c.args.input.now.time) (seen c.args.course.now) _ c.in_ok-count.ensures.ok
+    ∙ by-type is_time_sensor c.args.routed.now.scene.nodes (tick_node (wiring_at c.args.routed.now) c.args.input.now.time) (seen c.args.course.now) _ c.in_ok-count.ensures.ok
 
 pub returns-in_err-tick_block-clause-scripts : goal.returns-in_err-tick_block-clause-scripts
 returns-in_err-tick_block-clause-scripts g c = scripts_then c.loop-block.invariant.scripts c.tick_block.ensures.scripts

@@ -11,9 +11,9 @@ use Rattle.cascade_core.proofs.clock.clock.Given as goal
 -- the course now, after the blocks that are left, is what the definition gives for all nodes
 abbrev pub invariant-loop-block : goal.invariant-loop-block
 invariant-loop-block g l = record {
-  rest : IsAtRest l.fixed l.tasks.items l.replies.items l.boxes (seen l.course);
+  rest : IsAtRest l.routed l.tasks.items l.replies.items l.boxes (seen l.course);
   scripts : HasSameScripts (seen l.fn.course) (seen l.course);
   done :
-      fold (where_passes (is_clock (types_of l.fixed.scene)) (tick_node_of (wiring_at l.fixed) l.input.time)) (seen l.course) (range_with_len (l.block * 32) (l.count - l.block * 32))
-      ≡ fold (where_passes (is_clock (types_of l.fixed.scene)) (tick_node_of (wiring_at l.fixed) l.input.time)) (seen l.fn.course) (range_with_len (0 * 32) (l.count - 0 * 32));
+      fold (where_passes (is_clock (types_of l.routed.scene)) (tick_node_of (wiring_at l.routed) l.input.time)) (seen l.course) (range_with_len (l.block * 32) (l.count - l.block * 32))
+      ≡ fold (where_passes (is_clock (types_of l.routed.scene)) (tick_node_of (wiring_at l.routed) l.input.time)) (seen l.fn.course) (range_with_len (0 * 32) (l.count - 0 * 32));
 }

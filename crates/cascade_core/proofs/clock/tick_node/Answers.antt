@@ -10,11 +10,11 @@ send_replies-requires g c = record {
     empty = c.requires.rest.empty;
     none = refl;
     boxes = rw (c.tick.ensures.world, ticked-fields c.args.course.now.live.world c.args.node c.args.input.now.time) c.requires.rest.boxes;
-    cast = record { sound = c.requires.rest.cast.sound; counted = c.requires.rest.cast.counted };
+    has_scripts = record { sound = c.requires.rest.has_scripts.sound; counted = c.requires.rest.has_scripts.counted };
   };
   ready =
       rw c.tick.ensures.replies
-      (ticked-ready c.args.fixed.now.scene c.args.course.now.live.world c.args.node c.args.input.now.time c.requires.clock);
+      (ticked-ready c.args.routed.now.scene c.args.course.now.live.world c.args.node c.args.input.now.time c.requires.clock);
 }
 
 pub returns-clause-scripts : goal.returns-clause-scripts

@@ -11,10 +11,10 @@ use Rattle.cascade_core.proofs.opening.send_all.Given as goal
 -- the course now, with what is left to send, is what sending all gives
 abbrev pub invariant-loop-sending : goal.invariant-loop-sending
 invariant-loop-sending g l = record {
-  rest : IsAtRest l.fixed l.tasks.items [] l.boxes (seen l.course);
+  rest : IsAtRest l.routed l.tasks.items [] l.boxes (seen l.course);
   scripts : HasSameScripts (seen l.fn.course) (seen l.course);
-  outputs : list_all (are_sent (shapes_of l.fixed.scene)) (into_iter_items l.sending-iterator) ≡ true;
+  outputs : list_all (are_sent (shapes_of l.routed.scene)) (into_iter_items l.sending-iterator) ≡ true;
   done :
-      sent_by_all (wiring_at l.fixed) (seen l.course) (into_iter_items l.sending-iterator)
-      ≡ sent_by_all (wiring_at l.fixed) (seen l.fn.course) l.fn.sendings.items;
+      sent_by_all (wiring_at l.routed) (seen l.course) (into_iter_items l.sending-iterator)
+      ≡ sent_by_all (wiring_at l.routed) (seen l.fn.course) l.fn.sendings.items;
 }

@@ -7,7 +7,7 @@ use Rattle.cascade_core.proofs.opening.send_and_settle.Goals as goal
 pub settle-requires-clause-fresh : goal.settle-requires-clause-fresh
 settle-requires-clause-fresh g c =
     ap (λ (d : Course). d.settling.settled) c.in_ok-send_all.ensures.course
-    ∙ sent_unsettled (wiring_at c.args.fixed.now) (seen c.args.course.now) c.args.sendings.items c.requires.fresh
+    ∙ sent_unsettled (wiring_at c.args.routed.now) (seen c.args.course.now) c.args.sendings.items c.requires.fresh
 
 pub returns-in_err-settle-clause-scripts : goal.returns-in_err-settle-clause-scripts
 returns-in_err-settle-clause-scripts g c = scripts_then c.send_all.ensures.scripts c.settle.ensures.scripts

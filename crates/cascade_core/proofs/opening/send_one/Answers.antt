@@ -8,7 +8,7 @@ use Rattle.cascade_core.proofs.opening.send_one.Goals as goal
 
 pub send_replies-requires-clause-ready : goal.send_replies-requires-clause-ready
 send_replies-requires-clause-ready g c =
-    let shapes = shapes_of c.args.fixed.now.scene in
+    let shapes = shapes_of c.args.routed.now.scene in
     replies_ready shapes _ _ (ap (are_sent shapes) c.sending.view_is ∙ c.requires.outputs)
 
 pub returns-clause-course : goal.returns-clause-course

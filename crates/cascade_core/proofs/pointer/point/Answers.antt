@@ -7,7 +7,7 @@ point_concerned-requires g c = record {
     empty = c.requires.rest.empty;
     none = refl;
     boxes = rw c.set_button.ensures c.requires.rest.boxes;
-    cast = record { sound = c.requires.rest.cast.sound; counted = c.requires.rest.cast.counted };
+    has_scripts = record { sound = c.requires.rest.has_scripts.sound; counted = c.requires.rest.has_scripts.counted };
   };
 }
 

@@ -20,8 +20,8 @@ loop-block-preserved g c = record {
 pub returns-clause-course : goal.returns-clause-course
 returns-clause-course g c =
     blocks_ended _ _ c.loop-block.block _ c.loop-block-test.false ∙ c.loop-block.invariant.done
-    ∙ by-type is_pointing c.args.fixed.now.scene.nodes (untracked_by (point_node c.args.fixed.now.scene (wiring_at c.args.fixed.now) c.args.aim.now.pointer c.args.aim.now.before (insides_seen c.args.aim.now.inside))) (seen c.args.course.now) _ c.in_ok-count.ensures.ok
-    ∙ untracked-all (point_node c.args.fixed.now.scene (wiring_at c.args.fixed.now) c.args.aim.now.pointer c.args.aim.now.before (insides_seen c.args.aim.now.inside)) (seen c.args.course.now) (pointing_sensors_of (types_of c.args.fixed.now.scene))
+    ∙ by-type is_pointing c.args.routed.now.scene.nodes (untracked_by (point_node c.args.routed.now.scene (wiring_at c.args.routed.now) c.args.aim.now.pointer c.args.aim.now.before (insides_seen c.args.aim.now.inside))) (seen c.args.course.now) _ c.in_ok-count.ensures.ok
+    ∙ untracked-all (point_node c.args.routed.now.scene (wiring_at c.args.routed.now) c.args.aim.now.pointer c.args.aim.now.before (insides_seen c.args.aim.now.inside)) (seen c.args.course.now) (pointing_sensors_of (types_of c.args.routed.now.scene))
 
 pub returns-in_err-point_block-clause-scripts : goal.returns-in_err-point_block-clause-scripts
 returns-in_err-point_block-clause-scripts g c = scripts_then c.loop-block.invariant.scripts c.point_block.ensures.scripts

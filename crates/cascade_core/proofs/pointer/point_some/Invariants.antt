@@ -12,9 +12,9 @@ use Rattle.cascade_core.proofs.pointer.point_some.Given as goal
 -- the course now, after the nodes that are left, is what the definition gives for all of them
 abbrev pub invariant-loop-node : goal.invariant-loop-node
 invariant-loop-node g l = record {
-  rest : IsAtRest l.fixed l.tasks.items l.replies.items l.boxes (seen l.course);
+  rest : IsAtRest l.routed l.tasks.items l.replies.items l.boxes (seen l.course);
   scripts : HasSameScripts (seen l.fn.course) (seen l.course);
   done :
-      fold (where_passes (is_sensor (types_of l.fixed.scene)) (untracked_by (point_node_of l.fixed.scene (wiring_at l.fixed) l.aim.pointer l.aim.before (insides_seen l.aim.inside)))) (seen l.course) (range_with_len l.node (l.end - l.node))
-      ≡ fold (where_passes (is_sensor (types_of l.fixed.scene)) (untracked_by (point_node_of l.fixed.scene (wiring_at l.fixed) l.aim.pointer l.aim.before (insides_seen l.aim.inside)))) (seen l.fn.course) (range_with_len l.start (l.end - l.start));
+      fold (where_passes (is_sensor (types_of l.routed.scene)) (untracked_by (point_node_of l.routed.scene (wiring_at l.routed) l.aim.pointer l.aim.before (insides_seen l.aim.inside)))) (seen l.course) (range_with_len l.node (l.end - l.node))
+      ≡ fold (where_passes (is_sensor (types_of l.routed.scene)) (untracked_by (point_node_of l.routed.scene (wiring_at l.routed) l.aim.pointer l.aim.before (insides_seen l.aim.inside)))) (seen l.fn.course) (range_with_len l.start (l.end - l.start));
 }

@@ -8,12 +8,12 @@ use Rattle.cascade_core.proofs.settle.settle.Given as goal
 -- the course now, after the scripts that are left have settled, is what the definition gives for all
 abbrev pub invariant-loop-k : goal.invariant-loop-k
 invariant-loop-k g l = record {
-  rest : IsAtRest l.fixed l.tasks.items l.replies.items l.boxes (seen l.course);
+  rest : IsAtRest l.routed l.tasks.items l.replies.items l.boxes (seen l.course);
   scripts : HasSameScripts (seen l.fn.course) (seen l.course);
   done :
-      settle_up_to (wiring_at l.fixed) l.fn.course.settling.count (seen l.course)
-      ≡ settle_up_to (wiring_at l.fixed) l.fn.course.settling.count (seen l.fn.course);
+      settle_up_to (wiring_at l.routed) l.fn.course.settling.count (seen l.course)
+      ≡ settle_up_to (wiring_at l.routed) l.fn.course.settling.count (seen l.fn.course);
 }
 
 abbrev pub decreases-loop-k : goal.decreases-loop-k
-decreases-loop-k g l = due_left (wiring_at l.fixed) (seen l.course)
+decreases-loop-k g l = due_left (wiring_at l.routed) (seen l.course)

@@ -7,7 +7,7 @@ use Rattle.cascade_rules.specs.declared.tasks.CascadeTask.TheVariants.{Follow}
 use Rattle.script_running.specs.Acting.{kinds_of}
 use Rattle.cascade_rules.proofs.Sends.{is_first, moves, stands, was_sent}
 use Rattle.cascade_core.proofs.Depths.{send_full-sent}
-use Rattle.cascade_core.proofs.SoundLemmas.{cast_stands}
+use Rattle.cascade_core.proofs.SoundLemmas.{has_scripts_still}
 use Rattle.cascade_core.proofs.Tasks.{begin-done, begin-fewer, finish-push, work-push}
 use Rattle.cascade_core.proofs.stack.begin.Goals as goal
 
@@ -21,7 +21,7 @@ follow-requires g c =
         ready = c.requires.working.ready;
         none = c.requires.working.none;
         boxes = rw (moves _ _ _ _ c.in-Ok.ensures.live new) c.requires.working.boxes;
-        cast = cast_stands (wiring_at c.args.fixed.now) (seen c.args.course.now) _ refl refl c.requires.working.cast;
+        has_scripts = has_scripts_still (wiring_at c.args.routed.now) (seen c.args.course.now) _ refl refl c.requires.working.has_scripts;
       };
     }
 
@@ -30,8 +30,8 @@ returns-then-sends-clause-done g c =
     let new : has_sent c.args.course.now.live.sent c.args.source ≡ false = is_first _ _ c.in-Ok.ensures.first c.if-sends.true in
     c.in_ok-follow.ensures.done
     ∙ (rw (moves _ _ _ _ c.in-Ok.ensures.live new)
-    (sym (finish-push (wiring_at c.args.fixed.now) (recorded (seen c.args.course.now) c.args.source c.args.value) c.args.tasks.now.items (Follow c.args.source c.args.value 0))
-    ∙ begin-done (wiring_at c.args.fixed.now) (kinds_of c.args.course.now.scripts) c.requires.working.cast.sound (seen c.args.course.now) c.args.source c.args.value c.args.tasks.now.items c.requires.task refl new))
+    (sym (finish-push (wiring_at c.args.routed.now) (recorded (seen c.args.course.now) c.args.source c.args.value) c.args.tasks.now.items (Follow c.args.source c.args.value 0))
+    ∙ begin-done (wiring_at c.args.routed.now) (kinds_of c.args.course.now.scripts) c.requires.working.has_scripts.sound (seen c.args.course.now) c.args.source c.args.value c.args.tasks.now.items c.requires.task refl new))
 
 pub returns-then-sends-clause-fewer : goal.returns-then-sends-clause-fewer
 returns-then-sends-clause-fewer g c =
@@ -39,8 +39,8 @@ returns-then-sends-clause-fewer g c =
     omega (
       arith,
       rw (moves _ _ _ _ c.in-Ok.ensures.live new) at c.in_ok-follow.ensures.fewer,
-      work-push (wiring_at c.args.fixed.now) (recorded (seen c.args.course.now) c.args.source c.args.value) c.args.tasks.now.items (Follow c.args.source c.args.value 0),
-      begin-fewer (wiring_at c.args.fixed.now) (seen c.args.course.now) c.args.source c.args.value c.args.tasks.now.items c.requires.task new,
+      work-push (wiring_at c.args.routed.now) (recorded (seen c.args.course.now) c.args.source c.args.value) c.args.tasks.now.items (Follow c.args.source c.args.value 0),
+      begin-fewer (wiring_at c.args.routed.now) (seen c.args.course.now) c.args.source c.args.value c.args.tasks.now.items c.requires.task new,
     )
 
 -- ---- it has sent before
@@ -49,8 +49,8 @@ pub returns-clause-done : goal.returns-clause-done
 returns-clause-done g c =
     let before : has_sent c.args.course.now.live.sent c.args.source ≡ true = was_sent _ _ c.in-Ok.ensures.first c.if-sends.false in
     rw (stands _ _ _ _ c.in-Ok.ensures.live before)
-    (ap (λ (t : Course). finish (wiring_at c.args.fixed.now) t c.args.tasks.now.items)
-    (sym (send_full-sent (wiring_at c.args.fixed.now) (seen c.args.course.now) c.args.source c.args.value before)))
+    (ap (λ (t : Course). finish (wiring_at c.args.routed.now) t c.args.tasks.now.items)
+    (sym (send_full-sent (wiring_at c.args.routed.now) (seen c.args.course.now) c.args.source c.args.value before)))
 
 pub returns-clause-fewer : goal.returns-clause-fewer
 returns-clause-fewer g c =

@@ -9,7 +9,7 @@ run_tasks-requires g c = record {
     ready = rw (c.in_ok-push_replies.ensures.tasks, c.requires.rest.empty) c.requires.ready;
     none = c.in_ok-push_replies.ensures.none;
     boxes = c.requires.rest.boxes;
-    cast = c.requires.rest.cast;
+    has_scripts = c.requires.rest.has_scripts;
   };
 }
 
@@ -17,4 +17,4 @@ pub returns-clause-course : goal.returns-clause-course
 returns-clause-course g c =
     c.in_ok-run_tasks.ensures.course
     ∙ rw (c.in_ok-push_replies.ensures.tasks, c.requires.rest.empty)
-    (finish-all (wiring_at c.args.fixed.now) c.args.node c.args.replies.now.items (seen c.args.course.now))
+    (finish-all (wiring_at c.args.routed.now) c.args.node c.args.replies.now.items (seen c.args.course.now))
