@@ -146,7 +146,7 @@ impl fmt::Display for Fault {
             }
             Fault::Short => "the snapshot is not whole",
             Fault::BadMagic => "this is no snapshot",
-            Fault::BadVersion => "the version is not 1",
+            Fault::BadVersion => "the version is none that is read",
             Fault::WrongScene => "this is of another scene",
             Fault::BadDigest => "the snapshot was altered",
             Fault::NotCanonical => "the snapshot is none that could be written",

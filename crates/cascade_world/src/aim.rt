@@ -4,6 +4,7 @@ ghost use Rattle.std.specs.Prelude.{◌≡◌, ◌<◌, ◌≤◌, pos, map, len
 ghost use Rattle.std.specs.Option.{option_copied, option_map};
 ghost use Rattle.sensor_plane.specs.Paths.{list_path};
 ghost use Rattle.pick_core.specs.Sites.{rows_of};
+ghost use Rattle.scene_core.specs.Places.{max_sensors};
 ghost use Rattle.cascade_world.specs.Answers.{pointer_at};
 ghost use Rattle.cascade_world.specs.Insides.{contact_by, contact_in, contact_of, inside_at, inside_by, insides as insides_of, place_in, seen};
 
@@ -176,7 +177,7 @@ fn sensors_inside(
     sensors: &[u32],
 ) -> ArrayVec<Inside, MAX_SENSORS>
     requires within { 0 < hit.now.m }
-    requires few { length sensors.now ≤ 64 }
+    requires few { length sensors.now ≤ max_sensors }
     ensures { result.items ≡ map (inside_by scene.now state.now ray hit.now) sensors.now }
 {
     let mut inside = ArrayVec::new();

@@ -2,6 +2,7 @@
 -- Transform, Switch).
 use Rattle.std.specs.Prelude.{ℕ, zero, suc, ℤ, pos, negsuc, List, [], ◌∷◌, map, Option, Some, None, slice_get}
 use Rattle.std.specs.Option.{option_map}
+use Rattle.x3d_values.specs.Ranges.{max_depth}
 use Rattle.x3d_values.specs.declared.fields.Fields.{Fields}
 use Rattle.scene_core.specs.Scene.{SceneView}
 use Rattle.pick_rules.specs.declared.bounds.Bounds.{Bounds}
@@ -50,6 +51,6 @@ inside scene state (suc depth) node =
     layer (under scene state) (inside scene state depth) (choice_of (slice_get state node))
     (kind_of scene node) (listed scene node)
 
--- the boxes in the world; no chain of nodes in a scene is longer than 64
+-- the boxes in the world; no chain of nodes in a scene is longer than `max_depth`
 unfoldable pub boxes : SceneView → List Fields → List Placed
-boxes scene state = spread (under scene state) (inside scene state 64) 0 scene.roots
+boxes scene state = spread (under scene state) (inside scene state max_depth) 0 scene.roots

@@ -1,6 +1,7 @@
 -- The places of boxes, shown or not, and the rows that a cache keeps of them.
 use Rattle.std.specs.Prelude.{◌≡◌, ℕ, zero, suc, pos, negsuc, ℤ, List, [], ◌∷◌, ◌++◌, map, slice_get, Option, Some, None, Bool, true, false, ◌==◌, ◌&&◌, if◌then◌else◌}
 use Rattle.std.specs.List.{list_any}
+use Rattle.x3d_values.specs.Ranges.{max_depth}
 use Rattle.x3d_values.specs.declared.fields.Fields.{Fields}
 use Rattle.x3d_values.specs.declared.vector.Vec3.{Vec3}
 use Rattle.scene_core.specs.Scene.{SceneView}
@@ -38,7 +39,7 @@ sites_in scene (suc depth) node =
 
 -- all places of boxes
 unfoldable pub sites : SceneView → List Site
-sites scene = spread site_under (sites_in scene 64) 0 scene.roots
+sites scene = spread site_under (sites_in scene max_depth) 0 scene.roots
 
 -- a Switch shows one child
 abbrev pub shows : ℤ → ℕ → Bool

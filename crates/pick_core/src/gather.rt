@@ -1,12 +1,13 @@
 //! The rows of all boxes of a scene, shown or not, in the order of their paths.
 
 ghost use Rattle.std.specs.Prelude.{◌≡◌, [], ◌∷◌, ◌++◌, ◌+◌, ◌<◌, ◌≤◌, length, map, IfOk, OnOk};
+ghost use Rattle.x3d_values.specs.Ranges.{max_depth};
 ghost use Rattle.pick_core.specs.Sites.{row_at, row_of, rows_of, site_under, sites_in};
 ghost use Rattle.pick_core.specs.Spread.{spread};
 
 use crate::look::{Role, kind_of, listed};
 use crate::row::{BoxRow, row_of};
-use crate::trail::Place;
+use crate::trail::{DEPTH, Place};
 use arrayvec::ArrayVec;
 use scene_core::Scene;
 use std::alloc::{AllocError, Global};
@@ -15,7 +16,7 @@ use x3d_values::{Fields, Vec3};
 /// Where a walk is, and the rows so far.
 #[derive(Drop)]
 struct Gathering {
-    trail: ArrayVec<Place, 64>,
+    trail: ArrayVec<Place, DEPTH>,
     rows: Vec<BoxRow>,
 }
 
@@ -31,7 +32,7 @@ pub(crate) fn gathered(
         trail: ArrayVec::new(),
         rows: Vec::new(alloc),
     };
-    gather_all(alloc, scene, state, 64, scene.roots(), &mut walk)?;
+    gather_all(alloc, scene, state, DEPTH, scene.roots(), &mut walk)?;
     Ok(walk.rows)
 }
 
@@ -87,7 +88,7 @@ fn gather_place(
     place: Place,
     walk: &mut Gathering,
 ) -> Result<(), AllocError>
-    requires room { length walk.old.trail.items + depth ≤ 64 }
+    requires room { length walk.old.trail.items + depth ≤ max_depth }
     ensures trail { OnOk result (walk.new.trail.items ≡ walk.old.trail.items) }
     ensures rows { OnOk result (walk.new.rows.items
         ≡ walk.old.rows.items
@@ -112,7 +113,7 @@ fn gather_all(
     nodes: &[u32],
     walk: &mut Gathering,
 ) -> Result<(), AllocError>
-    requires room { length walk.old.trail.items + depth ≤ 64 }
+    requires room { length walk.old.trail.items + depth ≤ max_depth }
     ensures trail { OnOk result (walk.new.trail.items ≡ walk.old.trail.items) }
     ensures rows { OnOk result (walk.new.rows.items
         ≡ walk.old.rows.items

@@ -3,14 +3,14 @@
 ghost use Rattle.std.specs.Prelude.{◌≡◌, ◌≤◌, length, map};
 ghost use Rattle.pick_core.specs.Trail.{positions};
 
-use crate::trail::Place;
+use crate::trail::{DEPTH, Place};
 use arrayvec::ArrayVec;
 use std::marker::Model;
 
 /// The positions that lead from the roots of a scene down to a Shape, from 0, the root's first.
 #[derive(Drop)]
 pub struct Path {
-    positions: ArrayVec<usize, 64>,
+    positions: ArrayVec<usize, DEPTH>,
 }
 
 impl Model for Path {
@@ -32,11 +32,12 @@ pub struct Hit {
 
 impl Path {
     ghost use Rattle.std.specs.Prelude.{◌≡◌, ◌≤◌, length};
+    ghost use Rattle.x3d_values.specs.Ranges.{max_depth};
     ghost use Rattle.pick_core.specs.Trail.{positions};
 
     /// The positions of a trail.
     pub(crate) fn along(trail: &[Place]) -> Path
-        requires { length trail.now ≤ 64 }
+        requires { length trail.now ≤ max_depth }
         ensures { result ≡ positions trail.now }
     {
         let mut path = ArrayVec::new();

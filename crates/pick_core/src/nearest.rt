@@ -1,6 +1,7 @@
 //! The nearest of the boxes so far.
 
 ghost use Rattle.std.specs.Prelude.{◌≡◌, ◌≤◌, length};
+ghost use Rattle.x3d_values.specs.Ranges.{max_depth};
 ghost use Rattle.pick_core.specs.Picked as spec;
 ghost use Rattle.pick_core.specs.Trail.{positions};
 
@@ -13,7 +14,7 @@ use x3d_values::Ray;
 /// Keeps the hit of a box at the end of a trail where it is nearer than the best.
 #[tactic(auto, unfolding(crate::specs::Picked::nearer))]
 pub(crate) fn keep_nearer(trail: &[Place], bounds: Bounds, ray: Ray, best: &mut Option<Hit>)
-    requires { length trail.now ≤ 64 }
+    requires { length trail.now ≤ max_depth }
     ensures { best.new
         ≡ spec.nearer ray best.old (record { path = positions trail.now; bounds = bounds }) }
 {

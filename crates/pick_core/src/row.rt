@@ -1,6 +1,7 @@
 //! A box at its place, as a cache keeps it.
 
 ghost use Rattle.std.specs.Prelude.{◌≡◌, ◌≤◌, length, map, slice_get, IfOk};
+ghost use Rattle.x3d_values.specs.Ranges.{max_depth};
 ghost use Rattle.pick_core.specs.Sites as spec;
 
 use crate::look::{Role, choice_of, kind_of};
@@ -28,7 +29,7 @@ pub(crate) fn row_of(
     trail: &[Place],
     size: Vec3,
 ) -> Result<BoxRow, AllocError>
-    requires { length trail.now ≤ 64 }
+    requires { length trail.now ≤ max_depth }
     ensures { IfOk result (λ row. row ≡ spec.row_of scene.now state.now trail.now size) }
 {
     Ok(BoxRow {

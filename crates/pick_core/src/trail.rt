@@ -9,7 +9,7 @@ use scene_core::Scene;
 use std::alloc::{AllocError, Global};
 use std::marker::Model;
 use x3d_lists::Items;
-use x3d_values::Fields;
+use x3d_values::{Fields, MAX_DEPTH};
 
 /// A node and its position among its siblings, from 0.
 #[derive(Clone, Copy, Default)]
@@ -18,7 +18,10 @@ pub struct Place {
     pub node: u32,
 }
 
-/// The places from a root of a scene down to a node, at most 64.
+/// How many places a trail may have: as many as a chain has nodes.
+pub(crate) const DEPTH: usize = MAX_DEPTH as usize;
+
+/// The places from a root of a scene down to a node, at most `DEPTH`.
 #[derive(Drop)]
 pub(crate) struct Trail {
     places: Items<Place>,
@@ -26,20 +29,22 @@ pub(crate) struct Trail {
 
 impl Model for Trail {
     ghost use Rattle.std.specs.Prelude.{◌≤◌, List, length};
+    ghost use Rattle.x3d_values.specs.Ranges.{max_depth};
     ghost use Rattle.pick_core.specs.declared.trail.Place.{Place};
 
     ghost Value = { List Place };
 
     ghost view = { λ t. t.places };
 
-    ghost invariant = { λ t. length t.places ≤ 64 };
+    ghost invariant = { λ t. length t.places ≤ max_depth };
 }
 
 impl Trail {
     ghost use Rattle.std.specs.Prelude.{◌≡◌, ◌≤◌, length, IfOk};
+    ghost use Rattle.x3d_values.specs.Ranges.{max_depth};
 
     pub(crate) fn of(alloc: Global, places: &[Place]) -> Result<Trail, AllocError>
-        requires { length places.now ≤ 64 }
+        requires { length places.now ≤ max_depth }
         ensures { IfOk result (λ trail. trail ≡ places.now) }
     {
         Ok(Trail {
@@ -49,7 +54,7 @@ impl Trail {
 
     pub(crate) fn as_slice(&self) -> &[Place]
         ensures value { result.now ≡ self.now }
-        ensures fits { length result.now ≤ 64 }
+        ensures fits { length result.now ≤ max_depth }
     {
         self.places.as_slice()
     }

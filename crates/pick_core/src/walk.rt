@@ -2,6 +2,7 @@
 
 ghost use Rattle.std.specs.Prelude.{◌≡◌, ◌+◌, ◌<◌, ◌≤◌, length, map, None, slice_get};
 ghost use Rattle.std.specs.List.{fold};
+ghost use Rattle.x3d_values.specs.Ranges.{max_depth};
 ghost use Rattle.pick_core.specs.Boxes.{boxes, inside, under, shown_child as shown_child_of};
 ghost use Rattle.pick_core.specs.Looks.{listed as listed_in, choice_of as which_of};
 ghost use Rattle.pick_core.specs.Motion.{box_of};
@@ -14,7 +15,7 @@ use crate::hit::Hit;
 use crate::look::{Role, choice_of, kind_of, listed};
 use crate::motion::box_round;
 use crate::nearest::keep_nearer;
-use crate::trail::{Place, carry};
+use crate::trail::{DEPTH, Place, carry};
 use arrayvec::ArrayVec;
 use scene_core::Scene;
 use x3d_values::{Fields, Ray, Vec3};
@@ -22,7 +23,7 @@ use x3d_values::{Fields, Ray, Vec3};
 /// Where a walk is, and the nearest hit so far.
 #[derive(Drop)]
 struct Walk {
-    trail: ArrayVec<Place, 64>,
+    trail: ArrayVec<Place, DEPTH>,
     best: Option<Hit>,
 }
 
@@ -37,7 +38,7 @@ pub fn pick(scene: &Scene, state: &[Fields], ray: Ray) -> Option<Hit>
         trail: ArrayVec::new(),
         best: None,
     };
-    visit_all(scene, state, ray, 64, scene.roots(), &mut walk);
+    visit_all(scene, state, ray, DEPTH, scene.roots(), &mut walk);
     walk.best
 }
 
@@ -116,7 +117,7 @@ fn visit_place(
     place: Place,
     walk: &mut Walk,
 )
-    requires room { length walk.old.trail.items + depth ≤ 64 }
+    requires room { length walk.old.trail.items + depth ≤ max_depth }
     ensures trail { walk.new.trail.items ≡ walk.old.trail.items }
     ensures best { walk.new.best
         ≡ fold (nearer ray) walk.old.best
@@ -141,7 +142,7 @@ fn visit_all(
     nodes: &[u32],
     walk: &mut Walk,
 )
-    requires room { length walk.old.trail.items + depth ≤ 64 }
+    requires room { length walk.old.trail.items + depth ≤ max_depth }
     ensures trail { walk.new.trail.items ≡ walk.old.trail.items }
     ensures best { walk.new.best
         ≡ fold (nearer ray) walk.old.best
