@@ -147,6 +147,14 @@ pub record IsExchange (result : Result (Unit {0}) TurnFault) (mark : List ℕ) (
   pub memory : IsAnswerAfter (refused ∷ []) result
   pub told : Grows told_before told_after (sent_to came.peer sent)
 
+-- the same, of any datagram from this peer that was decoded so
+abbrev pub IsExchangeOf : (result : Result (Unit {0}) TurnFault) → (mark : List ℕ) → HostPart
+    → (peer : ℕ) → (read : Result Message WireFault)
+    → (told_before told_after : Option (List Traffic)) → (new : HostPart) → Type 0
+IsExchangeOf result mark h peer read a b new =
+    (bytes : List ℕ) → read ≡ decoded bytes
+    → IsExchange result mark h (record { peer = peer; bytes = bytes }) a b new
+
 -- where others follow, all was sent: a port that fails ends the turn
 abbrev pub is_whole_before : (whole : Bool) → (others : List Exchange) → Bool
 is_whole_before whole [] = whole
