@@ -1,6 +1,5 @@
 -- A plain reading as a walk: its names and its routes.
 use Rattle.std.proofs.Common.{◌≡◌, ℕ, ◌+◌, Bool, true, false, if◌then◌else◌, List, [], ◌∷◌, ◌++◌, Option, Some, None, option_map, Ok, map, refl, ap, sym, ◌∙◌, slice_get}
-use Rattle.std.specs.Prelude.{codes}
 use Rattle.std.specs.List.{fold}
 use Rattle.std.specs.Option.{option_or, option_and_then, option_map_or}
 use Rattle.std.proofs.Math.Path.{fun_ext}
@@ -13,7 +12,7 @@ use Rattle.classic_tree.specs.declared.tree.RouteText.{RouteText}
 use Rattle.proto_flat.specs.declared.flat.FlatEnd.TheVariants.{At, NoNode}
 use Rattle.proto_flat.specs.declared.flat.FlatRoute.{FlatRoute}
 use Rattle.proto_meaning.specs.Limits.{AnItem, Outcome}
-use Rattle.proto_meaning.specs.Names.{Name, Stands, Braces, used, stands_at, ends_at, pairs}
+use Rattle.proto_meaning.specs.Names.{Name, Field, Stands, Braces, used, stands_at, ends_at, pairs, source_ends, source_in, target_ends, target_in}
 use Rattle.proto_meaning.specs.Names as names
 use Rattle.proto_meaning.specs.Sight.{no_names, OfType}
 use Rattle.proto_meaning.specs.Flat.{Walk, Does, Inside, field, note_route}
@@ -33,8 +32,8 @@ braces_of p = record { name = p.name; stands = option_map stands_for p.node }
 
 abbrev pub wire_pairs : List Braces → Wire → List FlatRoute
 wire_pairs all w =
-    pairs w.route.line (ends_at sends (λ name. name ++ codes "_changed") w.route.source.field (stands_at all w.source))
-    (ends_at receives (λ name. codes "set_" ++ name) w.route.target.field (stands_at all w.target))
+    pairs w.route.line (source_ends w.route.source.field (stands_at all w.source))
+    (target_ends w.route.target.field (stands_at all w.target))
 
 abbrev pub wired : List Braces → List Wire → List FlatRoute
 wired all [] = []
@@ -106,20 +105,20 @@ route_walks route r =
       noted : (List Braces → List FlatRoute) → Outcome (Unit {0} × Walk)
       noted routes = record { met = AnItem ∷ []; comes = Ok (tt, record (walk_of r) { scope = record (walk_of r).scope { routes = routes } }) }
 
-end_same : (allowed : Access → Bool) (other : Name → Name) (field : Name) (ps : List Pair) (at : Option ℕ) → ends_at allowed other field (stands_at (map braces_of ps) at) ≡ end_of ps at field ∷ []
-end_same allowed other field ps None = refl
-end_same allowed other field ps (Some k) = ap (λ o. ends_at allowed other field (option_and_then (λ (b : Braces). b.stands) o)) (slice_get-map braces_of ps k) ∙ on (slice_get ps k) where
-  closed : (n : Option ℕ) → ends_at allowed other field (option_map stands_for n) ≡ option_map_or (λ n. At n field) n NoNode ∷ []
+end_same : (allowed : Access → Bool) (named : List Field → Name → Option Field) (field : Name) (ps : List Pair) (at : Option ℕ) → ends_at allowed named field (stands_at (map braces_of ps) at) ≡ end_of ps at field ∷ []
+end_same allowed named field ps None = refl
+end_same allowed named field ps (Some k) = ap (λ o. ends_at allowed named field (option_and_then (λ (b : Braces). b.stands) o)) (slice_get-map braces_of ps k) ∙ on (slice_get ps k) where
+  closed : (n : Option ℕ) → ends_at allowed named field (option_map stands_for n) ≡ option_map_or (λ n. At n field) n NoNode ∷ []
   closed (Some n) = refl
   closed None = refl
 
-  on : (o : Option Pair) → ends_at allowed other field (option_and_then (λ (b : Braces). b.stands) (option_map braces_of o)) ≡ option_map_or (λ n. At n field) (option_and_then (λ (p : Pair). p.node) o) NoNode ∷ []
+  on : (o : Option Pair) → ends_at allowed named field (option_and_then (λ (b : Braces). b.stands) (option_map braces_of o)) ≡ option_map_or (λ n. At n field) (option_and_then (λ (p : Pair). p.node) o) NoNode ∷ []
   on (Some p) = closed p.node
   on None = refl
 
 pub all_wired : (ps : List Pair) (ws : List Wire) → wired (map braces_of ps) ws ≡ map (route_of ps) ws
 all_wired ps [] = refl
 all_wired ps (w ∷ ws) =
-    ap (λ es. pairs w.route.line es (ends_at receives (λ name. codes "set_" ++ name) w.route.target.field (stands_at (map braces_of ps) w.target)) ++ wired (map braces_of ps) ws) (end_same sends (λ name. name ++ codes "_changed") w.route.source.field ps w.source)
-    ∙ ap (λ es. pairs w.route.line (end_of ps w.source w.route.source.field ∷ []) es ++ wired (map braces_of ps) ws) (end_same receives (λ name. codes "set_" ++ name) w.route.target.field ps w.target)
+    ap (λ es. pairs w.route.line es (target_ends w.route.target.field (stands_at (map braces_of ps) w.target)) ++ wired (map braces_of ps) ws) (end_same sends source_in w.route.source.field ps w.source)
+    ∙ ap (λ es. pairs w.route.line (end_of ps w.source w.route.source.field ∷ []) es ++ wired (map braces_of ps) ws) (end_same receives target_in w.route.target.field ps w.target)
     ∙ ap (λ rs. route_of ps w ∷ rs) (all_wired ps ws)

@@ -7,6 +7,7 @@ use Rattle.std.specs.Str.{IsAscii}
 use Rattle.std.proofs.lemmas.Bool.{ltb-true}
 use Rattle.std.proofs.lemmas.List.{length-map}
 use Rattle.std.proofs.lemmas.Str.{IsUtf8-from_ascii}
+use Rattle.x3d_values.specs.Ranges.{is_time}
 use Rattle.x3d_values.specs.Defaults.{default_value}
 use Rattle.x3d_values.specs.Values.{empty_value}
 use Rattle.x3d_values.specs.declared.default.FieldDefault.{FieldDefault}
@@ -67,9 +68,6 @@ AreFew xs = length xs ≤ max_len
 
 abbrev is_number : ℤ → Bool
 is_number z = nat_le (unsigned_abs z) (10 ^ 15)
-
-abbrev is_time : ℤ → Bool
-is_time z = nat_le (unsigned_abs z) (10 ^ 18)
 
 -- numerals that are checked
 checked_so : (f : List ℤ → Value) (p : ℤ → Bool) (right : Bool) (xs : List ℤ) → IsShortValue max_len (f xs)

@@ -1,7 +1,7 @@
 -- The steps of a walk without lines: names, routes, and braces that close.
-use Rattle.std.proofs.Common.{◌≡◌, ℕ, ◌+◌, Bool, true, false, if◌then◌else◌, List, [], ◌∷◌, ◌++◌, codes, drop, length, Option, Some, None, option_map, map, bytes_eq, slice_get, slice_set, zero, suc, refl, ap, sym, ◌∙◌, subst}
-use Rattle.std.specs.Prelude.{◌&&◌, ◌||◌}
-use Rattle.std.specs.List.{find, fold, filter_map, cons_option, list_any}
+use Rattle.std.proofs.Common.{◌≡◌, ℕ, ◌+◌, Bool, true, false, if◌then◌else◌, List, [], ◌∷◌, ◌++◌, codes, drop, take, length, nat_eq, Option, Some, None, option_map, map, bytes_eq, slice_get, slice_set, zero, suc, refl, ap, sym, ◌∙◌, subst}
+use Rattle.std.specs.Prelude.{◌&&◌, ◌||◌, ◌-◌}
+use Rattle.std.specs.List.{find, fold, filter_map, cons_option, list_any, starts_with, ends_with}
 use Rattle.std.specs.Option.{option_and_then, option_map_or, option_or}
 use Rattle.std.proofs.lemmas.List.{length-map, map-append, map-set}
 use Rattle.std.proofs.lemmas.Option.{slice_get-map}
@@ -19,7 +19,7 @@ use Rattle.proto_flat.specs.declared.flat.FlatField.{FlatField}
 use Rattle.proto_flat.specs.declared.flat.FlatNode.{FlatNode}
 use Rattle.proto_flat.specs.declared.flat.FlatRoute.{FlatRoute}
 use Rattle.proto_meaning.specs.Limits.{AnItem}
-use Rattle.proto_meaning.specs.Names.{Name, Field, Filled, Stands, Braces, Scope, ends_at, ends_by, field_by, has_name, last_from, pairs, sources, stands_at, targets, used, value_of}
+use Rattle.proto_meaning.specs.Names.{Name, Field, Filled, Stands, Braces, Scope, ends_at, ends_by, exposed_field, has_name, last_from, own_field, pairs, source_in, sources, stands_at, target_in, targets, used, value_of}
 use Rattle.proto_meaning.specs.Sight.{Put, Owner}
 use Rattle.proto_meaning.specs.Flat.{Walk, Inside, close, close_node, flat_node, is_filled, meet, note, note_route, numbered_from, pure, refuse, renamed}
 use Rattle.laws_flat.specs.Lines.{unlined_field, unlined_flat_node, unlined_flat_route, unlined_route}
@@ -75,11 +75,29 @@ or_bare : (a b : Option Field) → option_or (option_map bare_field a) (option_m
 or_bare (Some a) b = refl
 or_bare None b = refl
 
-field_bare : (other : Name → Name) (name : Name) (fs : List Field) → field_by other name (bare_fields fs) ≡ option_map bare_field (field_by other name fs)
-field_bare other name fs =
-    ap (λ o. option_or o (find (λ f. is_exposed f.access && bytes_eq (other f.name) name) (bare_fields fs))) (find_bare (λ f. bytes_eq f.name name) (λ f. refl) fs)
-    ∙ ap (λ o. option_or (option_map bare_field (find (λ f. bytes_eq f.name name) fs)) o) (find_bare (λ f. is_exposed f.access && bytes_eq (other f.name) name) (λ f. refl) fs)
-    ∙ or_bare (find (λ f. bytes_eq f.name name) fs) (find (λ f. is_exposed f.access && bytes_eq (other f.name) name) fs)
+own_bare : (fs : List Field) (name : Name) → own_field (bare_fields fs) name ≡ option_map bare_field (own_field fs name)
+own_bare fs name = find_bare (λ f. bytes_eq f.name name) (λ f. refl) fs
+
+exposed_bare : (fs : List Field) (name : Name) → exposed_field (bare_fields fs) name ≡ option_map bare_field (exposed_field fs name)
+exposed_bare fs name = find_bare (λ f. is_exposed f.access && bytes_eq f.name name) (λ f. refl) fs
+
+-- by another name, where there may be none
+alias_bare : (b : Bool) (fs : List Field) (own name : Name)
+    → option_or (own_field (bare_fields fs) name) (if b then exposed_field (bare_fields fs) own else None) ≡ option_map bare_field (option_or (own_field fs name) (if b then exposed_field fs own else None))
+alias_bare true fs own name =
+    ap (λ o. option_or o (exposed_field (bare_fields fs) own)) (own_bare fs name)
+    ∙ ap (λ o. option_or (option_map bare_field (own_field fs name)) o) (exposed_bare fs own)
+    ∙ or_bare (own_field fs name) (exposed_field fs own)
+alias_bare false fs own name = ap (λ o. option_or o None) (own_bare fs name) ∙ or_bare (own_field fs name) None
+
+abbrev KeepsBare : (List Field → Name → Option Field) → Type 0
+KeepsBare named = (fs : List Field) (name : Name) → named (bare_fields fs) name ≡ option_map bare_field (named fs name)
+
+source_bare : KeepsBare source_in
+source_bare fs name = alias_bare (ends_with nat_eq name (codes "_changed")) fs (take (length name - length (codes "_changed")) name) name
+
+target_bare : KeepsBare target_in
+target_bare fs name = alias_bare (starts_with nat_eq name (codes "set_")) fs (drop (length (codes "set_")) name) name
 
 abbrev pub bare_numbered : ℕ × Field → ℕ × Field
 bare_numbered f = (f.0, bare_field f.1)
@@ -109,12 +127,12 @@ ends_by_bare : (allowed : Access → Bool) (s : Stands) (f : Option Field) → e
 ends_by_bare allowed s None = refl
 ends_by_bare allowed s (Some f) = refl
 
-ends_bare : (allowed : Access → Bool) (other : Name → Name) (field : Name) (s : Option Stands) → ends_at allowed other field (option_map bare_stands s) ≡ ends_at allowed other field s
-ends_bare allowed other field None = refl
-ends_bare allowed other field (Some s) = by_interface s.interface where
-  by_interface : (o : Option (List Field)) → option_map_or (λ fields. ends_by allowed (bare_stands s) (field_by other field fields)) (option_map bare_fields o) (s.ends field) ≡ option_map_or (λ fields. ends_by allowed s (field_by other field fields)) o (s.ends field)
+ends_bare : (allowed : Access → Bool) (named : List Field → Name → Option Field) (keeps : KeepsBare named) (field : Name) (s : Option Stands) → ends_at allowed named field (option_map bare_stands s) ≡ ends_at allowed named field s
+ends_bare allowed named keeps field None = refl
+ends_bare allowed named keeps field (Some s) = by_interface s.interface where
+  by_interface : (o : Option (List Field)) → option_map_or (λ fields. ends_by allowed (bare_stands s) (named fields field)) (option_map bare_fields o) (s.ends field) ≡ option_map_or (λ fields. ends_by allowed s (named fields field)) o (s.ends field)
   by_interface None = refl
-  by_interface (Some fs) = ap (ends_by allowed (bare_stands s)) (field_bare other field fs) ∙ ends_by_bare allowed s (field_by other field fs)
+  by_interface (Some fs) = ap (ends_by allowed (bare_stands s)) (keeps fs field) ∙ ends_by_bare allowed s (named fs field)
 
 one_source : (line : ℕ) (s : FlatEnd) (ts : List FlatEnd) → map unlined_flat_route (map (λ t. record { line = line; source = s; target = t }) ts) ≡ map (λ t. record { line = 0; source = s; target = t }) ts
 one_source line s [] = refl
@@ -127,12 +145,12 @@ pairs_bare line (s ∷ ss) ts =
     ∙ ap (λ rs. rs ++ map unlined_flat_route (pairs line ss ts)) (one_source line s ts)
     ∙ ap (λ rs. map (λ t. record { line = 0; source = s; target = t }) ts ++ rs) (pairs_bare line ss ts)
 
-end_of : (allowed : Access → Bool) (other : Name → Name) (p : RouteEnd) (bs all : List Braces)
-    → ends_at allowed other p.field (stands_at (map bare_braces all) (last_from 0 p.node (map bare_braces bs))) ≡ ends_at allowed other p.field (stands_at all (last_from 0 p.node bs))
-end_of allowed other p bs all =
-    ap (λ at. ends_at allowed other p.field (stands_at (map bare_braces all) at)) (last_bare 0 p.node bs)
-    ∙ ap (ends_at allowed other p.field) (stands_bare all (last_from 0 p.node bs))
-    ∙ ends_bare allowed other p.field (stands_at all (last_from 0 p.node bs))
+end_of : (allowed : Access → Bool) (named : List Field → Name → Option Field) (keeps : KeepsBare named) (p : RouteEnd) (bs all : List Braces)
+    → ends_at allowed named p.field (stands_at (map bare_braces all) (last_from 0 p.node (map bare_braces bs))) ≡ ends_at allowed named p.field (stands_at all (last_from 0 p.node bs))
+end_of allowed named keeps p bs all =
+    ap (λ at. ends_at allowed named p.field (stands_at (map bare_braces all) at)) (last_bare 0 p.node bs)
+    ∙ ap (ends_at allowed named p.field) (stands_bare all (last_from 0 p.node bs))
+    ∙ ends_bare allowed named keeps p.field (stands_at all (last_from 0 p.node bs))
 
 abbrev noted : RouteText → Scope → Scope
 noted route s = record s {
@@ -145,8 +163,8 @@ noted_routes route s t h all =
     let ts = targets s.braces all route.target in
     ap (λ bs. t.routes (map bare_braces all) ++ pairs 0 (sources bs (map bare_braces all) route.source) (targets bs (map bare_braces all) route.target)) h.braces
     ∙ ap (λ rs. rs ++ pairs 0 (sources (map bare_braces s.braces) (map bare_braces all) route.source) (targets (map bare_braces s.braces) (map bare_braces all) route.target)) (h.routes all)
-    ∙ ap (λ es. map unlined_flat_route (s.routes all) ++ pairs 0 es (targets (map bare_braces s.braces) (map bare_braces all) route.target)) (end_of sends (λ name. name ++ codes "_changed") route.source s.braces all)
-    ∙ ap (λ es. map unlined_flat_route (s.routes all) ++ pairs 0 ss es) (end_of receives (λ name. codes "set_" ++ name) route.target s.braces all)
+    ∙ ap (λ es. map unlined_flat_route (s.routes all) ++ pairs 0 es (targets (map bare_braces s.braces) (map bare_braces all) route.target)) (end_of sends source_in source_bare route.source s.braces all)
+    ∙ ap (λ es. map unlined_flat_route (s.routes all) ++ pairs 0 ss es) (end_of receives target_in target_bare route.target s.braces all)
     ∙ ap (λ rs. map unlined_flat_route (s.routes all) ++ rs) (sym (pairs_bare route.line ss ts))
     ∙ sym (map-append unlined_flat_route (s.routes all) (pairs route.line ss ts))
 

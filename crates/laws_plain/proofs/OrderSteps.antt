@@ -1,5 +1,5 @@
 -- What every step of the walk keeps: whatever it names was put in before.
-use Rattle.std.proofs.Common.{◌≡◌, ℕ, zero, suc, ◌<◌, ◌≤◌, Bool, true, false, if◌then◌else◌, List, [], ◌∷◌, ◌++◌, codes, length, map, option_map, Option, Some, None, Result, Ok, Err, bytes_eq, slice_get, slice_set, arith, length-append, length-set, refl}
+use Rattle.std.proofs.Common.{◌≡◌, ℕ, zero, suc, ◌<◌, ◌≤◌, Bool, true, false, if◌then◌else◌, List, [], ◌∷◌, ◌++◌, length, map, option_map, Option, Some, None, Result, Ok, Err, bytes_eq, slice_get, slice_set, arith, length-append, length-set, refl}
 use Rattle.std.specs.List.{fold}
 use Rattle.std.specs.Option.{option_and_then, option_map_or, option_or}
 use Rattle.x3d_values.specs.declared.field_type.Access.{Access}
@@ -13,7 +13,7 @@ use Rattle.proto_flat.specs.declared.flat.FlatEnd.TheVariants.{WrongWay}
 use Rattle.proto_flat.specs.declared.flat.FlatNode.{FlatNode}
 use Rattle.proto_flat.specs.declared.flat.FlatRoute.{FlatRoute}
 use Rattle.proto_meaning.specs.Limits.{Met, AnItem}
-use Rattle.proto_meaning.specs.Names.{Name, Field, Filled, Stands, Braces, Scope, ends_at, ends_by, field_by, has_name, pairs, sources, stands_at, targets, used, value_of}
+use Rattle.proto_meaning.specs.Names.{Name, Field, Filled, Stands, Braces, Scope, ends_at, ends_by, has_name, pairs, source_in, sources, stands_at, target_in, targets, used, value_of}
 use Rattle.proto_meaning.specs.Sight.{Put, Sight, Look}
 use Rattle.proto_meaning.specs.Flat.{Walk, Does, ◌>>=◌, close, close_node, meet, note, note_route, pure, refuse, renamed, see}
 use Rattle.laws_flat.specs.Order.{AreFieldsBelow, IsEndBelow, IsRouteBelow, IsValueBelow}
@@ -78,12 +78,12 @@ ends_by_below bound allowed s h (Some f) = by_access (allowed f.access) where
   by_access true = h.ends f.name
   by_access false = (tt, tt)
 
-ends_below : (bound : ℕ) (allowed : Access → Bool) (other : Name → Name) (field : Name) (s : Option Stands) → IfSome (IsStandsBelow bound) s → AreEndsBelow bound (ends_at allowed other field s)
-ends_below bound allowed other field None h = (tt, tt)
-ends_below bound allowed other field (Some s) h = by_interface s.interface where
-  by_interface : (o : Option (List Field)) → AreEndsBelow bound (option_map_or (λ fields. ends_by allowed s (field_by other field fields)) o (s.ends field))
+ends_below : (bound : ℕ) (allowed : Access → Bool) (named : List Field → Name → Option Field) (field : Name) (s : Option Stands) → IfSome (IsStandsBelow bound) s → AreEndsBelow bound (ends_at allowed named field s)
+ends_below bound allowed named field None h = (tt, tt)
+ends_below bound allowed named field (Some s) h = by_interface s.interface where
+  by_interface : (o : Option (List Field)) → AreEndsBelow bound (option_map_or (λ fields. ends_by allowed s (named fields field)) o (s.ends field))
   by_interface None = h.ends field
-  by_interface (Some fields) = ends_by_below bound allowed s h (field_by other field fields)
+  by_interface (Some fields) = ends_by_below bound allowed s h (named fields field)
 
 pairs_below : (bound line : ℕ) (ss ts : List FlatEnd) → AreEndsBelow bound ss → AreEndsBelow bound ts → AreRoutesBelow bound (pairs line ss ts)
 pairs_below bound line ss ts h k =
@@ -100,8 +100,8 @@ route_keeps route =
       routes = λ bound l all h.
           all_append (IsRouteBelow bound) (w.scope.routes all) (pairs route.line (sources w.scope.braces all route.source) (targets w.scope.braces all route.target)) (g.scope.routes bound l all h)
           (pairs_below bound route.line (sources w.scope.braces all route.source) (targets w.scope.braces all route.target)
-          (ends_below bound sends (λ name. name ++ codes "_changed") route.source.field (stands_at all _) (stands_below bound all _ h))
-          (ends_below bound receives (λ name. codes "set_" ++ name) route.target.field (stands_at all _) (stands_below bound all _ h)));
+          (ends_below bound sends source_in route.source.field (stands_at all _) (stands_below bound all _ h))
+          (ends_below bound receives target_in route.target.field (stands_at all _) (stands_below bound all _ h)));
       ends = g.scope.ends;
       given = g.scope.given;
     }) tt) where

@@ -9,7 +9,7 @@ use Rattle.x3d_values.specs.declared.field_type.FieldType.TheVariants.{SFRotatio
 use Rattle.x3d_values.specs.declared.field_type.Access.{Access}
 use Rattle.x3d_values.specs.declared.table.FieldRow.{FieldRow}
 use Rattle.x3d_values.specs.Access.{is_exposed, receives, sends, holds_nodes}
-use Rattle.x3d_values.specs.Aliases.{no_rotation, if_exposed}
+use Rattle.x3d_values.specs.Aliases.{set_alias, changed_alias}
 use Rattle.x3d_values.specs.Tables.{FieldRowView, numbered, row_named}
 use Rattle.proto_flat.specs.declared.flat.Flat.{Flat}
 use Rattle.proto_flat.specs.declared.flat.FlatEnd.{FlatEnd}
@@ -17,7 +17,7 @@ use Rattle.proto_flat.specs.declared.flat.FlatEnd.TheVariants.{At, NoNode, NoFie
 use Rattle.proto_flat.specs.declared.flat.FlatRoute.{FlatRoute}
 use Rattle.scene_core.specs.declared.scene.Route.{Route}
 use Rattle.scene_core.specs.Scene.{SceneView, rows_at, number_of}
-use Rattle.route_core.specs.Names.{exact, exposed, set_alias, changed_alias, target_field, source_field}
+use Rattle.route_core.specs.Names.{no_rotation, if_exposed, exact, exposed, target_field, source_field}
 use Rattle.route_core.specs.Ends.{node_of, field_at, usable, output_named, input_named, source_of, target_of, joined, joined_ends, route_of}
 use Rattle.route_core.specs.Resolved.{at_line, before_others, each_of, same_route, added, firsts, firsts_of, resolved}
 use Rattle.route_core.specs.declared.fault.RouteFault.{RouteFault}
@@ -90,13 +90,13 @@ module _ (es : List FieldRowView) where
   source_has : (name : List ℕ) (row : FieldRow) → source_field es name ≡ Some row → Has row
   unfolding source_field
   source_has name row e =
-      either_has (exact es name) (changed_alias es name) row (exact_has name row)
+      either_has (exact es name) (changed_alias (exposed es) name) row (exact_has name row)
       (if_has (ends_with nat_eq name (codes "_changed")) (take (length name - length (codes "_changed")) name) row) e
 
   target_has : (name : List ℕ) (row : FieldRow) → target_field es name ≡ Some row → Has row
   unfolding target_field
   target_has name row e =
-      either_has (exact es name) (set_alias es name) row (exact_has name row)
+      either_has (exact es name) (set_alias (exposed es) name) row (exact_has name row)
       (if_has (starts_with nat_eq name (codes "set_")) (drop (length (codes "set_")) name) row) e
 
 -- ---- ends

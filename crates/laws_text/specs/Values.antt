@@ -1,11 +1,12 @@
 -- Values that a field may hold, and that what is written of one is read as itself (ISO/IEC 19775-1,
 -- field types; ISO/IEC 19776-2, field values).
-use Rattle.std.specs.Prelude.{◌≡◌, ℕ, ◌-◌, ◌^◌, ◌&&◌, ℤ, pos, negsuc, int_le, nat_le, unsigned_abs, Bool, true, List, [], Ok, map, Some, ◌∷◌}
+use Rattle.std.specs.Prelude.{◌≡◌, ℕ, ◌-◌, ◌^◌, ◌&&◌, ℤ, pos, negsuc, int_le, Bool, true, List, [], Ok, map, Some, ◌∷◌}
 use Rattle.std.specs.List.{AllByRecursion, flat_map, list_all}
 use Rattle.std.specs.Str.{is_utf8}
 use Rattle.x3d_values.specs.declared.value.Value.{Value}
 use Rattle.x3d_values.specs.declared.value.Value.TheVariants.{SFInt32, SFFloat, SFTime, SFString, SFVec2f, SFVec3f, SFColor, SFNode, MFNode, MFInt32, MFFloat, MFTime, MFString, MFVec2f, MFVec3f, MFColor}
-use Rattle.x3d_values.specs.Ranges.{coordinate_fits, max_time}
+use Rattle.x3d_values.specs.Ranges.{coordinate_fits}
+pub use Rattle.x3d_values.specs.Ranges.{is_time}
 use Rattle.x3d_values.specs.Values.{type_of, nodes_of}
 use Rattle.classic_tree.specs.declared.tree.RawValue.{RawValue}
 use Rattle.classic_tree.specs.declared.tree.RawValue.TheVariants as raw
@@ -16,12 +17,9 @@ use Rattle.scene_text.specs.Raw.{pair_run, vector_run, color_run, plain}
 abbrev pub is_int32 : ℤ → Bool
 is_int32 n = int_le (negsuc (2 ^ 31 - 1)) n && int_le n (pos (2 ^ 31 - 1))
 
--- a number is of a size up to 10^15 millionths, a time of one up to 10^18 microseconds
+-- a number is of a size up to 10^15 millionths
 abbrev pub is_number : ℤ → Bool
 is_number = coordinate_fits
-
-abbrev pub is_time : ℤ → Bool
-is_time z = nat_le (unsigned_abs z) max_time
 
 -- the numbers are in the range of the value's type, and the texts are UTF-8
 abbrev pub is_sound : Value → Bool

@@ -12,7 +12,7 @@ use Rattle.x3d_values.specs.declared.field_type.FieldType.{FieldType}
 use Rattle.x3d_values.specs.declared.field_type.FieldType.TheVariants.{SFRotation}
 use Rattle.x3d_values.specs.declared.table.FieldRow.{FieldRow}
 use Rattle.x3d_values.specs.Access.{is_exposed, receives, sends, holds_nodes}
-use Rattle.x3d_values.specs.Aliases.{no_rotation, if_exposed}
+use Rattle.x3d_values.specs.Aliases.{set_alias, changed_alias}
 use Rattle.x3d_values.specs.Tables.{FieldRowView, row_named, numbered}
 use Rattle.proto_flat.specs.declared.flat.Flat.{Flat}
 use Rattle.proto_flat.specs.declared.flat.FlatEnd.{FlatEnd}
@@ -26,7 +26,7 @@ use Rattle.route_core.specs.declared.fault.RouteFaultKind.{RouteFaultKind}
 use Rattle.route_core.specs.declared.fault.RouteFaultKind.TheVariants.{NoSuchNode, NoSuchField, NotOutput, NotInput, TypesDiffer, NodeEvent}
 use Rattle.route_core.proofs.Repeats.{limited_is}
 use Rattle.route_core.specs.Ends.{node_of, field_at, usable, output_named, input_named, source_of, target_of, joined, joined_ends, route_of}
-use Rattle.route_core.specs.Names.{exact, exposed, set_alias, changed_alias, source_field, target_field}
+use Rattle.route_core.specs.Names.{no_rotation, if_exposed, exact, exposed, source_field, target_field}
 use Rattle.route_core.specs.Resolved.{at_line, before_others, each_of, same_route, added, firsts, firsts_of, resolved}
 use Rattle.cascade_world.specs.Fits.{sent_type, output_type}
 use Rattle.laws_worlds.proofs.Rows.{some_is}
@@ -87,13 +87,13 @@ module _ (es : List FieldRowView) where
   exposed_row : (name : List ℕ) (row : FieldRow) → exposed es name ≡ Some row → IsRow row
   exposed_row name row e = exact_row name row (when (exact es name) row e)
 
-  set_row : (name : List ℕ) (row : FieldRow) → set_alias es name ≡ Some row → IsRow row
+  set_row : (name : List ℕ) (row : FieldRow) → set_alias (exposed es) name ≡ Some row → IsRow row
   set_row name row e =
       let back : List ℕ = drop (length (codes "set_")) name in
       cond_both (starts_with nat_eq name (codes "set_")) (exposed es back) None (λ x. x ≡ Some row → IsRow row)
       (λ _ here. exposed_row back row here) (λ _ none. absurd cc) e
 
-  changed_row : (name : List ℕ) (row : FieldRow) → changed_alias es name ≡ Some row → IsRow row
+  changed_row : (name : List ℕ) (row : FieldRow) → changed_alias (exposed es) name ≡ Some row → IsRow row
   changed_row name row e =
       let front : List ℕ = take (length name - length (codes "_changed")) name in
       cond_both (ends_with nat_eq name (codes "_changed")) (exposed es front) None (λ x. x ≡ Some row → IsRow row)
@@ -101,11 +101,11 @@ module _ (es : List FieldRowView) where
 
   source_row : (name : List ℕ) (row : FieldRow) → source_field es name ≡ Some row → IsRow row
   unfolding source_field
-  source_row name row e = ⊎_elim (exact_row name row) (changed_row name row) (either (exact es name) (changed_alias es name) row e)
+  source_row name row e = ⊎_elim (exact_row name row) (changed_row name row) (either (exact es name) (changed_alias (exposed es) name) row e)
 
   target_row : (name : List ℕ) (row : FieldRow) → target_field es name ≡ Some row → IsRow row
   unfolding target_field
-  target_row name row e = ⊎_elim (exact_row name row) (set_row name row) (either (exact es name) (set_alias es name) row e)
+  target_row name row e = ⊎_elim (exact_row name row) (set_row name row) (either (exact es name) (set_alias (exposed es) name) row e)
 
   row_is : (row : FieldRow) (f : IsRow row) → slice_get es row.number ≡ Some f.entry
   row_is row f =

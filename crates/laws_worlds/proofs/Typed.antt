@@ -5,6 +5,7 @@ use Rattle.std.specs.List.{list_all}
 use Rattle.std.proofs.lemmas.Int.{ints}
 use Rattle.byte_codec.specs.Codec.{Codec, all_fit, fits_signed, signed, truth}
 use Rattle.byte_codec.proofs.Laws.{both, and_true}
+use Rattle.x3d_values.specs.Ranges.{is_time}
 use Rattle.x3d_values.specs.declared.field_type.FieldType.{FieldType}
 use Rattle.x3d_values.specs.declared.field_type.FieldType.TheVariants as types
 use Rattle.x3d_values.specs.declared.value.Value.{Value}
@@ -29,9 +30,6 @@ made_is f (Ok x) y h = (x, refl, ok_is (f x) y h)
 
 abbrev is_number : ℤ → Bool
 is_number z = nat_le (unsigned_abs z) (10 ^ 15)
-
-abbrev is_time : ℤ → Bool
-is_time z = nat_le (unsigned_abs z) (10 ^ 18)
 
 abbrev if_all : Bool → (ℤ → Bool) → List ℤ → Result (List ℤ) ValueFault
 if_all right p ns = if right then (if list_all p ns then Ok ns else Err ValueRange) else Err WrongType

@@ -10,9 +10,9 @@ use Rattle.x3d_values.specs.contracts.field_type.FieldType as types
 use Rattle.x3d_values.specs.declared.field_type.FieldType.TheVariants.{SFRotation}
 use Rattle.x3d_values.specs.declared.table.FieldRow.{FieldRow}
 use Rattle.x3d_values.specs.Access.{is_exposed}
-use Rattle.x3d_values.specs.Aliases.{no_rotation, if_exposed}
+use Rattle.x3d_values.specs.Aliases.{set_alias, changed_alias}
 use Rattle.x3d_values.specs.Tables.{FieldRowView, numbered, row_named}
-use Rattle.route_core.specs.Names.{exact, exposed, set_alias, changed_alias, target_field, source_field}
+use Rattle.route_core.specs.Names.{no_rotation, if_exposed, exact, exposed, target_field, source_field}
 
 abbrev some : {A : Type 0} → A → Option A
 some x = Some x
@@ -87,19 +87,19 @@ module _ (es : List FieldRowView) where
   pub source_own : (name : List ℕ) (row : FieldRow) → source_field es name ≡ Some row → IsOwn row
   unfolding source_field
   source_own name row e =
-      either_own (exact es name) (changed_alias es name) row (exact_own name row)
+      either_own (exact es name) (changed_alias (exposed es) name) row (exact_own name row)
       (if_own (ends_with nat_eq name (codes "_changed")) (take (length name - length (codes "_changed")) name) row) e
 
   pub target_own : (name : List ℕ) (row : FieldRow) → target_field es name ≡ Some row → IsOwn row
   unfolding target_field
   target_own name row e =
-      either_own (exact es name) (set_alias es name) row (exact_own name row)
+      either_own (exact es name) (set_alias (exposed es) name) row (exact_own name row)
       (if_own (starts_with nat_eq name (codes "set_")) (drop (length (codes "set_")) name) row) e
 
   pub source_again : (row : FieldRow) → IsOwn row → source_field es (own_name es row.number) ≡ Some row
   unfolding source_field
-  source_again row h = ap (λ (o : Option FieldRow). option_or o (changed_alias es (own_name es row.number))) h.own
+  source_again row h = ap (λ (o : Option FieldRow). option_or o (changed_alias (exposed es) (own_name es row.number))) h.own
 
   pub target_again : (row : FieldRow) → IsOwn row → target_field es (own_name es row.number) ≡ Some row
   unfolding target_field
-  target_again row h = ap (λ (o : Option FieldRow). option_or o (set_alias es (own_name es row.number))) h.own
+  target_again row h = ap (λ (o : Option FieldRow). option_or o (set_alias (exposed es) (own_name es row.number))) h.own

@@ -2,7 +2,7 @@
 -- rounding and the limit are our choice).
 use Rattle.std.specs.Prelude.{ℕ, ℤ, pos, neg_ℤ, ◌+ℤ◌, ◌-ℤ◌, ◌*ℤ◌, List, Option, slice_get}
 use Rattle.std.specs.Int.{int_min, int_max, int_div_euclid}
-use Rattle.x3d_values.specs.Ranges.{max_coordinate}
+pub use Rattle.x3d_values.specs.Ranges.{clamped}
 use Rattle.x3d_values.specs.declared.fields.Fields.{Fields}
 use Rattle.x3d_values.specs.declared.vector.Vec3.{Vec3}
 use Rattle.scene_core.specs.Scene.{SceneView}
@@ -11,10 +11,6 @@ use Rattle.pick_core.specs.declared.look.Role.{Role}
 use Rattle.pick_core.specs.declared.look.Role.TheVariants.{Group, Transform, Switch, Shape, Other}
 use Rattle.pick_core.specs.declared.look.Motion.{Motion}
 use Rattle.pick_core.specs.Looks.{kind_of, motion_of}
-
--- at most 10^15 millionths in size
-abbrev pub clamped : ℤ → ℤ
-clamped z = int_max (neg_ℤ (pos max_coordinate)) (int_min z (pos max_coordinate))
 
 -- translation + center + scale * (at - center), the product in millionths rounded down
 abbrev pub along_of : ℤ → ℤ → ℤ → ℤ → ℤ

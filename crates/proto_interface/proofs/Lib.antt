@@ -1,2 +1,3 @@
 pub mod Naming
-pub mod Aliases
+pub mod Numbered
+pub mod Suffixes

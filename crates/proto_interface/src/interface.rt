@@ -1,11 +1,8 @@
 //! The interface of a prototype.
 
-ghost use Rattle.std.specs.Prelude.{◌≡◌, ◌&&◌, ◌++◌, ◌∷◌, [], List, Some, None, length, map, IfOk, option_map, if◌then◌else◌};
-ghost use Rattle.std.specs.List.{find};
+ghost use Rattle.std.specs.Prelude.{◌≡◌, ◌++◌, ◌∷◌, [], List, Some, None, length, map, IfOk, option_map, if◌then◌else◌};
 ghost use Rattle.std.specs.Option.{option_or};
-ghost use Rattle.std.specs.Str.{bytes_eq};
-ghost use Rattle.x3d_values.specs.Access.{is_exposed};
-ghost use Rattle.proto_meaning.specs.Names.{Field};
+ghost use Rattle.proto_meaning.specs.Names.{Field, exposed_field, own_field};
 ghost use Rattle.proto_meaning.specs.Flat.{field, numbered_from};
 ghost use Rattle.proto_meaning.specs.Sight.{no_names};
 ghost use Rattle.proto_interface.specs.Fields.{HasFields, field_named, numbered, twice_after};
@@ -129,16 +126,14 @@ impl<'a> Interface<'a> {
 
     /// The first field of that name, without its number.
     pub fn known(&self, name: &str) -> Option<KnownField>
-        ensures { option_map (field_named name.now) result
-            ≡ find (λ (f : Field). bytes_eq f.name name.now) self.now }
+        ensures { option_map (field_named name.now) result ≡ own_field self.now name.now }
     {
         self.field(name)
     }
 
     /// The first inputOutput field of that name.
     pub fn exposed(&self, name: &str) -> Option<KnownField>
-        ensures { option_map (field_named name.now) result
-            ≡ find (λ (f : Field). is_exposed f.access && bytes_eq f.name name.now) self.now }
+        ensures { option_map (field_named name.now) result ≡ exposed_field self.now name.now }
     {
         self.tables.exposed.get(name)
     }

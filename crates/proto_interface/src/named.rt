@@ -1,10 +1,9 @@
 //! Fields of an interface by the names that ROUTEs give them.
 
-ghost use Rattle.std.specs.Prelude.{◌≡◌, ◌&&◌, ◌++◌, codes, option_map};
-ghost use Rattle.std.specs.List.{find};
-ghost use Rattle.std.specs.Str.{bytes_eq};
-ghost use Rattle.x3d_values.specs.Access.{is_exposed};
-ghost use Rattle.proto_meaning.specs.Names.{Field, field_by};
+ghost use Rattle.std.specs.Prelude.{◌≡◌, option_map};
+ghost use Rattle.x3d_values.specs.Aliases.{changed_alias, set_alias};
+ghost use Rattle.proto_meaning.specs.Names.{exposed_field, source_in, target_in};
+ghost use Rattle.proto_meaning.specs.Names as meaning;
 ghost use Rattle.proto_interface.specs.Routed.{routed};
 
 use crate::fields::KnownField;
@@ -20,9 +19,8 @@ pub struct RouteField<'n> {
 
 /// The inputOutput field of the name before `_changed`.
 fn changed_field<'n>(interface: &Interface<'_>, name: &'n str) -> Option<RouteField<'n>>
-    ensures { option_map routed result ≡ find
-        (λ (f : Field). is_exposed f.access && bytes_eq (f.name ++ codes "_changed") name.now)
-        interface.now }
+    ensures { option_map routed result
+        ≡ changed_alias (exposed_field interface.now) name.now }
 {
     let Some(own) = name.strip_suffix("_changed") else {
         return None;
@@ -35,9 +33,7 @@ fn changed_field<'n>(interface: &Interface<'_>, name: &'n str) -> Option<RouteFi
 
 /// The inputOutput field of the name behind `set_`.
 fn set_field<'n>(interface: &Interface<'_>, name: &'n str) -> Option<RouteField<'n>>
-    ensures { option_map routed result ≡ find
-        (λ (f : Field). is_exposed f.access && bytes_eq (codes "set_" ++ f.name) name.now)
-        interface.now }
+    ensures { option_map routed result ≡ set_alias (exposed_field interface.now) name.now }
 {
     let Some(own) = name.strip_prefix("set_") else {
         return None;
@@ -50,8 +46,7 @@ fn set_field<'n>(interface: &Interface<'_>, name: &'n str) -> Option<RouteField<
 
 /// The field of that very name.
 fn own_field<'n>(interface: &Interface<'_>, name: &'n str) -> Option<RouteField<'n>>
-    ensures { option_map routed result
-        ≡ find (λ (f : Field). bytes_eq f.name name.now) interface.now }
+    ensures { option_map routed result ≡ meaning.own_field interface.now name.now }
 {
     let Some(field) = interface.known(name) else {
         return None;
@@ -61,8 +56,7 @@ fn own_field<'n>(interface: &Interface<'_>, name: &'n str) -> Option<RouteField<
 
 /// The field that a source names: by its own name or, of an inputOutput field `f`, as `f_changed`.
 pub fn source_field<'n>(interface: &Interface<'_>, name: &'n Text) -> Option<RouteField<'n>>
-    ensures { option_map routed result
-        ≡ field_by (λ name. name ++ codes "_changed") name.now interface.now }
+    ensures { option_map routed result ≡ source_in interface.now name.now }
 {
     match own_field(interface, name.as_str()) {
         Some(field) => Some(field),
@@ -72,8 +66,7 @@ pub fn source_field<'n>(interface: &Interface<'_>, name: &'n Text) -> Option<Rou
 
 /// The field that a target names: by its own name or, of an inputOutput field `f`, as `set_f`.
 pub fn target_field<'n>(interface: &Interface<'_>, name: &'n Text) -> Option<RouteField<'n>>
-    ensures { option_map routed result
-        ≡ field_by (λ name. codes "set_" ++ name) name.now interface.now }
+    ensures { option_map routed result ≡ target_in interface.now name.now }
 {
     match own_field(interface, name.as_str()) {
         Some(field) => Some(field),

@@ -1,15 +1,14 @@
 //! ROUTEs of a scope, which are read once all its braces are closed.
 
-ghost use Rattle.std.specs.Prelude.{◌≡◌, ℕ, ◌++◌, ◌∷◌, [], Some, codes, map, option_map, IfOk};
+ghost use Rattle.std.specs.Prelude.{◌≡◌, ℕ, ◌++◌, ◌∷◌, [], Some, map, option_map, IfOk};
 ghost use Rattle.x3d_values.specs.Access.{receives, sends};
-ghost use Rattle.proto_meaning.specs.Names as meaning;
-ghost use Rattle.proto_meaning.specs.Names.{ends_by, field_by, stands_at};
+ghost use Rattle.proto_meaning.specs.Names.{ends_by, source_ends, source_in, stands_at};
+ghost use Rattle.proto_meaning.specs.Names.{target_ends, target_in};
 ghost use Rattle.proto_routes.specs.Ends.{end};
 ghost use Rattle.proto_routes.specs.Routes.{routes_of_wire};
 ghost use Rattle.proto_routes.specs.Wires.{means, wires};
 ghost use Rattle.proto_joins.specs.Joined.{ends_in, owned};
 ghost use Rattle.proto_joins.specs.Joins.{braces_of, instance_by, stands_of};
-ghost use Rattle.proto_joins.specs.Sides as spec;
 ghost use Rattle.proto_joins.specs.Sides.{made_routes, part_routes, parts_routes, pending_routes};
 
 use crate::joins::{Braces, InstanceEnds, Stands, field_ends};
@@ -70,7 +69,7 @@ fn sources_in<'t, 'a>(
 ) -> Result<Option<Rc<Ends<'a>>>, AllocError>
     ensures { (node : ℕ) → IfOk result (λ ends. owned ends
         ≡ ends_by sends (instance_by node instance.now)
-        (field_by (λ name. name ++ codes "_changed") name.now instance.now.interface.now)) }
+        (source_in instance.now.interface.now name.now)) }
 {
     let Some(found) = source_field(instance.interface, name) else {
         return alone(alloc, End::NoField);
@@ -89,7 +88,7 @@ fn targets_in<'t, 'a>(
 ) -> Result<Option<Rc<Ends<'a>>>, AllocError>
     ensures { (node : ℕ) → IfOk result (λ ends. owned ends
         ≡ ends_by receives (instance_by node instance.now)
-        (field_by (λ name. codes "set_" ++ name) name.now instance.now.interface.now)) }
+        (target_in instance.now.interface.now name.now)) }
 {
     let Some(found) = target_field(instance.interface, name) else {
         return alone(alloc, End::NoField);
@@ -126,7 +125,7 @@ fn sources<'t, 'a>(
     name: &'a Text,
 ) -> Result<Option<Rc<Ends<'a>>>, AllocError>
     ensures { IfOk result (λ ends. owned ends
-        ≡ spec.sources_of name.now (option_map (λ s. stands_of s.now) stands.entry)) }
+        ≡ source_ends name.now (option_map (λ s. stands_of s.now) stands.entry)) }
 {
     let Some(stands) = stands else {
         return alone(alloc, End::NoNode);
@@ -144,7 +143,7 @@ fn targets<'t, 'a>(
     name: &'a Text,
 ) -> Result<Option<Rc<Ends<'a>>>, AllocError>
     ensures { IfOk result (λ ends. owned ends
-        ≡ spec.targets_of name.now (option_map (λ s. stands_of s.now) stands.entry)) }
+        ≡ target_ends name.now (option_map (λ s. stands_of s.now) stands.entry)) }
 {
     let Some(stands) = stands else {
         return alone(alloc, End::NoNode);

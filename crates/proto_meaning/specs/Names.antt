@@ -1,11 +1,12 @@
 -- Names of nodes (ISO/IEC 19775-1, 4.4.3, DEF and USE; 4.4.7, run-time name scope), and the ends of
 -- routes (4.4.4, PROTO interface declarations; 4.4.8, event model, routes).
-use Rattle.std.specs.Prelude.{ℕ, ◌+◌, Bool, false, ◌&&◌, if◌then◌else◌, List, [], ◌∷◌, ◌++◌, codes, map, Option, Some, None, option_map, slice_get}
+use Rattle.std.specs.Prelude.{ℕ, ◌+◌, Bool, false, ◌&&◌, if◌then◌else◌, List, [], ◌∷◌, map, Option, Some, None, option_map, slice_get}
 use Rattle.std.specs.List.{find, flat_map, fold}
 use Rattle.std.specs.Option.{option_or, option_and_then, option_map_or}
 use Rattle.std.specs.Str.{bytes_eq}
 use Rattle.x3d_values.specs.declared.field_type.Access.{Access}
 use Rattle.x3d_values.specs.Access.{receives, sends, is_exposed}
+use Rattle.x3d_values.specs.Aliases.{source_by, target_by}
 use Rattle.classic_tree.specs.declared.tree.Declaration.{Declaration}
 use Rattle.classic_tree.specs.declared.tree.RawValue.{RawValue}
 use Rattle.classic_tree.specs.declared.tree.RouteEnd.{RouteEnd}
@@ -85,12 +86,19 @@ stands_at all at = option_and_then (λ b. b.stands) (option_and_then (slice_get 
 
 -- ---- the ends of a ROUTE
 
--- a field of an interface goes by its own name first, an inputOutput field also by the other (set_
--- before it, or _changed behind it)
-abbrev pub field_by : (Name → Name) → Name → List Field → Option Field
-field_by other name fields =
-    option_or (find (λ f. bytes_eq f.name name) fields)
-    (find (λ f. is_exposed f.access && bytes_eq (other f.name) name) fields)
+-- a field of an interface, and an inputOutput field, by its name
+abbrev pub own_field : List Field → Name → Option Field
+own_field fields name = find (λ f. bytes_eq f.name name) fields
+
+abbrev pub exposed_field : List Field → Name → Option Field
+exposed_field fields name = find (λ f. is_exposed f.access && bytes_eq f.name name) fields
+
+-- what a source and what a target names among the fields of an interface
+abbrev pub source_in : List Field → Name → Option Field
+source_in fields name = source_by (own_field fields) (exposed_field fields) name
+
+abbrev pub target_in : List Field → Name → Option Field
+target_in fields name = target_by (own_field fields) (exposed_field fields) name
 
 -- no such field, one against its access, or its ends: none where no IS takes it
 abbrev pub ends_by : (Access → Bool) → Stands → Option Field → List FlatEnd
@@ -98,22 +106,25 @@ ends_by allowed s None = NoField ∷ []
 ends_by allowed s (Some f) = if allowed f.access then s.ends f.name else WrongWay ∷ []
 
 -- no node, an instance's field, or a node's; whether a node has the field is for the scene to say
-abbrev pub ends_at : (Access → Bool) → (Name → Name) → Name → Option Stands → List FlatEnd
-ends_at allowed other field None = NoNode ∷ []
-ends_at allowed other field (Some s) =
-    option_map_or (λ fields. ends_by allowed s (field_by other field fields)) s.interface
-    (s.ends field)
+abbrev pub ends_at : (Access → Bool) → (List Field → Name → Option Field) → Name → Option Stands
+    → List FlatEnd
+ends_at allowed named field None = NoNode ∷ []
+ends_at allowed named field (Some s) =
+    option_map_or (λ fields. ends_by allowed s (named fields field)) s.interface (s.ends field)
+
+-- the ends that a field names as a source, and as a target, by what its braces stand for
+abbrev pub source_ends : Name → Option Stands → List FlatEnd
+source_ends field stands = ends_at sends source_in field stands
+
+abbrev pub target_ends : Name → Option Stands → List FlatEnd
+target_ends field stands = ends_at receives target_in field stands
 
 -- the ends that a ROUTE names behind these braces, by what all of the scope come to stand for
 abbrev pub sources : List Braces → List Braces → RouteEnd → List FlatEnd
-sources braces all p =
-    ends_at sends (λ name. name ++ codes "_changed") p.field
-    (stands_at all (last_from 0 p.node braces))
+sources braces all p = source_ends p.field (stands_at all (last_from 0 p.node braces))
 
 abbrev pub targets : List Braces → List Braces → RouteEnd → List FlatEnd
-targets braces all p =
-    ends_at receives (λ name. codes "set_" ++ name) p.field
-    (stands_at all (last_from 0 p.node braces))
+targets braces all p = target_ends p.field (stands_at all (last_from 0 p.node braces))
 
 -- each source in turn meets each target
 abbrev pub pairs : ℕ → List FlatEnd → List FlatEnd → List FlatRoute

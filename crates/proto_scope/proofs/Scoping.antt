@@ -12,7 +12,7 @@ use Rattle.classic_tree.specs.declared.tree.RawValue.{RawValue}
 use Rattle.classic_tree.specs.declared.tree.RouteText.{RouteText}
 use Rattle.proto_flat.specs.declared.flat.FlatRoute.{FlatRoute}
 use Rattle.proto_meaning.specs.Names as meaning
-use Rattle.proto_meaning.specs.Names.{Filled, last_from, stands_at, pairs, sources, targets, value_of}
+use Rattle.proto_meaning.specs.Names.{Filled, last_from, stands_at, pairs, source_ends, sources, target_ends, targets, value_of}
 use Rattle.proto_names.specs.declared.names.Names.{Names}
 use Rattle.proto_names.specs.Held.{Knows, opened, closed}
 use Rattle.proto_joins.specs.declared.joins.Braces.{Braces}
@@ -21,7 +21,7 @@ use Rattle.proto_joins.specs.declared.sides.Pending.{Pending}
 use Rattle.proto_joins.specs.declared.sides.RoutePart.{RoutePart}
 use Rattle.proto_joins.specs.declared.sides.RoutePart.TheVariants as part
 use Rattle.proto_joins.specs.Joins.{braces_of, stands_by, stands_of}
-use Rattle.proto_joins.specs.Sides.{sources_of, targets_of, pending_routes, part_routes, parts_routes}
+use Rattle.proto_joins.specs.Sides.{pending_routes, part_routes, parts_routes}
 use Rattle.proto_scope.specs.Held.{with_route, with_routes}
 
 -- ---- braces that open
@@ -83,11 +83,11 @@ node-is node (Some i) = refl
 pending-is : (r : RouteText) (bs : List meaning.Braces) (p : Pending) → p.line ≡ r.line → p.source.at ≡ last_from 0 r.source.node bs → p.source.field.now ≡ r.source.field →
     p.target.at ≡ last_from 0 r.target.node bs → p.target.field.now ≡ r.target.field → (all : List meaning.Braces) → pending_routes p all ≡ pairs r.line (sources bs all r.source) (targets bs all r.target)
 pending-is r bs p line sat sfield tat tfield all =
-    ap (λ n. pairs n (sources_of p.source.field.now (stands_at all p.source.at)) (targets_of p.target.field.now (stands_at all p.target.at))) line
-    ∙ ap (λ at. pairs r.line (sources_of p.source.field.now (stands_at all at)) (targets_of p.target.field.now (stands_at all p.target.at))) sat
-    ∙ ap (λ f. pairs r.line (sources_of f (stands_at all (last_from 0 r.source.node bs))) (targets_of p.target.field.now (stands_at all p.target.at))) sfield
-    ∙ ap (λ at. pairs r.line (sources bs all r.source) (targets_of p.target.field.now (stands_at all at))) tat
-    ∙ ap (λ f. pairs r.line (sources bs all r.source) (targets_of f (stands_at all (last_from 0 r.target.node bs)))) tfield
+    ap (λ n. pairs n (source_ends p.source.field.now (stands_at all p.source.at)) (target_ends p.target.field.now (stands_at all p.target.at))) line
+    ∙ ap (λ at. pairs r.line (source_ends p.source.field.now (stands_at all at)) (target_ends p.target.field.now (stands_at all p.target.at))) sat
+    ∙ ap (λ f. pairs r.line (source_ends f (stands_at all (last_from 0 r.source.node bs))) (target_ends p.target.field.now (stands_at all p.target.at))) sfield
+    ∙ ap (λ at. pairs r.line (sources bs all r.source) (target_ends p.target.field.now (stands_at all at))) tat
+    ∙ ap (λ f. pairs r.line (sources bs all r.source) (target_ends f (stands_at all (last_from 0 r.target.node bs)))) tfield
 
 pub routes-more : (old new : List RoutePart) (p : RoutePart) → new ≡ old ++ p ∷ [] → parts_routes new ≡ (λ all. parts_routes old all ++ part_routes p all)
 routes-more old new p is =

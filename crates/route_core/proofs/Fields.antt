@@ -12,11 +12,12 @@ use Rattle.x3d_values.specs.declared.field_type.FieldType.TheVariants.{SFRotatio
 use Rattle.x3d_values.specs.declared.table.FieldRow.{FieldRow}
 use Rattle.x3d_values.specs.Tables.{FieldRowView, row_named, numbered}
 use Rattle.x3d_values.specs.Access.{is_exposed}
+use Rattle.x3d_values.specs.Aliases.{changed_alias}
 use Rattle.scene_core.specs.Scene.{SceneView, rows_at, shape_of, shapes_of}
 use Rattle.scene_core.specs.Shape.{Shape, rows_of}
 use Rattle.scene_core.specs.declared.scene.End.{End}
 use Rattle.route_core.specs.Ends.{IsKnown, field_counts}
-use Rattle.route_core.specs.Names.{exact, exposed, changed_alias, source_field}
+use Rattle.route_core.specs.Names.{exact, exposed, source_field}
 
 row-below : (n : ℕ) (name : List ℕ) (es : List FieldRowView) (row : FieldRow) → row_named n name es ≡ Some row → row.number < n + length es
 row-below n name [] row e = cc
@@ -40,7 +41,7 @@ exact-below es name row e = omega (arith, row-below 0 name es row (unless (λ r.
 exposed-below : (es : List FieldRowView) (name : List ℕ) (row : FieldRow) → exposed es name ≡ Some row → row.number < length es
 exposed-below es name row e = exact-below es name row (when (λ (r : FieldRow). is_exposed r.access) (exact es name) row e)
 
-changed-below : (es : List FieldRowView) (name : List ℕ) (row : FieldRow) → changed_alias es name ≡ Some row → row.number < length es
+changed-below : (es : List FieldRowView) (name : List ℕ) (row : FieldRow) → changed_alias (exposed es) name ≡ Some row → row.number < length es
 changed-below es name row e =
     let front : List ℕ = take (length name - length (codes "_changed")) name in
     cond_both (ends_with nat_eq name (codes "_changed")) (exposed es front) None (λ x. x ≡ Some row → row.number < length es)
@@ -54,7 +55,7 @@ either (Some x) b row e = inl e
 
 pub source-below : (es : List FieldRowView) (name : List ℕ) (row : FieldRow) → source_field es name ≡ Some row → row.number < length es
 unfolding source_field
-source-below es name row e = ⊎_elim (exact-below es name row) (changed-below es name row) (either (exact es name) (changed_alias es name) row e)
+source-below es name row e = ⊎_elim (exact-below es name row) (changed-below es name row) (either (exact es name) (changed_alias (exposed es) name) row e)
 
 count-at : (shapes : List Shape) (n : ℕ) → slice_index (map (λ (s : Shape). length (rows_of s)) shapes) n ≡ length (option_map_or rows_of (slice_get shapes n) [])
 count-at [] zero = refl

@@ -1,6 +1,7 @@
 //! Fields of a node by the names that routes give them (ISO/IEC 19775-1, field semantics).
 
 ghost use Rattle.std.specs.Prelude.{◌≡◌};
+ghost use Rattle.x3d_values.specs.Aliases.{changed_alias, set_alias};
 ghost use Rattle.scene_core.specs.Scene.{rows_at};
 ghost use Rattle.route_core.specs.Named.{AreTables};
 ghost use Rattle.route_core.specs.Names as spec;
@@ -72,7 +73,7 @@ fn exposed(scene: &Scene, tables: &RowTables<'_>, node: u32, name: &str) -> Opti
 /// The inputOutput field of the name behind `set_`.
 fn set_alias(scene: &Scene, tables: &RowTables<'_>, node: u32, name: &str) -> Option<FieldRow>
     requires { AreTables scene.now tables.now }
-    ensures { result ≡ spec.set_alias (rows_at scene.now node) name.now }
+    ensures { result ≡ set_alias (spec.exposed (rows_at scene.now node)) name.now }
 {
     let name = name.strip_prefix("set_")?;
     exposed(scene, tables, node, name)
@@ -81,7 +82,7 @@ fn set_alias(scene: &Scene, tables: &RowTables<'_>, node: u32, name: &str) -> Op
 /// The inputOutput field of the name before `_changed`.
 fn changed_alias(scene: &Scene, tables: &RowTables<'_>, node: u32, name: &str) -> Option<FieldRow>
     requires { AreTables scene.now tables.now }
-    ensures { result ≡ spec.changed_alias (rows_at scene.now node) name.now }
+    ensures { result ≡ changed_alias (spec.exposed (rows_at scene.now node)) name.now }
 {
     let name = name.strip_suffix("_changed")?;
     exposed(scene, tables, node, name)

@@ -1,2 +1,2 @@
 -- What scripts may be given: the definitions of script_slots.
-pub use Rattle.script_slots.specs.Events.{truth_fits, time_fits, number_fits, event_fits, takes_event}
+pub use Rattle.script_slots.specs.Events.{truth_fits, number_fits, event_fits, takes_event}

@@ -1,7 +1,7 @@
 //! What scripts may be given.
 
 ghost use Rattle.std.specs.Prelude.{◌≡◌, slice_get};
-ghost use Rattle.script_host.specs.Events.{number_fits, event_fits, takes_event, time_fits};
+ghost use Rattle.script_host.specs.Events.{number_fits, event_fits, takes_event};
 
 use crate::kinds::inputs;
 use x3d_values::{FieldType, Kind, coordinate_fits};

@@ -1,7 +1,7 @@
 -- What the calls on a script of each kind do, on its state alone (our choice of kinds).
-use Rattle.std.specs.Prelude.{ℕ, zero, suc, ◌-◌, ◌^◌, ℤ, pos, negsuc, neg_ℤ, ◌+ℤ◌, ◌-ℤ◌, ◌*ℤ◌, List, [], ◌∷◌, ◌++◌, length, drop, fold, Bool, false, ◌==◌, if◌then◌else◌}
-use Rattle.std.specs.Int.{int_min, int_max, int_div_euclid, saturate_signed, w32}
-use Rattle.x3d_values.specs.Ranges.{max_coordinate}
+use Rattle.std.specs.Prelude.{ℕ, zero, suc, ◌-◌, ◌^◌, ℤ, pos, negsuc, ◌+ℤ◌, ◌-ℤ◌, ◌*ℤ◌, List, [], ◌∷◌, ◌++◌, length, drop, fold, Bool, false, ◌==◌, if◌then◌else◌}
+use Rattle.std.specs.Int.{int_div_euclid, saturate_signed, w32}
+pub use Rattle.x3d_values.specs.Ranges.{clamped}
 use Rattle.x3d_values.specs.declared.script.Kind.{Kind}
 use Rattle.x3d_values.specs.declared.script.Kind.TheVariants.{Counter, Gate, Adder, Batch, Mover, Meter}
 use Rattle.script_slots.specs.declared.reply.Reply.{Reply}
@@ -37,10 +37,6 @@ number_of (number ∷ _) = number
 abbrev pub is_one : ℤ → Bool
 is_one (pos n) = n == 1
 is_one (negsuc n) = false
-
--- at most 10^15 in size
-abbrev pub clamped : ℤ → ℤ
-clamped z = int_max (neg_ℤ (pos max_coordinate)) (int_min z (pos max_coordinate))
 
 -- ---- counter: the count and the step
 

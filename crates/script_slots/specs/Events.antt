@@ -1,7 +1,7 @@
 -- What scripts may be given: the range of each type (our choice of kinds).
-use Rattle.std.specs.Prelude.{ℕ, ◌^◌, ℤ, pos, negsuc, List, [], ◌∷◌, Bool, true, false, ◌&&◌, ◌==◌, nat_le, nat_lt, slice_get, unsigned_abs}
+use Rattle.std.specs.Prelude.{ℕ, ℤ, pos, negsuc, List, [], ◌∷◌, Bool, true, false, ◌&&◌, ◌==◌, nat_lt, slice_get, unsigned_abs}
 use Rattle.std.specs.Option.{option_map_or}
-use Rattle.x3d_values.specs.Ranges.{coordinate_fits, max_time}
+use Rattle.x3d_values.specs.Ranges.{coordinate_fits, is_time}
 use Rattle.x3d_values.specs.declared.script.Kind.{Kind}
 use Rattle.x3d_values.specs.declared.field_type.FieldType.{FieldType}
 use Rattle.x3d_values.specs.declared.field_type.FieldType.TheVariants.{SFBool, SFFloat, SFTime}
@@ -13,15 +13,11 @@ abbrev pub truth_fits : ℤ → Bool
 truth_fits (pos n) = nat_lt n 2
 truth_fits (negsuc n) = false
 
--- a size of up to 10^18 microseconds
-abbrev pub time_fits : ℤ → Bool
-time_fits z = nat_le (unsigned_abs z) max_time
-
 -- the number is in the range of a type that scripts take
 abbrev pub number_fits : FieldType → ℤ → Bool
 number_fits SFBool z = truth_fits z
 number_fits SFFloat z = coordinate_fits z
-number_fits SFTime z = time_fits z
+number_fits SFTime z = is_time z
 number_fits _ z = false
 
 -- the numbers are a value of this type: the first in its range, the others unused

@@ -1,7 +1,7 @@
 -- What a TimeSensor keeps (ISO/IEC 19775-1, time component; the ranges are our choice).
-use Rattle.std.specs.Prelude.{ℕ, ◌^◌, ℤ, pos, int_lt, unsigned_abs, nat_le, nat_lt, Bool, true, ◌&&◌, Option, Some, None, if◌then◌else◌}
+use Rattle.std.specs.Prelude.{ℕ, ◌^◌, ℤ, pos, int_lt, nat_lt, Bool, true, ◌&&◌, Option, Some, None, if◌then◌else◌}
 use Rattle.std.specs.Option.{option_and_then}
-use Rattle.x3d_values.specs.Ranges.{max_time}
+pub use Rattle.x3d_values.specs.Ranges.{is_time}
 use Rattle.x3d_values.specs.declared.fields.Fields.{Fields}
 use Rattle.x3d_values.specs.declared.value.Value.TheVariants.{SFBool, SFTime}
 use Rattle.x3d_values.specs.Kept.{with_value}
@@ -13,10 +13,6 @@ use Rattle.sensor_core.specs.declared.numbers.TheConstants.{CYCLE_INTERVAL, ENAB
 -- the values of its inputOutput fields, times in microseconds
 abbrev pub TimeFieldsView : Type 0
 TimeFieldsView = Times
-
--- a time is up to 10^18 microseconds from 0
-abbrev pub is_time : ℤ → Bool
-is_time time = nat_le (unsigned_abs time) max_time
 
 -- a cycle takes time
 abbrev pub is_interval : ℤ → Bool

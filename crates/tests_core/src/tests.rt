@@ -2,9 +2,9 @@
 
 mod clocks;
 mod datagrams;
+mod given_back;
 mod lists;
 mod memory;
-mod naming;
 mod numerals;
 mod passing;
 mod reaction_growths;

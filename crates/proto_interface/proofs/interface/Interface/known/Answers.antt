@@ -1,4 +1,4 @@
-use Rattle.proto_interface.proofs.Aliases.{known-is}
+use Rattle.proto_interface.proofs.Numbered.{known-is}
 use Rattle.proto_interface.proofs.interface.Interface.known.Goals as goal
 
 pub returns : goal.returns

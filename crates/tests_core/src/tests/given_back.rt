@@ -1,43 +1,10 @@
-//! Fields by the names that routes give them, a TimeSensor's state by its parts, and a text that is
-//! given back.
+//! A TimeSensor's state by its parts, and a text that is given back.
 
 use super::{Row, all_hold, holds};
 use sensor_core::{TimeParts, TimeState};
 use std::alloc::Global;
 use std::process::Abort;
 use x3d_lists::Text;
-use x3d_values::{FieldRow, NodeType, field_of, source_field, target_field};
-
-fn number(row: Option<FieldRow>) -> Option<u16> {
-    match row {
-        Some(row) => Some(row.number),
-        None => None,
-    }
-}
-
-/// A name in a route of a Switch, and the fields that it names as a source and as a destination.
-struct Names(&'static str, &'static str, &'static str);
-
-impl Row for Names {
-    fn holds(&self, _alloc: Global) -> bool {
-        let source = number(source_field(NodeType::Switch, self.0));
-        let target = number(target_field(NodeType::Switch, self.0));
-        source == number(field_of(NodeType::Switch, self.1))
-            && target == number(field_of(NodeType::Switch, self.2))
-    }
-}
-
-static NAMES: [Names; 4] = [
-    Names("whichChoice", "whichChoice", "whichChoice"),
-    Names("whichChoice_changed", "whichChoice", "none"),
-    Names("set_whichChoice", "none", "whichChoice"),
-    Names("set_none", "none", "none"),
-];
-
-#[test]
-fn routes_name_fields(rt: HostRuntime) {
-    all_hold(&rt, rt.alloc(), &NAMES);
-}
 
 /// Whether a sensor is active, the number of its cycle, and the cycle of the state that has these
 /// parts, if one has.
