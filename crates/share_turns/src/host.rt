@@ -275,8 +275,7 @@ pub(crate) fn hearing_turn<P: Port>(
 /// A turn of the host: it numbers the next clock of its job, at a time in microseconds, if there is
 /// one; then it takes at most 64 datagrams, and sends to each one's peer what belongs to it: for an
 /// ask the inputs that were asked for, or the floor where they are below it, and an ack, for an
-/// offer an ack. A clock or a datagram that
-/// is refused for another cause than memory is dropped.
+/// offer an ack. A clock or a datagram that is refused for another cause than memory is dropped.
 ///
 /// `Port` where a send or a receive failed, `Memory` where memory was refused to a clock or to an
 /// offer: either ends the turn at once.
