@@ -13,15 +13,16 @@ use Rattle.cascade_core.specs.Apply.{after_input, apply, begin, begun, happen}
 use Rattle.cascade_core.specs.Course.{Course, Wiring, Scripted, course, ended, wiring_at, wiring_of}
 use Rattle.cascade_core.specs.Scripts.{kinds_in, running, states_of}
 use Rattle.cascade_core.specs.Settles.{settle}
-use Rattle.cascade_core.specs.Sound.{HasScriptsOf, IsFixed}
-use Rattle.cascade_core.specs.declared.fixed.RoutedScene.{RoutedScene}
+use Rattle.cascade_core.specs.Resting.{HasSameScripts}
+use Rattle.cascade_core.specs.Sound.{HasScriptsOf, RunsItsScripts}
+use Rattle.cascade_core.specs.declared.routed.RoutedScene.{RoutedScene}
 use Rattle.cascade_trace.specs.declared.trace.TraceLine.{TraceLine}
 use Rattle.cascade_world.specs.declared.world.Live.{Live}
 use Rattle.cascade_core.proofs.Gained.{gain-input}
 use Rattle.cascade_core.proofs.Gains.{IsGain}
 use Rattle.cascade_core.proofs.Keeping.{happen-of}
 use Rattle.cascade_core.proofs.SettleLemmas.{settles_all}
-use Rattle.cascade_core.proofs.SoundLemmas.{cast-counted, cast_stands}
+use Rattle.cascade_core.proofs.SoundLemmas.{has_scripts-counted}
 
 -- no script was settled before what happened is over
 pub happen-fresh : (scene : SceneView) (wiring : Wiring) (now : ℤ) (c : Course) (cause : Cause) → c.settling.settled ≡ [] → (happen scene wiring now c cause).settling.settled ≡ []
@@ -29,8 +30,8 @@ happen-fresh scene wiring now c cause none =
     happen-of wiring (λ (d : Course). d.settling.settled ≡ []) (λ d s v h p. p) (λ d a p. p) (λ d q p. p) (λ d k call p. p) scene now c cause none
 
 -- what a stage goes by is the wiring of its scene
-pub plan-same : (g : RoutedScene) → IsFixed g → wiring_at g ≡ wiring_of g.scene g.routes
-plan-same g fixed = ap made fixed
+pub plan-same : (g : RoutedScene) → RunsItsScripts g → wiring_at g ≡ wiring_of g.scene g.routes
+plan-same g routed = ap made routed
   where
     made : List Run → Wiring
     made runs = record { shapes = shapes_of g.scene; routes = g.routes; runs = runs }
@@ -67,23 +68,20 @@ gained-by scene wiring start c e input none same is =
     (subst (λ (t : List TraceLine). IsGain t (after_input scene wiring c input).live) same (gain-input scene wiring c input none))
 
 -- a course that has begun has the scripts that it had
-pub begun-kinds : (old new : Course) (live : Live) → new ≡ course live old.scripts → kinds_of new.scripts ≡ kinds_of old.scripts
-begun-kinds old new live is = ap (λ (d : Course). kinds_of d.scripts) is
-
-pub begun-count : (wiring : Wiring) (old new : Course) (live : Live) → new ≡ course live old.scripts → HasScriptsOf wiring old → new.settling.count ≡ old.settling.count
-begun-count wiring old new live is cast = ap (λ (d : Course). d.settling.count) is ∙ sym (cast-counted wiring old cast)
-
-pub begun-cast : (wiring : Wiring) (old new : Course) (live : Live) → new ≡ course live old.scripts → HasScriptsOf wiring old → HasScriptsOf wiring new
-begun-cast wiring old new live is cast = cast_stands wiring old new (begun-kinds old new live is) (begun-count wiring old new live is cast) cast
+pub begun-scripts : (wiring : Wiring) (old new : Course) (live : Live) → new ≡ course live old.scripts → HasScriptsOf wiring old → HasSameScripts old new
+begun-scripts wiring old new live is has_scripts = record {
+  kinds = ap (λ (d : Course). kinds_of d.scripts) is;
+  count = ap (λ (d : Course). d.settling.count) is ∙ sym (has_scripts-counted wiring old has_scripts);
+}
 
 -- an input that has begun, has happened and after which scripts have settled is the definition's
-pub input-done : (g : RoutedScene) (old b d e : Course) (input : StampedView) → IsFixed g → b ≡ course (begin old.live.world input) old.scripts →
+pub input-done : (g : RoutedScene) (old b d e : Course) (input : StampedView) → RunsItsScripts g → b ≡ course (begin old.live.world input) old.scripts →
     old.scripts ≡ running (kinds_of old.scripts) (states_of old.scripts) → kinds_of old.scripts ≡ kinds_in g.scene →
     d ≡ happen g.scene (wiring_at g) input.time b input.cause → e ≡ settle (wiring_at g) d →
     e ≡ after_input g.scene (wiring_of g.scene g.routes) (begun g.scene (ended old) input) input
-input-done g old b d e input fixed is run kinds happened settled =
+input-done g old b d e input routed is run kinds happened settled =
     input-same g.scene (wiring_at g) (wiring_of g.scene g.routes) b (begun g.scene (ended old) input) e input
-    (after-same g.scene (wiring_at g) b d e input happened settled) (plan-same g fixed) (begun-same g.scene old b input is run kinds)
+    (after-same g.scene (wiring_at g) b d e input happened settled) (plan-same g routed) (begun-same g.scene old b input is run kinds)
 
 pub input-world : (scene : SceneView) (routes : List Route) (w : Scripted) (e : Course) (input : StampedView) →
     e ≡ after_input scene (wiring_of scene routes) (begun scene w input) input → ended e ≡ apply scene routes w input

@@ -21,7 +21,7 @@ use Rattle.cascade_core.specs.Installing.{RefusesBox, RefusesInstall}
 use Rattle.cascade_core.specs.Placing.{place_fault_of}
 use Rattle.cascade_core.specs.Scripts.{kinds_in, running, scripts_in, states_of}
 use Rattle.script_running.proofs.Initialized.{running_states}
-use Rattle.cascade_core.proofs.SoundLemmas.{cast_stands}
+use Rattle.cascade_core.proofs.SoundLemmas.{has_scripts_still}
 
 lengths : (xs ys : List SlotView) → kinds_of xs ≡ kinds_of ys → length xs ≡ length ys
 lengths xs ys e = sym (length-map xs (λ (r : SlotView). r.kind)) ∙ ap length e ∙ length-map ys (λ (r : SlotView). r.kind)
@@ -144,6 +144,6 @@ box_refused place.Memory held xs ys k kind e h = at-kind (λ other. kind ≡ oth
 pub same_kinds : (old new : List SlotView) → new ≡ old → kinds_of new ≡ kinds_of old
 same_kinds old new is = ap kinds_of is
 
-pub ruleset installs = (cast_stands, install_length, install_range, install_memory, first_alike, given_states, states_alike)
+pub ruleset installs = (has_scripts_still, install_length, install_range, install_memory, first_alike, given_states, states_alike)
 
-pub ruleset places_box = (cast_stands, box_there, box_refused)
+pub ruleset places_box = (has_scripts_still, box_there, box_refused)

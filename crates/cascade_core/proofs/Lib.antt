@@ -12,6 +12,7 @@ pub mod Settled
 mod KindLemmas
 pub mod SettleLemmas
 pub mod SoundLemmas
+pub mod Resting
 pub mod Depths
 pub mod SoundPlans
 pub mod Openings

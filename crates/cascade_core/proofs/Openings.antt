@@ -18,12 +18,12 @@ use Rattle.cascade_core.specs.Apply.{SendingView, Started, opening, sent_by_all,
 use Rattle.cascade_core.specs.Cascade.{send_replies}
 use Rattle.cascade_core.specs.Course.{Course, Wiring, Scripted, course, ended, node_of, wiring_at, wiring_of, ports_of}
 use Rattle.cascade_core.specs.Outputs.{is_scene_output}
-use Rattle.cascade_core.specs.Scripts.{are_begun, kinds_in, scripts_in}
+use Rattle.cascade_core.specs.Scripts.{are_begun, scripts_in}
 use Rattle.cascade_core.specs.Settles.{settle}
-use Rattle.cascade_core.specs.Sound.{HasScriptsOf, IsFixed, IsSound, are_outputs, are_sent}
+use Rattle.cascade_core.specs.Sound.{HasScriptsOf, RunsItsScripts, IsSound, are_outputs, are_sent}
 use Rattle.cascade_core.specs.Stack.{IsReady}
 use Rattle.cascade_rules.specs.Replies.{send_by}
-use Rattle.cascade_core.specs.declared.fixed.RoutedScene.{RoutedScene}
+use Rattle.cascade_core.specs.declared.routed.RoutedScene.{RoutedScene}
 use Rattle.cascade_world.specs.declared.world.Live.{Live}
 use Rattle.cascade_core.proofs.Keeping.{replies-of}
 use Rattle.cascade_core.proofs.SceneOutputs.{AllOutputs}
@@ -156,36 +156,40 @@ opened-from scene wiring given =
     let s = started wiring given in
     ended (settle wiring (sent_by_all wiring (course (record { world = untold scene; sent = [] }) s.scripts) s.sendings))
 
-fixed-plan : (g : RoutedScene) → IsFixed g → wiring_at g ≡ wiring_of g.scene g.routes
-fixed-plan g fixed = ap made fixed
+routed-plan : (g : RoutedScene) → RunsItsScripts g → wiring_at g ≡ wiring_of g.scene g.routes
+routed-plan g routed = ap made routed
   where
     made : List Run → Wiring
     made runs = record { shapes = shapes_of g.scene; routes = g.routes; runs = runs }
 
-opened-fixed : (g : RoutedScene) → IsFixed g → opened-from g.scene (wiring_at g) (scripts_in g.scene) ≡ opening g.scene g.routes
+opened-routed : (g : RoutedScene) → RunsItsScripts g → opened-from g.scene (wiring_at g) (scripts_in g.scene) ≡ opening g.scene g.routes
 unfolding opening
-opened-fixed g fixed = ap (λ (wiring : Wiring). opened-from g.scene wiring (scripts_in g.scene)) (fixed-plan g fixed)
+opened-routed g routed = ap (λ (wiring : Wiring). opened-from g.scene wiring (scripts_in g.scene)) (routed-plan g routed)
 
 -- the course behind the initialization of all scripts
 abbrev starts : Live → List SlotView → DueScriptsView → Course
 starts live rs settling = record { live = live; scripts = rs; settling = settling }
 
+-- a world in which nothing has happened, and nothing has sent
+pub live_untold : (live : Live) (scene : SceneView) → live.world ≡ untold scene → live.sent ≡ [] → live ≡ record { world = untold scene; sent = [] }
+live_untold live scene world unsent = ap (λ w. record { world = w; sent = live.sent }) world ∙ ap (λ s. record { world = untold scene; sent = s }) unsent
+
 starts-same : (live : Live) (scene : SceneView) (rs given : List SlotView) (settling : DueScriptsView) (many : ℕ) → live.world ≡ untold scene → live.sent ≡ [] → rs ≡ given →
     settling ≡ unsettled many → many ≡ length given → starts live rs settling ≡ course (record { world = untold scene; sent = [] }) given
 starts-same live scene rs given settling many world unsent e is counted =
-    let same : live ≡ record { world = untold scene; sent = [] } = ap (λ w. record { world = w; sent = live.sent }) world ∙ ap (λ s. record { world = untold scene; sent = s }) unsent in
+    let same : live ≡ record { world = untold scene; sent = [] } = live_untold live scene world unsent in
     let all : settling ≡ unsettled (length given) = is ∙ ap unsettled counted in
     ap (λ (t : Live). starts t rs settling) same
     ∙ ap (λ (xs : List SlotView). starts (record { world = untold scene; sent = [] }) xs settling) e
     ∙ ap (λ (s : DueScriptsView). starts (record { world = untold scene; sent = [] }) given s) all
 
 -- how input 0 ends
-pub opened_same : (g : RoutedScene) → IsFixed g → (live : Live) (given rs : List SlotView) (settling : DueScriptsView) (many : ℕ) (sendings : List SendingView) (before after : Course) →
+pub opened_same : (g : RoutedScene) → RunsItsScripts g → (live : Live) (given rs : List SlotView) (settling : DueScriptsView) (many : ℕ) (sendings : List SendingView) (before after : Course) →
     given ≡ scripts_in g.scene → live.world ≡ untold g.scene → live.sent ≡ [] →
     rs ≡ (started (wiring_at g) given).scripts → settling ≡ unsettled many → many ≡ length given → sendings ≡ (started (wiring_at g) given).sendings →
     before ≡ sent_by_all (wiring_at g) (record { live = live; scripts = rs; settling = settling }) sendings → after ≡ settle (wiring_at g) before →
     ended after ≡ opening g.scene g.routes
-opened_same g fixed live given rs settling many sendings before after same world unsent scripts is counted sent was done =
+opened_same g routed live given rs settling many sendings before after same world unsent scripts is counted sent was done =
     let wiring = wiring_at g in
     let all : many ≡ length (started wiring given).scripts = counted ∙ sym (started_many wiring given) in
     ap ended done
@@ -193,7 +197,7 @@ opened_same g fixed live given rs settling many sendings before after same world
     ∙ ap (λ (c : Course). ended (settle wiring (sent_by_all wiring c sendings))) (starts-same live g.scene rs (started wiring given).scripts settling many world unsent scripts is all)
     ∙ ap (λ (xs : List SendingView). ended (settle wiring (sent_by_all wiring (course (record { world = untold g.scene; sent = [] }) (started wiring given).scripts) xs))) sent
     ∙ ap (λ (xs : List SlotView). opened-from g.scene wiring xs) same
-    ∙ opened-fixed g fixed
+    ∙ opened-routed g routed
 
 -- nothing was settled before
 pub sent_fresh : (wiring : Wiring) (live : Live) (rs : List SlotView) (settling : DueScriptsView) (after : Course) (sendings : List SendingView) (many : ℕ) →
@@ -229,23 +233,10 @@ started_more wiring whole rs after sendings more one k n below scripts sent push
     pair : List SlotView → List SendingView → Started
     pair xs ys = record { scripts = xs; sendings = ys }
 
--- behind input 0
-pub cast_opened : (wiring : Wiring) (scene : SceneView) (given : List SlotView) (c : Course) → IsSound wiring (kinds_of given) → given ≡ scripts_in scene →
-    kinds_of c.scripts ≡ kinds_in scene → c.settling.count ≡ length c.scripts → HasScriptsOf wiring c
-cast_opened wiring scene given c sound same kinds count = record {
-  sound = subst (λ (ks : List Kind). IsSound wiring ks) (ap kinds_of same ∙ sym kinds) sound;
-  counted = count ∙ sym (length-map c.scripts (λ (r : SlotView). r.kind));
-}
-
 -- scripts that were all initialized are of the kinds that they were of, and as many
-pub opening-cast : (wiring : Wiring) (given rs : List SlotView) (live : Live) (settling : DueScriptsView) (many : ℕ) → IsSound wiring (kinds_of given) →
+pub opening-has_scripts : (wiring : Wiring) (given rs : List SlotView) (live : Live) (settling : DueScriptsView) (many : ℕ) → IsSound wiring (kinds_of given) →
     kinds_of rs ≡ kinds_of given → settling ≡ unsettled many → many ≡ length given → HasScriptsOf wiring (record { live = live; scripts = rs; settling = settling })
-opening-cast wiring given rs live settling many sound kinds is counted = record {
+opening-has_scripts wiring given rs live settling many sound kinds is counted = record {
   sound = subst (λ (ks : List Kind). IsSound wiring ks) (sym kinds) sound;
   counted = ap (λ (s : DueScriptsView). s.count) is ∙ counted ∙ sym (length-map given (λ (r : SlotView). r.kind)) ∙ ap length (sym kinds);
 }
-
-pub opening-count : (given after : List SlotView) (settling : DueScriptsView) (many count : ℕ) → count ≡ settling.count → settling ≡ unsettled many →
-    many ≡ length given → kinds_of after ≡ kinds_of given → count ≡ length after
-opening-count given after settling many count same is counted kinds =
-    same ∙ ap (λ (s : DueScriptsView). s.count) is ∙ counted ∙ lengths given after (sym kinds)

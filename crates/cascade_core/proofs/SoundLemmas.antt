@@ -142,14 +142,14 @@ module _ (wiring : Wiring) where
 -- ---- the scripts of a course
 
 -- what keeps the kinds and the count keeps the scripts that the wiring runs
-pub cast_stands : (wiring : Wiring) (old new : Course) → kinds_of new.scripts ≡ kinds_of old.scripts → new.settling.count ≡ old.settling.count → HasScriptsOf wiring old → HasScriptsOf wiring new
-cast_stands wiring old new kinds count cast = record {
-  sound = rw kinds cast.sound;
-  counted = count ∙ cast.counted ∙ ap length (sym kinds);
+pub has_scripts_still : (wiring : Wiring) (old new : Course) → kinds_of new.scripts ≡ kinds_of old.scripts → new.settling.count ≡ old.settling.count → HasScriptsOf wiring old → HasScriptsOf wiring new
+has_scripts_still wiring old new kinds count has_scripts = record {
+  sound = rw kinds has_scripts.sound;
+  counted = count ∙ has_scripts.counted ∙ ap length (sym kinds);
 }
 
-pub cast-many : (wiring : Wiring) (c : Course) → HasScriptsOf wiring c → length wiring.runs ≡ length c.scripts
-cast-many wiring c cast = cast.sound.many ∙ length-map c.scripts (λ (r : SlotView). r.kind)
+pub has_scripts-many : (wiring : Wiring) (c : Course) → HasScriptsOf wiring c → length wiring.runs ≡ length c.scripts
+has_scripts-many wiring c has_scripts = has_scripts.sound.many ∙ length-map c.scripts (λ (r : SlotView). r.kind)
 
-pub cast-counted : (wiring : Wiring) (c : Course) → HasScriptsOf wiring c → c.settling.count ≡ length c.scripts
-cast-counted wiring c cast = cast.counted ∙ length-map c.scripts (λ (r : SlotView). r.kind)
+pub has_scripts-counted : (wiring : Wiring) (c : Course) → HasScriptsOf wiring c → c.settling.count ≡ length c.scripts
+has_scripts-counted wiring c has_scripts = has_scripts.counted ∙ length-map c.scripts (λ (r : SlotView). r.kind)

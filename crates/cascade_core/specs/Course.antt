@@ -13,7 +13,7 @@ use Rattle.script_running.specs.declared.run.Run.{Run}
 use Rattle.cascade_core.specs.Scripts.{script_from, states_of}
 pub use Rattle.script_running.specs.Running.{no_ports}
 use Rattle.cascade_core.specs.declared.course.Course as lent
-use Rattle.cascade_core.specs.declared.fixed.RoutedScene.{RoutedScene}
+use Rattle.cascade_core.specs.declared.routed.RoutedScene.{RoutedScene}
 use Rattle.cascade_world.specs.declared.world.Live.{Live}
 use Rattle.cascade_world.specs.declared.world.WorldData.{WorldData}
 

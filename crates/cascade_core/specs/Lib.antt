@@ -7,6 +7,7 @@ pub mod Walks
 pub mod Work
 pub mod Texts
 pub mod Stack
+pub mod Resting
 pub mod Scripts
 pub mod Course
 pub mod Settles

@@ -9,7 +9,7 @@ use Rattle.script_host.specs.Interface.{outputs}
 use Rattle.script_running.specs.Acting.{kinds_of}
 use Rattle.cascade_core.specs.Apply.{SendingView}
 use Rattle.cascade_core.specs.Course.{Course, Wiring, node_of, ports_of}
-use Rattle.cascade_core.specs.declared.fixed.RoutedScene.{RoutedScene}
+use Rattle.cascade_core.specs.declared.routed.RoutedScene.{RoutedScene}
 use Rattle.cascade_core.specs.Outputs.{is_scene_output}
 
 -- these fields of a node are outputs of the scene
@@ -31,8 +31,8 @@ abbrev pub are_sent : List Shape → SendingView → Bool
 are_sent shapes s = are_outputs shapes s.node (map (λ (r : SentEvent). r.field) s.replies)
 
 -- the scripts that a stage runs are those of its scene
-abbrev pub IsFixed : RoutedScene → Type 0
-IsFixed g = g.runs ≡ runs_of g.scene
+abbrev pub RunsItsScripts : RoutedScene → Type 0
+RunsItsScripts g = g.runs ≡ runs_of g.scene
 
 -- the scripts of a course are those that the wiring runs, and none else is counted
 pub record HasScriptsOf (wiring : Wiring) (c : Course) : Type 0 where

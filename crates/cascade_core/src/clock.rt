@@ -4,16 +4,14 @@
 ghost use Rattle.std.specs.Prelude.{◌≡◌, ◌*◌, ◌-◌, ◌≤◌, [], OnOk, true};
 ghost use Rattle.std.specs.List.{fold, range_with_len};
 ghost use Rattle.scene_core.specs.Scene.{types_of};
-ghost use Rattle.pick_core.specs.Sites.{rows_of};
-ghost use Rattle.script_running.specs.Acting.{kinds_of};
 ghost use Rattle.cascade_core.specs.Course.{wiring_at, seen};
-ghost use Rattle.cascade_core.specs.Sound.{HasScriptsOf};
+ghost use Rattle.cascade_core.specs.Resting.{HasSameScripts, IsAtRest};
 ghost use Rattle.cascade_world.specs.Nodes.{clocks_of, is_clock};
 ghost use Rattle.cascade_core.specs.Apply.{tick_node as tick_node_of};
 ghost use Rattle.cascade_core.specs.Walks.{over_block, where_passes};
 
 use crate::course::Course;
-use crate::fixed::RoutedScene;
+use crate::routed::RoutedScene;
 use crate::stack::send_replies;
 use cascade_rules::{CascadeTask, is_clock};
 use cascade_world::BLOCK;
@@ -25,7 +23,7 @@ use x3d_values::Stamped;
 
 /// A TimeSensor ticks, and what it sends is followed.
 fn tick_node<B: Behaviour>(
-    fixed: &RoutedScene,
+    routed: &RoutedScene,
     tasks: &mut Vec<CascadeTask>,
     course: &mut Course<B>,
     replies: &mut Outbox,
@@ -33,27 +31,22 @@ fn tick_node<B: Behaviour>(
     node: u32,
     input: &Stamped,
 ) -> Result<(), AllocError>
-    requires empty { tasks.old.items ≡ [] }
-    requires none { replies.old.items ≡ [] }
-    requires boxes { boxes.old ≡ rows_of fixed.now.scene course.old.live.world.fields }
-    requires cast { HasScriptsOf (wiring_at fixed.now) (seen course.old) }
-    requires clock { is_clock (types_of fixed.now.scene) node ≡ true }
+    requires rest { IsAtRest routed.now tasks.old.items replies.old.items boxes.old
+        (seen course.old) }
+    requires clock { is_clock (types_of routed.now.scene) node ≡ true }
     ensures course { OnOk result (seen course.new
-        ≡ tick_node_of (wiring_at fixed.now) input.now.time (seen course.old) node) }
-    ensures empty { OnOk result (tasks.new.items ≡ []) }
-    ensures none { OnOk result (replies.new.items ≡ []) }
-    ensures boxes { OnOk result
-        (boxes.new ≡ rows_of fixed.now.scene course.new.live.world.fields) }
-    ensures kinds { kinds_of course.new.scripts ≡ kinds_of course.old.scripts }
-    ensures count { course.new.settling.count ≡ course.old.settling.count }
+        ≡ tick_node_of (wiring_at routed.now) input.now.time (seen course.old) node) }
+    ensures rest { OnOk result
+        (IsAtRest routed.now tasks.new.items replies.new.items boxes.new (seen course.new)) }
+    ensures scripts { HasSameScripts (seen course.old) (seen course.new) }
 {
     course.live.world.tick(node, input, replies);
-    send_replies(fixed, tasks, course, replies, boxes, node)
+    send_replies(routed, tasks, course, replies, boxes, node)
 }
 
 /// The node of that number ticks, where it is a TimeSensor.
 fn tick_any<B: Behaviour>(
-    fixed: &RoutedScene,
+    routed: &RoutedScene,
     tasks: &mut Vec<CascadeTask>,
     course: &mut Course<B>,
     replies: &mut Outbox,
@@ -61,29 +54,24 @@ fn tick_any<B: Behaviour>(
     node: u32,
     input: &Stamped,
 ) -> Result<(), AllocError>
-    requires empty { tasks.old.items ≡ [] }
-    requires none { replies.old.items ≡ [] }
-    requires boxes { boxes.old ≡ rows_of fixed.now.scene course.old.live.world.fields }
-    requires cast { HasScriptsOf (wiring_at fixed.now) (seen course.old) }
+    requires rest { IsAtRest routed.now tasks.old.items replies.old.items boxes.old
+        (seen course.old) }
     ensures course { OnOk result (seen course.new
-        ≡ where_passes (is_clock (types_of fixed.now.scene))
-        (tick_node_of (wiring_at fixed.now) input.now.time) (seen course.old) node) }
-    ensures empty { OnOk result (tasks.new.items ≡ []) }
-    ensures none { OnOk result (replies.new.items ≡ []) }
-    ensures boxes { OnOk result
-        (boxes.new ≡ rows_of fixed.now.scene course.new.live.world.fields) }
-    ensures kinds { kinds_of course.new.scripts ≡ kinds_of course.old.scripts }
-    ensures count { course.new.settling.count ≡ course.old.settling.count }
+        ≡ where_passes (is_clock (types_of routed.now.scene))
+        (tick_node_of (wiring_at routed.now) input.now.time) (seen course.old) node) }
+    ensures rest { OnOk result
+        (IsAtRest routed.now tasks.new.items replies.new.items boxes.new (seen course.new)) }
+    ensures scripts { HasSameScripts (seen course.old) (seen course.new) }
 {
-    if !is_clock(&fixed.scene, node) {
+    if !is_clock(&routed.scene, node) {
         return Ok(());
     }
-    tick_node(fixed, tasks, course, replies, boxes, node, input)
+    tick_node(routed, tasks, course, replies, boxes, node, input)
 }
 
 /// Each TimeSensor of some nodes ticks at its turn.
 fn tick_all<B: Behaviour>(
-    fixed: &RoutedScene,
+    routed: &RoutedScene,
     tasks: &mut Vec<CascadeTask>,
     course: &mut Course<B>,
     replies: &mut Outbox,
@@ -92,23 +80,18 @@ fn tick_all<B: Behaviour>(
     end: u32,
     input: &Stamped,
 ) -> Result<(), AllocError>
-    requires empty { tasks.old.items ≡ [] }
-    requires none { replies.old.items ≡ [] }
-    requires boxes { boxes.old ≡ rows_of fixed.now.scene course.old.live.world.fields }
-    requires cast { HasScriptsOf (wiring_at fixed.now) (seen course.old) }
+    requires rest { IsAtRest routed.now tasks.old.items replies.old.items boxes.old
+        (seen course.old) }
     ensures course { OnOk result (seen course.new
-        ≡ fold (where_passes (is_clock (types_of fixed.now.scene))
-        (tick_node_of (wiring_at fixed.now) input.now.time)) (seen course.old)
+        ≡ fold (where_passes (is_clock (types_of routed.now.scene))
+        (tick_node_of (wiring_at routed.now) input.now.time)) (seen course.old)
         (range_with_len start (end - start))) }
-    ensures empty { OnOk result (tasks.new.items ≡ []) }
-    ensures none { OnOk result (replies.new.items ≡ []) }
-    ensures boxes { OnOk result
-        (boxes.new ≡ rows_of fixed.now.scene course.new.live.world.fields) }
-    ensures kinds { kinds_of course.new.scripts ≡ kinds_of course.old.scripts }
-    ensures count { course.new.settling.count ≡ course.old.settling.count }
+    ensures rest { OnOk result
+        (IsAtRest routed.now tasks.new.items replies.new.items boxes.new (seen course.new)) }
+    ensures scripts { HasSameScripts (seen course.old) (seen course.new) }
 {
     for node in start..end {
-        tick_any(fixed, tasks, course, replies, boxes, node, input)?;
+        tick_any(routed, tasks, course, replies, boxes, node, input)?;
     }
     Ok(())
 }
@@ -116,7 +99,7 @@ fn tick_all<B: Behaviour>(
 /// The TimeSensors of a block of nodes tick, of so many nodes in all. A block is passed where it is
 /// known that nothing happens there.
 fn tick_block<B: Behaviour>(
-    fixed: &RoutedScene,
+    routed: &RoutedScene,
     tasks: &mut Vec<CascadeTask>,
     course: &mut Course<B>,
     replies: &mut Outbox,
@@ -126,19 +109,14 @@ fn tick_block<B: Behaviour>(
     input: &Stamped,
 ) -> Result<(), AllocError>
     requires within { block * 32 ≤ count }
-    requires empty { tasks.old.items ≡ [] }
-    requires none { replies.old.items ≡ [] }
-    requires boxes { boxes.old ≡ rows_of fixed.now.scene course.old.live.world.fields }
-    requires cast { HasScriptsOf (wiring_at fixed.now) (seen course.old) }
+    requires rest { IsAtRest routed.now tasks.old.items replies.old.items boxes.old
+        (seen course.old) }
     ensures course { OnOk result (seen course.new
-        ≡ over_block (where_passes (is_clock (types_of fixed.now.scene))
-        (tick_node_of (wiring_at fixed.now) input.now.time)) (seen course.old) block count) }
-    ensures empty { OnOk result (tasks.new.items ≡ []) }
-    ensures none { OnOk result (replies.new.items ≡ []) }
-    ensures boxes { OnOk result
-        (boxes.new ≡ rows_of fixed.now.scene course.new.live.world.fields) }
-    ensures kinds { kinds_of course.new.scripts ≡ kinds_of course.old.scripts }
-    ensures count { course.new.settling.count ≡ course.old.settling.count }
+        ≡ over_block (where_passes (is_clock (types_of routed.now.scene))
+        (tick_node_of (wiring_at routed.now) input.now.time)) (seen course.old) block count) }
+    ensures rest { OnOk result
+        (IsAtRest routed.now tasks.new.items replies.new.items boxes.new (seen course.new)) }
+    ensures scripts { HasSameScripts (seen course.old) (seen course.new) }
 {
     if course.live.world.is_idle(block, input) {
         return Ok(());
@@ -146,7 +124,7 @@ fn tick_block<B: Behaviour>(
     let start = block * BLOCK;
     let many = (count - start).min(BLOCK);
     tick_all(
-        fixed,
+        routed,
         tasks,
         course,
         replies,
@@ -161,29 +139,25 @@ fn tick_block<B: Behaviour>(
 
 /// Each TimeSensor ticks at its turn.
 pub fn clock<B: Behaviour>(
-    fixed: &RoutedScene,
+    routed: &RoutedScene,
     tasks: &mut Vec<CascadeTask>,
     course: &mut Course<B>,
     boxes: &mut BoxCache,
     input: &Stamped,
 ) -> Result<(), AllocError>
-    requires empty { tasks.old.items ≡ [] }
-    requires boxes { boxes.old ≡ rows_of fixed.now.scene course.old.live.world.fields }
-    requires cast { HasScriptsOf (wiring_at fixed.now) (seen course.old) }
+    requires rest { IsAtRest routed.now tasks.old.items [] boxes.old (seen course.old) }
     ensures course { OnOk result (seen course.new
-        ≡ fold (tick_node_of (wiring_at fixed.now) input.now.time) (seen course.old)
-        (clocks_of (types_of fixed.now.scene))) }
-    ensures empty { OnOk result (tasks.new.items ≡ []) }
-    ensures boxes { OnOk result
-        (boxes.new ≡ rows_of fixed.now.scene course.new.live.world.fields) }
-    ensures kinds { kinds_of course.new.scripts ≡ kinds_of course.old.scripts }
-    ensures count { course.new.settling.count ≡ course.old.settling.count }
+        ≡ fold (tick_node_of (wiring_at routed.now) input.now.time) (seen course.old)
+        (clocks_of (types_of routed.now.scene))) }
+    ensures rest { OnOk result
+        (IsAtRest routed.now tasks.new.items [] boxes.new (seen course.new)) }
+    ensures scripts { HasSameScripts (seen course.old) (seen course.new) }
 {
-    let count = fixed.scene.count()?;
+    let count = routed.scene.count()?;
     let mut replies = Outbox::new();
     for block in 0..count / BLOCK + 1 {
         tick_block(
-            fixed,
+            routed,
             tasks,
             course,
             &mut replies,

@@ -2,12 +2,12 @@
 
 ghost use Rattle.std.specs.Prelude.{◌≡◌, [], IfOk, OnOk, is_some};
 ghost use Rattle.pick_core.specs.Sites.{rows_of};
-ghost use Rattle.script_running.specs.Acting.{kinds_of};
 ghost use Rattle.cascade_core.specs.Course.{wiring_at, seen};
 ghost use Rattle.cascade_core.specs.Cascade.{arrival, reached, received_by};
 ghost use Rattle.cascade_core.specs.Sound.{HasScriptsOf};
+ghost use Rattle.cascade_core.specs.Resting.{HasSameScripts, IsAtRest};
 
-use crate::fixed::RoutedScene;
+use crate::routed::RoutedScene;
 use cascade_rules::deliver;
 use cascade_world::Live;
 use pick_core::BoxCache;
@@ -32,29 +32,28 @@ impl<B: Behaviour> Course<B> {
     /// An event comes to the script of its target: whether there is one that receives it.
     fn receive(
         &mut self,
-        fixed: &RoutedScene,
+        routed: &RoutedScene,
         target: End,
         value: &Value,
         out: &mut Outbox,
     ) -> Result<bool, AllocError>
         requires empty { out.old.items ≡ [] }
-        requires cast { HasScriptsOf (wiring_at fixed.now) (seen self.old) }
+        requires has_scripts { HasScriptsOf (wiring_at routed.now) (seen self.old) }
         ensures received { IfOk result (λ received. received
-            ≡ is_some (arrival (wiring_at fixed.now) (seen self.old) target value.now)) }
+            ≡ is_some (arrival (wiring_at routed.now) (seen self.old) target value.now)) }
         ensures course { OnOk result (seen self.new
-            ≡ (received_by (wiring_at fixed.now) (seen self.old)
-            (arrival (wiring_at fixed.now) (seen self.old) target value.now)).course) }
+            ≡ (received_by (wiring_at routed.now) (seen self.old)
+            (arrival (wiring_at routed.now) (seen self.old) target value.now)).course) }
         ensures replies { OnOk result (out.new.items
-            ≡ (received_by (wiring_at fixed.now) (seen self.old)
-            (arrival (wiring_at fixed.now) (seen self.old) target value.now)).replies) }
+            ≡ (received_by (wiring_at routed.now) (seen self.old)
+            (arrival (wiring_at routed.now) (seen self.old) target value.now)).replies) }
         ensures live { self.new.live ≡ self.old.live }
-        ensures kinds { kinds_of self.new.scripts ≡ kinds_of self.old.scripts }
-        ensures count { self.new.settling.count ≡ self.old.settling.count }
+        ensures scripts { HasSameScripts (seen self.old) (seen self.new) }
     {
-        let Some(k) = fixed.runs.script_of(target.node) else {
+        let Some(k) = routed.runs.script_of(target.node) else {
             return Ok(false);
         };
-        let ports = fixed.runs.ports(k);
+        let ports = routed.runs.ports(k);
         if !self.scripts.receive(k, ports, target.field, value, out) {
             return Ok(false);
         }
@@ -68,31 +67,28 @@ impl<B: Behaviour> Course<B> {
     pub(crate) fn deliver(
         &mut self,
         alloc: Global,
-        fixed: &RoutedScene,
+        routed: &RoutedScene,
         boxes: &mut BoxCache,
         target: End,
         value: &Value,
         out: &mut Outbox,
     ) -> Result<(), AllocError>
-        requires empty { out.old.items ≡ [] }
-        requires boxes { boxes.old ≡ rows_of fixed.now.scene self.old.live.world.fields }
-        requires cast { HasScriptsOf (wiring_at fixed.now) (seen self.old) }
+        requires rest { IsAtRest routed.now [] out.old.items boxes.old (seen self.old) }
         ensures course { OnOk result (seen self.new
-            ≡ (reached (wiring_at fixed.now) (seen self.old) target value.now).course) }
+            ≡ (reached (wiring_at routed.now) (seen self.old) target value.now).course) }
         ensures replies { OnOk result (out.new.items
-            ≡ (reached (wiring_at fixed.now) (seen self.old) target value.now).replies) }
+            ≡ (reached (wiring_at routed.now) (seen self.old) target value.now).replies) }
         ensures boxes { OnOk result
-            (boxes.new ≡ rows_of fixed.now.scene self.new.live.world.fields) }
-        ensures kinds { kinds_of self.new.scripts ≡ kinds_of self.old.scripts }
-        ensures count { self.new.settling.count ≡ self.old.settling.count }
+            (boxes.new ≡ rows_of routed.now.scene self.new.live.world.fields) }
+        ensures scripts { HasSameScripts (seen self.old) (seen self.new) }
     {
-        if self.receive(fixed, target, value, out)? {
+        if self.receive(routed, target, value, out)? {
             return Ok(());
         }
         deliver(
             &mut self.live,
             alloc,
-            &fixed.scene,
+            &routed.scene,
             boxes,
             target,
             value,

@@ -1,21 +1,20 @@
 //! An input happens: it goes to the nodes that it concerns, scripts settle, and the world moves on.
 
-ghost use Rattle.std.specs.Prelude.{◌≡◌, ◌+◌, [], IfOk, OnOk, true, length};
-ghost use Rattle.pick_core.specs.Sites.{rows_of};
+ghost use Rattle.std.specs.Prelude.{◌≡◌, ◌+◌, [], IfOk, OnOk, length};
 ghost use Rattle.script_running.specs.Acting.{kinds_of};
 ghost use Rattle.cascade_core.specs.Course.{wiring_at, seen};
-ghost use Rattle.cascade_core.specs.Sound.{HasScriptsOf, IsFixed};
+ghost use Rattle.cascade_core.specs.Resting.{HasSameScripts, HasSceneScripts, IsAtRest};
 ghost use Rattle.cascade_core.specs.Course.{course as course_of, ended};
-ghost use Rattle.cascade_core.specs.Scripts.{kinds_in, running, states_of};
+ghost use Rattle.cascade_core.specs.Scripts.{running, states_of};
 ghost use Rattle.cascade_core.specs.Apply.{begin as begin_of};
 ghost use Rattle.cascade_core.specs.Work.{IsWork};
 ghost use Rattle.cascade_core.specs.Apply.{apply, course_after, happen};
 
-use crate::bench::Buffers;
+use crate::buffers::Buffers;
 use crate::clock::clock;
 use crate::course::Course;
-use crate::fixed::RoutedScene;
 use crate::pointer::point;
+use crate::routed::RoutedScene;
 use crate::settle::settle;
 use crate::work::Work;
 use cascade_trace::deliveries;
@@ -40,61 +39,61 @@ impl<B: Behaviour> Course<B> {
 
 /// What happened at an input goes to the nodes that it concerns.
 fn happen<B: Behaviour>(
-    fixed: &RoutedScene,
-    bench: &mut Buffers,
+    routed: &RoutedScene,
+    buffers: &mut Buffers,
     course: &mut Course<B>,
     input: &Stamped,
 ) -> Result<(), AllocError>
-    requires empty { bench.old.tasks.items ≡ [] }
-    requires boxes { bench.old.boxes ≡ rows_of fixed.now.scene course.old.live.world.fields }
-    requires cast { HasScriptsOf (wiring_at fixed.now) (seen course.old) }
+    requires rest { IsAtRest routed.now buffers.old.tasks.items [] buffers.old.boxes
+        (seen course.old) }
     ensures course { OnOk result (seen course.new
-        ≡ happen fixed.now.scene (wiring_at fixed.now) input.now.time (seen course.old)
+        ≡ happen routed.now.scene (wiring_at routed.now) input.now.time (seen course.old)
         input.now.cause) }
-    ensures empty { OnOk result (bench.new.tasks.items ≡ []) }
-    ensures boxes { OnOk result
-        (bench.new.boxes ≡ rows_of fixed.now.scene course.new.live.world.fields) }
-    ensures kinds { kinds_of course.new.scripts ≡ kinds_of course.old.scripts }
-    ensures count { course.new.settling.count ≡ course.old.settling.count }
+    ensures rest { OnOk result
+        (IsAtRest routed.now buffers.new.tasks.items [] buffers.new.boxes (seen course.new)) }
+    ensures scripts { HasSameScripts (seen course.old) (seen course.new) }
 {
     match input.cause() {
-        Cause::Clock => clock(fixed, &mut bench.tasks, course, &mut bench.boxes, input),
-        Cause::Pointer(pointer) => point(fixed, bench, course, pointer),
+        Cause::Clock => clock(
+            routed,
+            &mut buffers.tasks,
+            course,
+            &mut buffers.boxes,
+            input,
+        ),
+        Cause::Pointer(pointer) => point(routed, buffers, course, pointer),
     }
 }
 
 /// The world moves on by one input.
 #[tactic(auto, unfolding(crate::specs::Apply::apply))]
 pub fn advance<B: Behaviour>(
-    fixed: &RoutedScene,
-    bench: &mut Buffers,
+    routed: &RoutedScene,
+    buffers: &mut Buffers,
     course: &mut Course<B>,
     input: &Stamped,
 ) -> Result<Work, AllocError>
-    requires boxes { bench.old.boxes ≡ rows_of fixed.now.scene course.old.live.world.fields }
-    requires cast { HasScriptsOf (wiring_at fixed.now) (seen course.old) }
+    requires rest { IsAtRest routed.now [] [] buffers.old.boxes (seen course.old) }
+    requires scene { HasSceneScripts routed.now (seen course.old) }
     requires next { input.now.number ≡ course.old.live.world.applied + 1 }
-    requires fixed { IsFixed fixed.now }
-    requires scripts { kinds_of course.old.scripts ≡ kinds_in fixed.now.scene }
     ensures world { OnOk result (ended (seen course.new)
-        ≡ apply fixed.now.scene fixed.now.routes (ended (seen course.old)) input.now) }
-    ensures boxes { OnOk result
-        (bench.new.boxes ≡ rows_of fixed.now.scene course.new.live.world.fields) }
+        ≡ apply routed.now.scene routed.now.routes (ended (seen course.old)) input.now) }
+    ensures rest { OnOk result
+        (IsAtRest routed.now buffers.new.tasks.items [] buffers.new.boxes (seen course.new)) }
     ensures work { IfOk result
-        (IsWork fixed.now.routes course.old.live.world.trace course.new.live.world.trace
-        (course_after fixed.now.scene fixed.now.routes (ended (seen course.old))
+        (IsWork routed.now.routes course.old.live.world.trace course.new.live.world.trace
+        (course_after routed.now.scene routed.now.routes (ended (seen course.old))
         input.now).settling.settled) }
-    ensures kinds { kinds_of course.new.scripts ≡ kinds_of course.old.scripts }
-    ensures count { course.new.settling.count ≡ course.old.settling.count }
+    ensures scripts { HasSameScripts (seen course.old) (seen course.new) }
 {
-    bench.tasks.clear();
+    buffers.tasks.clear();
     course.begin(input);
-    happen(fixed, bench, course, input)?;
-    settle(fixed, &mut bench.tasks, course, &mut bench.boxes)?;
+    happen(routed, buffers, course, input)?;
+    settle(routed, &mut buffers.tasks, course, &mut buffers.boxes)?;
     let sent = course.live.sent.as_slice();
     Ok(Work {
         sends: sent.len(),
-        deliveries: deliveries(&fixed.routes, sent),
+        deliveries: deliveries(&routed.routes, sent),
         settles: course.settling.settles(),
     })
 }

@@ -2,17 +2,17 @@
 //! in a trace (ISO/IEC 19775-1, event model).
 #![tactic(auto)]
 
-mod bench;
+mod buffers;
 mod clock;
 mod course;
 mod fault;
-mod fixed;
 mod input;
 mod laws;
 mod opening;
 mod parts;
 mod pointer;
 mod pressed;
+mod routed;
 mod series;
 mod settle;
 mod stack;

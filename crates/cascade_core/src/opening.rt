@@ -2,20 +2,20 @@
 
 ghost use Rattle.std.specs.Prelude.{◌≡◌, ◌<◌, [], IfOk, OnOk, true, length};
 ghost use Rattle.std.specs.List.{list_all};
-ghost use Rattle.pick_core.specs.Sites.{rows_of};
 ghost use Rattle.scene_core.specs.Scene.{shapes_of};
 ghost use Rattle.script_host.specs.Behaviour.{Initialize};
 ghost use Rattle.script_running.specs.Acting.{act, kinds_of};
 ghost use Rattle.cascade_core.specs.Apply.{opening as opening_of, sent_by_all, started, untold};
 ghost use Rattle.cascade_core.specs.Cascade.{send_replies as send_replies_of};
-ghost use Rattle.cascade_core.specs.Course.{ended, node_of, wiring_at, ports_of, seen};
-ghost use Rattle.cascade_core.specs.Scripts.{kinds_in, scripts_in};
+ghost use Rattle.cascade_core.specs.Course.{course as course_of, ended, node_of, wiring_at, ports_of, seen};
+ghost use Rattle.cascade_core.specs.Scripts.{scripts_in};
 ghost use Rattle.cascade_core.specs.Settles.{settle as settle_of};
-ghost use Rattle.cascade_core.specs.Sound.{HasScriptsOf, IsSound, IsFixed, are_sent};
+ghost use Rattle.cascade_core.specs.Sound.{IsSound, RunsItsScripts, are_sent};
+ghost use Rattle.cascade_core.specs.Resting.{HasSameScripts, HasSceneScripts, IsAtRest};
 
-use crate::bench::Buffers;
+use crate::buffers::Buffers;
 use crate::course::Course;
-use crate::fixed::RoutedScene;
+use crate::routed::RoutedScene;
 use crate::settle::settle;
 use crate::stack::send_replies;
 use cascade_rules::CascadeTask;
@@ -45,22 +45,22 @@ impl Model for Sending {
 
 /// Initializes the k-th script: what its node is to send.
 #[tactic(auto, using(crate::proofs::Openings::script_run))]
-fn initialize_one<B: Behaviour>(fixed: &RoutedScene, scripts: &mut Scripts<B>, k: usize) -> Sending
+fn initialize_one<B: Behaviour>(routed: &RoutedScene, scripts: &mut Scripts<B>, k: usize) -> Sending
     requires there { k < length scripts.old }
-    requires sound { IsSound (wiring_at fixed.now) (kinds_of scripts.old) }
+    requires sound { IsSound (wiring_at routed.now) (kinds_of scripts.old) }
     ensures scripts { scripts.new
-        ≡ (act (ports_of (wiring_at fixed.now) k) Initialize k scripts.old).scripts }
+        ≡ (act (ports_of (wiring_at routed.now) k) Initialize k scripts.old).scripts }
     ensures sending { result
         ≡ record {
-          node = node_of (wiring_at fixed.now) k;
-          replies = (act (ports_of (wiring_at fixed.now) k) Initialize k scripts.old).replies;
+          node = node_of (wiring_at routed.now) k;
+          replies = (act (ports_of (wiring_at routed.now) k) Initialize k scripts.old).replies;
         } }
     ensures kinds { kinds_of scripts.new ≡ kinds_of scripts.old }
 {
     let mut replies = Outbox::new();
-    script_running::initialize(scripts, k, fixed.runs.ports(k), &mut replies);
+    script_running::initialize(scripts, k, routed.runs.ports(k), &mut replies);
     Sending {
-        node: fixed.runs.node(k),
+        node: routed.runs.node(k),
         replies,
     }
 }
@@ -68,119 +68,112 @@ fn initialize_one<B: Behaviour>(fixed: &RoutedScene, scripts: &mut Scripts<B>, k
 /// Initializes all scripts in the order of their numbers: what their nodes are to send.
 fn initialize_all<B: Behaviour>(
     alloc: Global,
-    fixed: &RoutedScene,
+    routed: &RoutedScene,
     scripts: &mut Scripts<B>,
 ) -> Result<Vec<Sending>, AllocError>
-    requires sound { IsSound (wiring_at fixed.now) (kinds_of scripts.old) }
+    requires sound { IsSound (wiring_at routed.now) (kinds_of scripts.old) }
     ensures scripts { OnOk result
-        (scripts.new ≡ (started (wiring_at fixed.now) scripts.old).scripts) }
+        (scripts.new ≡ (started (wiring_at routed.now) scripts.old).scripts) }
     ensures sendings { IfOk result (λ sendings.
-        sendings.items ≡ (started (wiring_at fixed.now) scripts.old).sendings) }
+        sendings.items ≡ (started (wiring_at routed.now) scripts.old).sendings) }
     ensures kinds { kinds_of scripts.new ≡ kinds_of scripts.old }
 {
     let count = scripts.len();
     let mut sendings = Vec::with_capacity(alloc, count)?;
     for k in 0..count {
-        sendings.push(initialize_one(fixed, scripts, k))?;
+        sendings.push(initialize_one(routed, scripts, k))?;
     }
     Ok(sendings)
 }
 
 /// What the node of one script is to send is sent.
 fn send_one<B: Behaviour>(
-    fixed: &RoutedScene,
+    routed: &RoutedScene,
     tasks: &mut Vec<CascadeTask>,
     course: &mut Course<B>,
     boxes: &mut BoxCache,
     sending: Sending,
 ) -> Result<(), AllocError>
-    requires empty { tasks.old.items ≡ [] }
-    requires boxes { boxes.old ≡ rows_of fixed.now.scene course.old.live.world.fields }
-    requires cast { HasScriptsOf (wiring_at fixed.now) (seen course.old) }
-    requires outputs { are_sent (shapes_of fixed.now.scene) sending ≡ true }
+    requires rest { IsAtRest routed.now tasks.old.items [] boxes.old (seen course.old) }
+    requires outputs { are_sent (shapes_of routed.now.scene) sending ≡ true }
     ensures course { OnOk result (seen course.new
-        ≡ send_replies_of (wiring_at fixed.now) sending.node (seen course.old) sending.replies) }
-    ensures empty { OnOk result (tasks.new.items ≡ []) }
-    ensures boxes { OnOk result
-        (boxes.new ≡ rows_of fixed.now.scene course.new.live.world.fields) }
-    ensures kinds { kinds_of course.new.scripts ≡ kinds_of course.old.scripts }
-    ensures count { course.new.settling.count ≡ course.old.settling.count }
+        ≡ send_replies_of (wiring_at routed.now) sending.node (seen course.old) sending.replies) }
+    ensures rest { OnOk result
+        (IsAtRest routed.now tasks.new.items [] boxes.new (seen course.new)) }
+    ensures scripts { HasSameScripts (seen course.old) (seen course.new) }
 {
     let Sending { node, mut replies } = sending;
-    send_replies(fixed, tasks, course, &mut replies, boxes, node)
+    send_replies(routed, tasks, course, &mut replies, boxes, node)
 }
 
 /// What the nodes of scripts are to send is sent, in order.
 fn send_all<B: Behaviour>(
-    fixed: &RoutedScene,
+    routed: &RoutedScene,
     tasks: &mut Vec<CascadeTask>,
     course: &mut Course<B>,
     boxes: &mut BoxCache,
     sendings: Vec<Sending>,
 ) -> Result<(), AllocError>
-    requires empty { tasks.old.items ≡ [] }
-    requires boxes { boxes.old ≡ rows_of fixed.now.scene course.old.live.world.fields }
-    requires cast { HasScriptsOf (wiring_at fixed.now) (seen course.old) }
-    requires outputs { list_all (are_sent (shapes_of fixed.now.scene)) sendings.items ≡ true }
+    requires rest { IsAtRest routed.now tasks.old.items [] boxes.old (seen course.old) }
+    requires outputs { list_all (are_sent (shapes_of routed.now.scene)) sendings.items ≡ true }
     ensures course { OnOk result (seen course.new
-        ≡ sent_by_all (wiring_at fixed.now) (seen course.old) sendings.items) }
-    ensures empty { OnOk result (tasks.new.items ≡ []) }
-    ensures boxes { OnOk result
-        (boxes.new ≡ rows_of fixed.now.scene course.new.live.world.fields) }
-    ensures kinds { kinds_of course.new.scripts ≡ kinds_of course.old.scripts }
-    ensures count { course.new.settling.count ≡ course.old.settling.count }
+        ≡ sent_by_all (wiring_at routed.now) (seen course.old) sendings.items) }
+    ensures rest { OnOk result
+        (IsAtRest routed.now tasks.new.items [] boxes.new (seen course.new)) }
+    ensures scripts { HasSameScripts (seen course.old) (seen course.new) }
 {
     for sending in sendings {
-        send_one(fixed, tasks, course, boxes, sending)?;
+        send_one(routed, tasks, course, boxes, sending)?;
     }
     Ok(())
 }
 
 /// What the nodes of scripts are to send is sent, and then the scripts settle.
 fn send_and_settle<B: Behaviour>(
-    fixed: &RoutedScene,
-    bench: &mut Buffers,
+    routed: &RoutedScene,
+    buffers: &mut Buffers,
     course: &mut Course<B>,
     sendings: Vec<Sending>,
 ) -> Result<(), AllocError>
-    requires empty { bench.old.tasks.items ≡ [] }
-    requires boxes { bench.old.boxes ≡ rows_of fixed.now.scene course.old.live.world.fields }
-    requires cast { HasScriptsOf (wiring_at fixed.now) (seen course.old) }
-    requires outputs { list_all (are_sent (shapes_of fixed.now.scene)) sendings.items ≡ true }
+    requires rest { IsAtRest routed.now buffers.old.tasks.items [] buffers.old.boxes
+        (seen course.old) }
+    requires outputs { list_all (are_sent (shapes_of routed.now.scene)) sendings.items ≡ true }
     requires fresh { course.old.settling.settled ≡ [] }
-    ensures course { OnOk result (seen course.new ≡ settle_of (wiring_at fixed.now)
-        (sent_by_all (wiring_at fixed.now) (seen course.old) sendings.items)) }
-    ensures boxes { OnOk result
-        (bench.new.boxes ≡ rows_of fixed.now.scene course.new.live.world.fields) }
-    ensures kinds { kinds_of course.new.scripts ≡ kinds_of course.old.scripts }
-    ensures count { course.new.settling.count ≡ course.old.settling.count }
+    ensures course { OnOk result (seen course.new ≡ settle_of (wiring_at routed.now)
+        (sent_by_all (wiring_at routed.now) (seen course.old) sendings.items)) }
+    ensures rest { OnOk result
+        (IsAtRest routed.now buffers.new.tasks.items [] buffers.new.boxes (seen course.new)) }
+    ensures scripts { HasSameScripts (seen course.old) (seen course.new) }
 {
-    send_all(fixed, &mut bench.tasks, course, &mut bench.boxes, sendings)?;
-    settle(fixed, &mut bench.tasks, course, &mut bench.boxes)?;
+    send_all(
+        routed,
+        &mut buffers.tasks,
+        course,
+        &mut buffers.boxes,
+        sendings,
+    )?;
+    settle(routed, &mut buffers.tasks, course, &mut buffers.boxes)?;
     Ok(())
 }
 
 /// The course of input 0 of these scripts, over a world in which nothing has happened.
 pub fn open<B: Behaviour>(
     alloc: Global,
-    fixed: &RoutedScene,
-    bench: &mut Buffers,
+    routed: &RoutedScene,
+    buffers: &mut Buffers,
     live: Live,
     mut scripts: Scripts<B>,
 ) -> Result<Course<B>, AllocError>
-    requires fixed { IsFixed fixed.now }
-    requires sound { IsSound (wiring_at fixed.now) (kinds_of scripts) }
-    requires scripts { scripts ≡ scripts_in fixed.now.scene }
-    requires empty { bench.old.tasks.items ≡ [] }
-    requires world { live.world ≡ untold fixed.now.scene }
-    requires unsent { live.sent ≡ [] }
-    requires boxes { bench.old.boxes ≡ rows_of fixed.now.scene live.world.fields }
+    requires rest { IsAtRest routed.now buffers.old.tasks.items [] buffers.old.boxes
+        (course_of live scripts) }
+    requires runs { RunsItsScripts routed.now }
+    requires scripts { scripts ≡ scripts_in routed.now.scene }
+    requires live { live ≡ record { world = untold routed.now.scene; sent = [] } }
     ensures world { IfOk result (λ course.
-        ended (seen course) ≡ opening_of fixed.now.scene fixed.now.routes) }
-    ensures boxes { IfOk result (λ course.
-        bench.new.boxes ≡ rows_of fixed.now.scene course.live.world.fields) }
-    ensures kinds { IfOk result (λ course. kinds_of course.scripts ≡ kinds_in fixed.now.scene) }
-    ensures count { IfOk result (λ course. course.settling.count ≡ length course.scripts) }
+        ended (seen course) ≡ opening_of routed.now.scene routed.now.routes) }
+    ensures rest { IfOk result (λ course.
+        IsAtRest routed.now buffers.new.tasks.items [] buffers.new.boxes (seen course)) }
+    ensures scene { IfOk result (λ course. HasSceneScripts routed.now (seen course)) }
 {
     // Each exit drops by calls: a drop in place is proved anew at each.
     let Ok(settling) = DueScripts::new(alloc, scripts.len()) else {
@@ -188,7 +181,7 @@ pub fn open<B: Behaviour>(
         drop(live);
         return Err(AllocError);
     };
-    let Ok(sendings) = initialize_all(alloc, fixed, &mut scripts) else {
+    let Ok(sendings) = initialize_all(alloc, routed, &mut scripts) else {
         drop(settling);
         drop(scripts);
         drop(live);
@@ -199,7 +192,7 @@ pub fn open<B: Behaviour>(
         scripts: BegunScripts::new(scripts),
         settling,
     };
-    let Ok(()) = send_and_settle(fixed, bench, &mut course, sendings) else {
+    let Ok(()) = send_and_settle(routed, buffers, &mut course, sendings) else {
         drop(course);
         return Err(AllocError);
     };

@@ -7,14 +7,14 @@ ghost use Rattle.script_host.specs.Hosting.{SlotView};
 ghost use Rattle.script_running.specs.Runs.{runs_of};
 ghost use Rattle.script_running.specs.Scripts.{script_list};
 ghost use Rattle.cascade_core.specs.Course.{wiring_at};
-ghost use Rattle.cascade_core.specs.Sound.{IsFixed, IsSound};
+ghost use Rattle.cascade_core.specs.Sound.{RunsItsScripts, IsSound};
 ghost use Rattle.cascade_core.specs.Apply.{untold};
 ghost use Rattle.pick_core.specs.Sites.{rows_of};
 ghost use Rattle.scene_core.specs.Scene.{types_of};
 ghost use Rattle.sensor_plane.specs.Pointing.{start_of};
 
-use crate::bench::Buffers;
-use crate::fixed::RoutedScene;
+use crate::buffers::Buffers;
+use crate::routed::RoutedScene;
 use cascade_trace::{SentBits, Trace};
 use cascade_world::{Live, State, VIEWERS, Watched, WorldData};
 use pick_core::BoxCache;
@@ -76,9 +76,9 @@ fn untold(alloc: Global, scene: &Scene) -> Result<WorldData, AllocError>
 }
 
 /// What a stage works with: no task is left, and the boxes are those of the world.
-fn bench_of(alloc: Global, scene: &Scene, world: &WorldData) -> Result<Buffers, AllocError>
-    ensures boxes { IfOk result (λ bench. bench.boxes ≡ rows_of scene.now world.now.fields) }
-    ensures tasks { IfOk result (λ bench. bench.tasks.items ≡ []) }
+fn buffers_of(alloc: Global, scene: &Scene, world: &WorldData) -> Result<Buffers, AllocError>
+    ensures boxes { IfOk result (λ buffers. buffers.boxes ≡ rows_of scene.now world.now.fields) }
+    ensures tasks { IfOk result (λ buffers. buffers.tasks.items ≡ []) }
 {
     let boxes = BoxCache::new(alloc, scene, world.fields.as_slice())?;
     Ok(Buffers {
@@ -102,24 +102,24 @@ fn turn_of(alloc: Global, scene: &Scene) -> Result<Live, AllocError>
 #[derive(Drop)]
 pub(crate) struct Parts {
     pub(crate) live: Live,
-    pub(crate) bench: Buffers,
+    pub(crate) buffers: Buffers,
 }
 
 /// The parts of a stage before any input.
 pub(crate) fn parts_of(alloc: Global, scene: &Scene) -> Result<Parts, AllocError>
     ensures world { IfOk result (λ parts. parts.live.world ≡ untold scene.now) }
     ensures sent { IfOk result (λ parts. parts.live.sent ≡ []) }
-    ensures tasks { IfOk result (λ parts. parts.bench.tasks.items ≡ []) }
+    ensures tasks { IfOk result (λ parts. parts.buffers.tasks.items ≡ []) }
     ensures boxes { IfOk result
-        (λ parts. parts.bench.boxes ≡ rows_of scene.now parts.live.world.fields) }
+        (λ parts. parts.buffers.boxes ≡ rows_of scene.now parts.live.world.fields) }
 {
     // Each exit drops by calls: a drop in place is proved anew at each.
     let live = turn_of(alloc, scene)?;
-    let Ok(bench) = bench_of(alloc, scene, &live.world) else {
+    let Ok(buffers) = buffers_of(alloc, scene, &live.world) else {
         drop(live);
         return Err(AllocError);
     };
-    Ok(Parts { live, bench })
+    Ok(Parts { live, buffers })
 }
 
 /// The scripts that a scene runs.
@@ -133,10 +133,10 @@ fn runs_in(alloc: Global, scene: &Scene) -> Result<Runs, AllocError>
 }
 
 /// What events go by in a scene with these routes.
-pub fn fixed_of(alloc: Global, scene: Scene, routes: Routes) -> Result<RoutedScene, AllocError>
+pub fn routed_of(alloc: Global, scene: Scene, routes: Routes) -> Result<RoutedScene, AllocError>
     ensures scene { IfOk result (λ made. made.scene ≡ scene) }
     ensures routes { IfOk result (λ made. made.routes ≡ routes) }
-    ensures runs { IfOk result (λ made. IsFixed made) }
+    ensures runs { IfOk result (λ made. RunsItsScripts made) }
     ensures sound { IfOk result (λ made. (scripts : List SlotView)
         → Fits (script_list scene) scripts
         → IsSound (wiring_at made) (kinds_of scripts)) }

@@ -4,20 +4,18 @@
 ghost use Rattle.std.specs.Prelude.{◌≡◌, ◌*◌, ◌-◌, ◌≤◌, [], OnOk, map};
 ghost use Rattle.std.specs.List.{fold, range_with_len};
 ghost use Rattle.scene_core.specs.Scene.{types_of};
-ghost use Rattle.pick_core.specs.Sites.{rows_of};
-ghost use Rattle.script_running.specs.Acting.{kinds_of};
 ghost use Rattle.cascade_core.specs.Course.{wiring_at, seen};
-ghost use Rattle.cascade_core.specs.Sound.{HasScriptsOf};
+ghost use Rattle.cascade_core.specs.Resting.{HasSameScripts, IsAtRest};
 ghost use Rattle.cascade_core.specs.Apply.{point as point_of, point_node as point_node_of};
 ghost use Rattle.cascade_world.specs.Insides.{seen as insides_seen};
 ghost use Rattle.cascade_world.specs.Nodes.{is_sensor, pointing_sensors_of};
 ghost use Rattle.cascade_world.specs.Pointer.{or_all, untracked};
 ghost use Rattle.cascade_core.specs.Walks.{over_block, untracked_by, where_passes};
 
-use crate::bench::Buffers;
+use crate::buffers::Buffers;
 use crate::course::Course;
-use crate::fixed::RoutedScene;
 use crate::pressed::list_pressed;
+use crate::routed::RoutedScene;
 use crate::stack::send_replies;
 use cascade_rules::{CascadeTask, is_sensor};
 use cascade_world::{AimedAt, BLOCK, Concerned, insides};
@@ -29,7 +27,7 @@ use x3d_values::Pointer;
 
 /// A pointing sensor meets a pointer, and what it sends is followed.
 fn point_node<B: Behaviour>(
-    fixed: &RoutedScene,
+    routed: &RoutedScene,
     tasks: &mut Vec<CascadeTask>,
     course: &mut Course<B>,
     replies: &mut Outbox,
@@ -37,20 +35,15 @@ fn point_node<B: Behaviour>(
     concerned: Concerned,
     aim: &AimedAt,
 ) -> Result<(), AllocError>
-    requires empty { tasks.old.items ≡ [] }
-    requires none { replies.old.items ≡ [] }
-    requires boxes { boxes.old ≡ rows_of fixed.now.scene course.old.live.world.fields }
-    requires cast { HasScriptsOf (wiring_at fixed.now) (seen course.old) }
+    requires rest { IsAtRest routed.now tasks.old.items replies.old.items boxes.old
+        (seen course.old) }
     ensures course { OnOk result
         (seen course.new
-        ≡ point_node_of fixed.now.scene (wiring_at fixed.now) aim.now.pointer aim.now.before
+        ≡ point_node_of routed.now.scene (wiring_at routed.now) aim.now.pointer aim.now.before
         (insides_seen aim.now.inside) (seen course.old) concerned) }
-    ensures empty { OnOk result (tasks.new.items ≡ []) }
-    ensures none { OnOk result (replies.new.items ≡ []) }
-    ensures boxes { OnOk result
-        (boxes.new ≡ rows_of fixed.now.scene course.new.live.world.fields) }
-    ensures kinds { kinds_of course.new.scripts ≡ kinds_of course.old.scripts }
-    ensures count { course.new.settling.count ≡ course.old.settling.count }
+    ensures rest { OnOk result
+        (IsAtRest routed.now tasks.new.items replies.new.items boxes.new (seen course.new)) }
+    ensures scripts { HasSameScripts (seen course.old) (seen course.new) }
 {
     if course.live.world.passes(concerned, aim) {
         return Ok(());
@@ -58,44 +51,40 @@ fn point_node<B: Behaviour>(
     course
         .live
         .world
-        .meet(&fixed.scene, concerned, aim, replies);
-    send_replies(fixed, tasks, course, replies, boxes, concerned.sensor)
+        .meet(&routed.scene, concerned, aim, replies);
+    send_replies(routed, tasks, course, replies, boxes, concerned.sensor)
 }
 
 /// Each of these sensors meets a pointer at its turn.
 fn point_all<B: Behaviour>(
-    fixed: &RoutedScene,
+    routed: &RoutedScene,
     sensors: &[Concerned],
     tasks: &mut Vec<CascadeTask>,
     course: &mut Course<B>,
     boxes: &mut BoxCache,
     aim: &AimedAt,
 ) -> Result<(), AllocError>
-    requires empty { tasks.old.items ≡ [] }
-    requires boxes { boxes.old ≡ rows_of fixed.now.scene course.old.live.world.fields }
-    requires cast { HasScriptsOf (wiring_at fixed.now) (seen course.old) }
+    requires rest { IsAtRest routed.now tasks.old.items [] boxes.old (seen course.old) }
     ensures course { OnOk result
         (seen course.new
         ≡ fold
-        (point_node_of fixed.now.scene (wiring_at fixed.now) aim.now.pointer aim.now.before
+        (point_node_of routed.now.scene (wiring_at routed.now) aim.now.pointer aim.now.before
         (insides_seen aim.now.inside))
         (seen course.old) sensors.now) }
-    ensures empty { OnOk result (tasks.new.items ≡ []) }
-    ensures boxes { OnOk result
-        (boxes.new ≡ rows_of fixed.now.scene course.new.live.world.fields) }
-    ensures kinds { kinds_of course.new.scripts ≡ kinds_of course.old.scripts }
-    ensures count { course.new.settling.count ≡ course.old.settling.count }
+    ensures rest { OnOk result
+        (IsAtRest routed.now tasks.new.items [] boxes.new (seen course.new)) }
+    ensures scripts { HasSameScripts (seen course.old) (seen course.new) }
 {
     let mut replies = Outbox::new();
     for sensor in sensors {
-        point_node(fixed, tasks, course, &mut replies, boxes, *sensor, aim)?;
+        point_node(routed, tasks, course, &mut replies, boxes, *sensor, aim)?;
     }
     Ok(())
 }
 
 /// The node of that number meets a pointer, where it is a pointing sensor.
 fn point_any<B: Behaviour>(
-    fixed: &RoutedScene,
+    routed: &RoutedScene,
     tasks: &mut Vec<CascadeTask>,
     course: &mut Course<B>,
     replies: &mut Outbox,
@@ -103,34 +92,29 @@ fn point_any<B: Behaviour>(
     node: u32,
     aim: &AimedAt,
 ) -> Result<(), AllocError>
-    requires empty { tasks.old.items ≡ [] }
-    requires none { replies.old.items ≡ [] }
-    requires boxes { boxes.old ≡ rows_of fixed.now.scene course.old.live.world.fields }
-    requires cast { HasScriptsOf (wiring_at fixed.now) (seen course.old) }
+    requires rest { IsAtRest routed.now tasks.old.items replies.old.items boxes.old
+        (seen course.old) }
     ensures course { OnOk result (seen course.new
-        ≡ where_passes (is_sensor (types_of fixed.now.scene))
-        (untracked_by (point_node_of fixed.now.scene (wiring_at fixed.now) aim.now.pointer
+        ≡ where_passes (is_sensor (types_of routed.now.scene))
+        (untracked_by (point_node_of routed.now.scene (wiring_at routed.now) aim.now.pointer
         aim.now.before (insides_seen aim.now.inside))) (seen course.old) node) }
-    ensures empty { OnOk result (tasks.new.items ≡ []) }
-    ensures none { OnOk result (replies.new.items ≡ []) }
-    ensures boxes { OnOk result
-        (boxes.new ≡ rows_of fixed.now.scene course.new.live.world.fields) }
-    ensures kinds { kinds_of course.new.scripts ≡ kinds_of course.old.scripts }
-    ensures count { course.new.settling.count ≡ course.old.settling.count }
+    ensures rest { OnOk result
+        (IsAtRest routed.now tasks.new.items replies.new.items boxes.new (seen course.new)) }
+    ensures scripts { HasSameScripts (seen course.old) (seen course.new) }
 {
-    if !is_sensor(&fixed.scene, node) {
+    if !is_sensor(&routed.scene, node) {
         return Ok(());
     }
     let concerned = Concerned {
         sensor: node,
         tracked: None,
     };
-    point_node(fixed, tasks, course, replies, boxes, concerned, aim)
+    point_node(routed, tasks, course, replies, boxes, concerned, aim)
 }
 
 /// Each pointing sensor of some nodes meets a pointer at its turn.
 fn point_some<B: Behaviour>(
-    fixed: &RoutedScene,
+    routed: &RoutedScene,
     tasks: &mut Vec<CascadeTask>,
     course: &mut Course<B>,
     replies: &mut Outbox,
@@ -139,24 +123,19 @@ fn point_some<B: Behaviour>(
     end: u32,
     aim: &AimedAt,
 ) -> Result<(), AllocError>
-    requires empty { tasks.old.items ≡ [] }
-    requires none { replies.old.items ≡ [] }
-    requires boxes { boxes.old ≡ rows_of fixed.now.scene course.old.live.world.fields }
-    requires cast { HasScriptsOf (wiring_at fixed.now) (seen course.old) }
+    requires rest { IsAtRest routed.now tasks.old.items replies.old.items boxes.old
+        (seen course.old) }
     ensures course { OnOk result (seen course.new
-        ≡ fold (where_passes (is_sensor (types_of fixed.now.scene))
-        (untracked_by (point_node_of fixed.now.scene (wiring_at fixed.now) aim.now.pointer
+        ≡ fold (where_passes (is_sensor (types_of routed.now.scene))
+        (untracked_by (point_node_of routed.now.scene (wiring_at routed.now) aim.now.pointer
         aim.now.before (insides_seen aim.now.inside)))) (seen course.old)
         (range_with_len start (end - start))) }
-    ensures empty { OnOk result (tasks.new.items ≡ []) }
-    ensures none { OnOk result (replies.new.items ≡ []) }
-    ensures boxes { OnOk result
-        (boxes.new ≡ rows_of fixed.now.scene course.new.live.world.fields) }
-    ensures kinds { kinds_of course.new.scripts ≡ kinds_of course.old.scripts }
-    ensures count { course.new.settling.count ≡ course.old.settling.count }
+    ensures rest { OnOk result
+        (IsAtRest routed.now tasks.new.items replies.new.items boxes.new (seen course.new)) }
+    ensures scripts { HasSameScripts (seen course.old) (seen course.new) }
 {
     for node in start..end {
-        point_any(fixed, tasks, course, replies, boxes, node, aim)?;
+        point_any(routed, tasks, course, replies, boxes, node, aim)?;
     }
     Ok(())
 }
@@ -164,7 +143,7 @@ fn point_some<B: Behaviour>(
 /// The pointing sensors of a block of nodes meet a pointer, of so many nodes in all. A block is
 /// passed where it is known that nothing happens there.
 fn point_block<B: Behaviour>(
-    fixed: &RoutedScene,
+    routed: &RoutedScene,
     tasks: &mut Vec<CascadeTask>,
     course: &mut Course<B>,
     replies: &mut Outbox,
@@ -174,20 +153,15 @@ fn point_block<B: Behaviour>(
     aim: &AimedAt,
 ) -> Result<(), AllocError>
     requires within { block * 32 ≤ count }
-    requires empty { tasks.old.items ≡ [] }
-    requires none { replies.old.items ≡ [] }
-    requires boxes { boxes.old ≡ rows_of fixed.now.scene course.old.live.world.fields }
-    requires cast { HasScriptsOf (wiring_at fixed.now) (seen course.old) }
+    requires rest { IsAtRest routed.now tasks.old.items replies.old.items boxes.old
+        (seen course.old) }
     ensures course { OnOk result (seen course.new
-        ≡ over_block (where_passes (is_sensor (types_of fixed.now.scene))
-        (untracked_by (point_node_of fixed.now.scene (wiring_at fixed.now) aim.now.pointer
+        ≡ over_block (where_passes (is_sensor (types_of routed.now.scene))
+        (untracked_by (point_node_of routed.now.scene (wiring_at routed.now) aim.now.pointer
         aim.now.before (insides_seen aim.now.inside)))) (seen course.old) block count) }
-    ensures empty { OnOk result (tasks.new.items ≡ []) }
-    ensures none { OnOk result (replies.new.items ≡ []) }
-    ensures boxes { OnOk result
-        (boxes.new ≡ rows_of fixed.now.scene course.new.live.world.fields) }
-    ensures kinds { kinds_of course.new.scripts ≡ kinds_of course.old.scripts }
-    ensures count { course.new.settling.count ≡ course.old.settling.count }
+    ensures rest { OnOk result
+        (IsAtRest routed.now tasks.new.items replies.new.items boxes.new (seen course.new)) }
+    ensures scripts { HasSameScripts (seen course.old) (seen course.new) }
 {
     if course.live.world.passes_block(block, aim) {
         return Ok(());
@@ -195,7 +169,7 @@ fn point_block<B: Behaviour>(
     let start = block * BLOCK;
     let many = (count - start).min(BLOCK);
     point_some(
-        fixed,
+        routed,
         tasks,
         course,
         replies,
@@ -210,32 +184,37 @@ fn point_block<B: Behaviour>(
 
 /// Each pointing sensor meets a pointer at its turn.
 fn point_each<B: Behaviour>(
-    fixed: &RoutedScene,
+    routed: &RoutedScene,
     tasks: &mut Vec<CascadeTask>,
     course: &mut Course<B>,
     boxes: &mut BoxCache,
     aim: &AimedAt,
 ) -> Result<(), AllocError>
-    requires empty { tasks.old.items ≡ [] }
-    requires boxes { boxes.old ≡ rows_of fixed.now.scene course.old.live.world.fields }
-    requires cast { HasScriptsOf (wiring_at fixed.now) (seen course.old) }
+    requires rest { IsAtRest routed.now tasks.old.items [] boxes.old (seen course.old) }
     ensures course { OnOk result
         (seen course.new
         ≡ fold
-        (point_node_of fixed.now.scene (wiring_at fixed.now) aim.now.pointer aim.now.before
+        (point_node_of routed.now.scene (wiring_at routed.now) aim.now.pointer aim.now.before
         (insides_seen aim.now.inside))
         (seen course.old)
-        (map untracked (pointing_sensors_of (types_of fixed.now.scene)))) }
-    ensures empty { OnOk result (tasks.new.items ≡ []) }
-    ensures boxes { OnOk result
-        (boxes.new ≡ rows_of fixed.now.scene course.new.live.world.fields) }
-    ensures kinds { kinds_of course.new.scripts ≡ kinds_of course.old.scripts }
-    ensures count { course.new.settling.count ≡ course.old.settling.count }
+        (map untracked (pointing_sensors_of (types_of routed.now.scene)))) }
+    ensures rest { OnOk result
+        (IsAtRest routed.now tasks.new.items [] boxes.new (seen course.new)) }
+    ensures scripts { HasSameScripts (seen course.old) (seen course.new) }
 {
-    let count = fixed.scene.count()?;
+    let count = routed.scene.count()?;
     let mut replies = Outbox::new();
     for block in 0..count / BLOCK + 1 {
-        point_block(fixed, tasks, course, &mut replies, boxes, block, count, aim)?;
+        point_block(
+            routed,
+            tasks,
+            course,
+            &mut replies,
+            boxes,
+            block,
+            count,
+            aim,
+        )?;
     }
     Ok(())
 }
@@ -243,73 +222,66 @@ fn point_each<B: Behaviour>(
 /// Each of those that are pressed meets a pointer at its turn, or each pointing sensor where none
 /// is.
 fn point_concerned<B: Behaviour>(
-    fixed: &RoutedScene,
+    routed: &RoutedScene,
     pressed: &[Concerned],
     tasks: &mut Vec<CascadeTask>,
     course: &mut Course<B>,
     boxes: &mut BoxCache,
     aim: &AimedAt,
 ) -> Result<(), AllocError>
-    requires empty { tasks.old.items ≡ [] }
-    requires boxes { boxes.old ≡ rows_of fixed.now.scene course.old.live.world.fields }
-    requires cast { HasScriptsOf (wiring_at fixed.now) (seen course.old) }
+    requires rest { IsAtRest routed.now tasks.old.items [] boxes.old (seen course.old) }
     ensures course { OnOk result
         (seen course.new
         ≡ fold
-        (point_node_of fixed.now.scene (wiring_at fixed.now) aim.now.pointer aim.now.before
+        (point_node_of routed.now.scene (wiring_at routed.now) aim.now.pointer aim.now.before
         (insides_seen aim.now.inside))
         (seen course.old)
-        (or_all pressed.now (map untracked (pointing_sensors_of (types_of fixed.now.scene))))) }
-    ensures empty { OnOk result (tasks.new.items ≡ []) }
-    ensures boxes { OnOk result
-        (boxes.new ≡ rows_of fixed.now.scene course.new.live.world.fields) }
-    ensures kinds { kinds_of course.new.scripts ≡ kinds_of course.old.scripts }
-    ensures count { course.new.settling.count ≡ course.old.settling.count }
+        (or_all pressed.now (map untracked (pointing_sensors_of (types_of routed.now.scene))))) }
+    ensures rest { OnOk result
+        (IsAtRest routed.now tasks.new.items [] boxes.new (seen course.new)) }
+    ensures scripts { HasSameScripts (seen course.old) (seen course.new) }
 {
     match pressed {
-        [] => point_each(fixed, tasks, course, boxes, aim),
-        _ => point_all(fixed, pressed, tasks, course, boxes, aim),
+        [] => point_each(routed, tasks, course, boxes, aim),
+        _ => point_all(routed, pressed, tasks, course, boxes, aim),
     }
 }
 
 /// A viewer points.
 #[tactic(auto, unfolding(crate::specs::Apply::point, cascade_world::specs::Pointer::concerned))]
 pub fn point<B: Behaviour>(
-    fixed: &RoutedScene,
-    bench: &mut Buffers,
+    routed: &RoutedScene,
+    buffers: &mut Buffers,
     course: &mut Course<B>,
     pointer: Pointer,
 ) -> Result<(), AllocError>
-    requires empty { bench.old.tasks.items ≡ [] }
-    requires boxes { bench.old.boxes ≡ rows_of fixed.now.scene course.old.live.world.fields }
-    requires cast { HasScriptsOf (wiring_at fixed.now) (seen course.old) }
+    requires rest { IsAtRest routed.now buffers.old.tasks.items [] buffers.old.boxes
+        (seen course.old) }
     ensures course { OnOk result (seen course.new
-        ≡ point_of fixed.now.scene (wiring_at fixed.now) (seen course.old) pointer) }
-    ensures empty { OnOk result (bench.new.tasks.items ≡ []) }
-    ensures boxes { OnOk result
-        (bench.new.boxes ≡ rows_of fixed.now.scene course.new.live.world.fields) }
-    ensures kinds { kinds_of course.new.scripts ≡ kinds_of course.old.scripts }
-    ensures count { course.new.settling.count ≡ course.old.settling.count }
+        ≡ point_of routed.now.scene (wiring_at routed.now) (seen course.old) pointer) }
+    ensures rest { OnOk result
+        (IsAtRest routed.now buffers.new.tasks.items [] buffers.new.boxes (seen course.new)) }
+    ensures scripts { HasSameScripts (seen course.old) (seen course.new) }
 {
     let world = &course.live.world;
-    list_pressed(world, &fixed.scene, pointer, &mut bench.pressed)?;
+    list_pressed(world, &routed.scene, pointer, &mut buffers.pressed)?;
     let aim = AimedAt {
         pointer,
         before: world.is_down(pointer.who()),
         inside: insides(
-            &fixed.scene,
+            &routed.scene,
             world.fields.as_slice(),
-            &bench.boxes,
+            &buffers.boxes,
             pointer.ray(),
         ),
     };
     course.live.set_button(pointer);
     point_concerned(
-        fixed,
-        &bench.pressed,
-        &mut bench.tasks,
+        routed,
+        &buffers.pressed,
+        &mut buffers.tasks,
         course,
-        &mut bench.boxes,
+        &mut buffers.boxes,
         &aim,
     )
 }

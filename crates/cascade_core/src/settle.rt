@@ -1,15 +1,13 @@
 //! Scripts settle behind the events of a timestamp, the lowest first.
 
 ghost use Rattle.std.specs.Prelude.{◌≡◌, ◌<◌, [], OnOk, true, length};
-ghost use Rattle.pick_core.specs.Sites.{rows_of};
 ghost use Rattle.script_slots.specs.Settling.{is_due};
-ghost use Rattle.script_running.specs.Acting.{kinds_of};
 ghost use Rattle.cascade_core.specs.Course.{wiring_at, seen};
-ghost use Rattle.cascade_core.specs.Sound.{HasScriptsOf};
+ghost use Rattle.cascade_core.specs.Resting.{HasSameScripts, IsAtRest};
 ghost use Rattle.cascade_core.specs.Settles.{settle as settle_of, settle_one as settle_one_of};
 
 use crate::course::Course;
-use crate::fixed::RoutedScene;
+use crate::routed::RoutedScene;
 use crate::stack::send_replies;
 use cascade_rules::CascadeTask;
 use pick_core::BoxCache;
@@ -19,54 +17,46 @@ use std::alloc::AllocError;
 
 /// A script that is due settles, and what its node sends is followed.
 fn settle_one<B: Behaviour>(
-    fixed: &RoutedScene,
+    routed: &RoutedScene,
     tasks: &mut Vec<CascadeTask>,
     course: &mut Course<B>,
     replies: &mut Outbox,
     boxes: &mut BoxCache,
     k: usize,
 ) -> Result<(), AllocError>
-    requires empty { tasks.old.items ≡ [] }
-    requires none { replies.old.items ≡ [] }
-    requires boxes { boxes.old ≡ rows_of fixed.now.scene course.old.live.world.fields }
-    requires cast { HasScriptsOf (wiring_at fixed.now) (seen course.old) }
+    requires rest { IsAtRest routed.now tasks.old.items replies.old.items boxes.old
+        (seen course.old) }
     requires there { k < length course.old.scripts }
     requires due { is_due course.old.settling k ≡ true }
     ensures course { OnOk result
-        (seen course.new ≡ settle_one_of (wiring_at fixed.now) (seen course.old) k) }
-    ensures empty { OnOk result (tasks.new.items ≡ []) }
-    ensures none { OnOk result (replies.new.items ≡ []) }
-    ensures boxes { OnOk result
-        (boxes.new ≡ rows_of fixed.now.scene course.new.live.world.fields) }
-    ensures kinds { kinds_of course.new.scripts ≡ kinds_of course.old.scripts }
-    ensures count { course.new.settling.count ≡ course.old.settling.count }
+        (seen course.new ≡ settle_one_of (wiring_at routed.now) (seen course.old) k) }
+    ensures rest { OnOk result
+        (IsAtRest routed.now tasks.new.items replies.new.items boxes.new (seen course.new)) }
+    ensures scripts { HasSameScripts (seen course.old) (seen course.new) }
 {
-    course.scripts.settle(k, fixed.runs.ports(k), replies);
+    course.scripts.settle(k, routed.runs.ports(k), replies);
     course.settling.settle(k)?;
-    send_replies(fixed, tasks, course, replies, boxes, fixed.runs.node(k))
+    send_replies(routed, tasks, course, replies, boxes, routed.runs.node(k))
 }
 
 /// Scripts settle until none is due.
 pub fn settle<B: Behaviour>(
-    fixed: &RoutedScene,
+    routed: &RoutedScene,
     tasks: &mut Vec<CascadeTask>,
     course: &mut Course<B>,
     boxes: &mut BoxCache,
 ) -> Result<(), AllocError>
-    requires empty { tasks.old.items ≡ [] }
-    requires boxes { boxes.old ≡ rows_of fixed.now.scene course.old.live.world.fields }
-    requires cast { HasScriptsOf (wiring_at fixed.now) (seen course.old) }
+    requires rest { IsAtRest routed.now tasks.old.items [] boxes.old (seen course.old) }
     requires fresh { course.old.settling.settled ≡ [] }
     ensures course { OnOk result
-        (seen course.new ≡ settle_of (wiring_at fixed.now) (seen course.old)) }
-    ensures boxes { OnOk result
-        (boxes.new ≡ rows_of fixed.now.scene course.new.live.world.fields) }
-    ensures kinds { kinds_of course.new.scripts ≡ kinds_of course.old.scripts }
-    ensures count { course.new.settling.count ≡ course.old.settling.count }
+        (seen course.new ≡ settle_of (wiring_at routed.now) (seen course.old)) }
+    ensures rest { OnOk result
+        (IsAtRest routed.now tasks.new.items [] boxes.new (seen course.new)) }
+    ensures scripts { HasSameScripts (seen course.old) (seen course.new) }
 {
     let mut replies = Outbox::new();
     while let Some(k) = course.settling.next() {
-        settle_one(fixed, tasks, course, &mut replies, boxes, k)?;
+        settle_one(routed, tasks, course, &mut replies, boxes, k)?;
     }
     Ok(())
 }

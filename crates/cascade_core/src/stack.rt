@@ -3,18 +3,16 @@
 ghost use Rattle.std.specs.Prelude.{◌≡◌, ◌+◌, ◌≤◌, ◌<◌, ◌^◌, [], true, false, None, Some, IfNone, IfSome, OnOk, map, reverse, slice_get};
 ghost use Rattle.std.specs.List.{AllByRecursion};
 ghost use Rattle.scene_core.specs.Scene.{shapes_of};
-ghost use Rattle.pick_core.specs.Sites.{rows_of};
 ghost use Rattle.cascade_trace.specs.Ends.{targets_of};
 ghost use Rattle.cascade_rules.specs.Replies.{send_by};
 ghost use Rattle.cascade_core.specs.Outputs.{is_scene_output};
 ghost use Rattle.cascade_core.specs.Course.{wiring_at, seen};
 ghost use Rattle.cascade_core.specs.Cascade.{send_full, send_replies as send_replies_of};
-ghost use Rattle.cascade_core.specs.Sound.{HasScriptsOf};
+ghost use Rattle.cascade_core.specs.Resting.{HasSameScripts, IsAtRest, IsWorking};
 ghost use Rattle.cascade_core.specs.Stack.{do_task, finish, IsReady, weight, work_left};
-ghost use Rattle.script_running.specs.Acting.{kinds_of};
 
 use crate::course::Course;
-use crate::fixed::RoutedScene;
+use crate::routed::RoutedScene;
 use cascade_rules::{CascadeTask, push_before, push_replies, send};
 use pick_core::BoxCache;
 use react_core::Outbox;
@@ -26,102 +24,86 @@ use x3d_values::Value;
 
 /// What a node answers is sent, in its order, and followed to its end.
 pub fn send_replies<B: Behaviour>(
-    fixed: &RoutedScene,
+    routed: &RoutedScene,
     tasks: &mut Vec<CascadeTask>,
     course: &mut Course<B>,
     replies: &mut Outbox,
     boxes: &mut BoxCache,
     node: u32,
 ) -> Result<(), AllocError>
-    requires empty { tasks.old.items ≡ [] }
-    requires ready { AllByRecursion (IsReady (shapes_of fixed.now.scene))
+    requires rest { IsAtRest routed.now tasks.old.items [] boxes.old (seen course.old) }
+    requires ready { AllByRecursion (IsReady (shapes_of routed.now.scene))
         (map (send_by node) (reverse replies.old.items)) }
-    requires boxes { boxes.old ≡ rows_of fixed.now.scene course.old.live.world.fields }
-    requires cast { HasScriptsOf (wiring_at fixed.now) (seen course.old) }
     ensures course { OnOk result (seen course.new
-        ≡ send_replies_of (wiring_at fixed.now) node (seen course.old) replies.old.items) }
-    ensures empty { OnOk result (tasks.new.items ≡ []) }
-    ensures none { OnOk result (replies.new.items ≡ []) }
-    ensures boxes { OnOk result
-        (boxes.new ≡ rows_of fixed.now.scene course.new.live.world.fields) }
-    ensures kinds { kinds_of course.new.scripts ≡ kinds_of course.old.scripts }
-    ensures count { course.new.settling.count ≡ course.old.settling.count }
+        ≡ send_replies_of (wiring_at routed.now) node (seen course.old) replies.old.items) }
+    ensures rest { OnOk result
+        (IsAtRest routed.now tasks.new.items replies.new.items boxes.new (seen course.new)) }
+    ensures scripts { HasSameScripts (seen course.old) (seen course.new) }
 {
     push_replies(tasks, node, replies)?;
-    run_tasks(fixed, tasks, course, replies, boxes)?;
+    run_tasks(routed, tasks, course, replies, boxes)?;
     Ok(())
 }
 
 /// Does all tasks, the last first.
 fn run_tasks<B: Behaviour>(
-    fixed: &RoutedScene,
+    routed: &RoutedScene,
     tasks: &mut Vec<CascadeTask>,
     course: &mut Course<B>,
     replies: &mut Outbox,
     boxes: &mut BoxCache,
 ) -> Result<(), AllocError>
-    requires none { replies.old.items ≡ [] }
-    requires ready { AllByRecursion (IsReady (shapes_of fixed.now.scene)) tasks.old.items }
-    requires boxes { boxes.old ≡ rows_of fixed.now.scene course.old.live.world.fields }
-    requires cast { HasScriptsOf (wiring_at fixed.now) (seen course.old) }
+    requires working { IsWorking routed.now tasks.old.items replies.old.items boxes.old
+        (seen course.old) }
     ensures course { OnOk result
-        (seen course.new ≡ finish (wiring_at fixed.now) (seen course.old) tasks.old.items) }
-    ensures empty { OnOk result (tasks.new.items ≡ []) }
-    ensures none { OnOk result (replies.new.items ≡ []) }
-    ensures boxes { OnOk result
-        (boxes.new ≡ rows_of fixed.now.scene course.new.live.world.fields) }
-    ensures kinds { kinds_of course.new.scripts ≡ kinds_of course.old.scripts }
-    ensures count { course.new.settling.count ≡ course.old.settling.count }
+        (seen course.new ≡ finish (wiring_at routed.now) (seen course.old) tasks.old.items) }
+    ensures rest { OnOk result
+        (IsAtRest routed.now tasks.new.items replies.new.items boxes.new (seen course.new)) }
+    ensures scripts { HasSameScripts (seen course.old) (seen course.new) }
 {
     while let Some(task) = tasks.pop() {
-        step(fixed, tasks, course, replies, boxes, task)?;
+        step(routed, tasks, course, replies, boxes, task)?;
     }
     Ok(())
 }
 
 /// Does one task, which may leave others.
 fn step<B: Behaviour>(
-    fixed: &RoutedScene,
+    routed: &RoutedScene,
     tasks: &mut Vec<CascadeTask>,
     course: &mut Course<B>,
     replies: &mut Outbox,
     boxes: &mut BoxCache,
     task: CascadeTask,
 ) -> Result<(), AllocError>
-    requires none { replies.old.items ≡ [] }
-    requires task { IsReady (shapes_of fixed.now.scene) task }
-    requires tasks { AllByRecursion (IsReady (shapes_of fixed.now.scene)) tasks.old.items }
-    requires boxes { boxes.old ≡ rows_of fixed.now.scene course.old.live.world.fields }
-    requires cast { HasScriptsOf (wiring_at fixed.now) (seen course.old) }
+    requires working { IsWorking routed.now tasks.old.items replies.old.items boxes.old
+        (seen course.old) }
+    requires task { IsReady (shapes_of routed.now.scene) task }
     ensures done { OnOk result
-        (finish (wiring_at fixed.now) (seen course.new) tasks.new.items
-        ≡ finish (wiring_at fixed.now) (do_task (wiring_at fixed.now) (seen course.old) task)
+        (finish (wiring_at routed.now) (seen course.new) tasks.new.items
+        ≡ finish (wiring_at routed.now) (do_task (wiring_at routed.now) (seen course.old) task)
         tasks.old.items) }
-    ensures ready { OnOk result
-        (AllByRecursion (IsReady (shapes_of fixed.now.scene)) tasks.new.items) }
     ensures fewer { OnOk result
-        (work_left (wiring_at fixed.now) (seen course.new) tasks.new.items + 1
-        ≤ work_left (wiring_at fixed.now) (seen course.old) tasks.old.items
-        + weight fixed.now.routes task) }
-    ensures none { OnOk result (replies.new.items ≡ []) }
-    ensures boxes { OnOk result
-        (boxes.new ≡ rows_of fixed.now.scene course.new.live.world.fields) }
-    ensures kinds { kinds_of course.new.scripts ≡ kinds_of course.old.scripts }
-    ensures count { course.new.settling.count ≡ course.old.settling.count }
+        (work_left (wiring_at routed.now) (seen course.new) tasks.new.items + 1
+        ≤ work_left (wiring_at routed.now) (seen course.old) tasks.old.items
+        + weight routed.now.routes task) }
+    ensures working { OnOk result
+        (IsWorking routed.now tasks.new.items replies.new.items boxes.new (seen course.new)) }
+    ensures scripts { HasSameScripts (seen course.old) (seen course.new) }
 {
     match task {
         CascadeTask::Send(source, value) => begin(
-            fixed, tasks, course, replies, boxes, source, value,
+            routed, tasks, course, replies, boxes, source, value,
         ),
         CascadeTask::Follow(source, value, next) => {
-            follow(fixed, tasks, course, replies, boxes, source, value, next)
+            follow(routed, tasks, course, replies, boxes, source, value, next)
         }
     }
 }
 
 /// An output sends, unless it has sent before.
 fn begin<B: Behaviour>(
-    fixed: &RoutedScene,
+    routed: &RoutedScene,
     tasks: &mut Vec<CascadeTask>,
     course: &mut Course<B>,
     replies: &mut Outbox,
@@ -129,26 +111,20 @@ fn begin<B: Behaviour>(
     source: End,
     value: Value,
 ) -> Result<(), AllocError>
-    requires none { replies.old.items ≡ [] }
-    requires task { is_scene_output (shapes_of fixed.now.scene) source ≡ true }
-    requires tasks { AllByRecursion (IsReady (shapes_of fixed.now.scene)) tasks.old.items }
-    requires boxes { boxes.old ≡ rows_of fixed.now.scene course.old.live.world.fields }
-    requires cast { HasScriptsOf (wiring_at fixed.now) (seen course.old) }
+    requires working { IsWorking routed.now tasks.old.items replies.old.items boxes.old
+        (seen course.old) }
+    requires task { is_scene_output (shapes_of routed.now.scene) source ≡ true }
     ensures done { OnOk result
-        (finish (wiring_at fixed.now) (seen course.new) tasks.new.items
-        ≡ finish (wiring_at fixed.now)
-        (send_full (wiring_at fixed.now) (seen course.old) source value)
+        (finish (wiring_at routed.now) (seen course.new) tasks.new.items
+        ≡ finish (wiring_at routed.now)
+        (send_full (wiring_at routed.now) (seen course.old) source value)
         tasks.old.items) }
-    ensures ready { OnOk result
-        (AllByRecursion (IsReady (shapes_of fixed.now.scene)) tasks.new.items) }
     ensures fewer { OnOk result
-        (work_left (wiring_at fixed.now) (seen course.new) tasks.new.items + 1
-        ≤ work_left (wiring_at fixed.now) (seen course.old) tasks.old.items + 1) }
-    ensures none { OnOk result (replies.new.items ≡ []) }
-    ensures boxes { OnOk result
-        (boxes.new ≡ rows_of fixed.now.scene course.new.live.world.fields) }
-    ensures kinds { kinds_of course.new.scripts ≡ kinds_of course.old.scripts }
-    ensures count { course.new.settling.count ≡ course.old.settling.count }
+        (work_left (wiring_at routed.now) (seen course.new) tasks.new.items + 1
+        ≤ work_left (wiring_at routed.now) (seen course.old) tasks.old.items + 1) }
+    ensures working { OnOk result
+        (IsWorking routed.now tasks.new.items replies.new.items boxes.new (seen course.new)) }
+    ensures scripts { HasSameScripts (seen course.old) (seen course.new) }
 {
     // A value is dropped by a call: left to the exits, its drop is proved once for each of them.
     let alloc = *tasks.allocator();
@@ -157,7 +133,7 @@ fn begin<B: Behaviour>(
         return Err(AllocError);
     };
     if sends {
-        follow(fixed, tasks, course, replies, boxes, source, value, 0)?;
+        follow(routed, tasks, course, replies, boxes, source, value, 0)?;
         return Ok(());
     }
     drop(value);
@@ -166,7 +142,7 @@ fn begin<B: Behaviour>(
 
 /// The route at this place among those of the output is followed, and the rest are left.
 fn follow<B: Behaviour>(
-    fixed: &RoutedScene,
+    routed: &RoutedScene,
     tasks: &mut Vec<CascadeTask>,
     course: &mut Course<B>,
     replies: &mut Outbox,
@@ -175,34 +151,28 @@ fn follow<B: Behaviour>(
     value: Value,
     next: usize,
 ) -> Result<(), AllocError>
-    requires none { replies.old.items ≡ [] }
-    requires tasks { AllByRecursion (IsReady (shapes_of fixed.now.scene)) tasks.old.items }
-    requires boxes { boxes.old ≡ rows_of fixed.now.scene course.old.live.world.fields }
-    requires cast { HasScriptsOf (wiring_at fixed.now) (seen course.old) }
+    requires working { IsWorking routed.now tasks.old.items replies.old.items boxes.old
+        (seen course.old) }
     ensures done { OnOk result
-        (finish (wiring_at fixed.now) (seen course.new) tasks.new.items
-        ≡ finish (wiring_at fixed.now)
-        (do_task (wiring_at fixed.now) (seen course.old) (CascadeTask.Follow source value next))
+        (finish (wiring_at routed.now) (seen course.new) tasks.new.items
+        ≡ finish (wiring_at routed.now)
+        (do_task (wiring_at routed.now) (seen course.old) (CascadeTask.Follow source value next))
         tasks.old.items) }
-    ensures ready { OnOk result
-        (AllByRecursion (IsReady (shapes_of fixed.now.scene)) tasks.new.items) }
     ensures fewer { OnOk result
-        (work_left (wiring_at fixed.now) (seen course.new) tasks.new.items + 1
-        ≤ work_left (wiring_at fixed.now) (seen course.old) tasks.old.items
-        + weight fixed.now.routes (CascadeTask.Follow source value next)) }
-    ensures none { OnOk result (replies.new.items ≡ []) }
-    ensures boxes { OnOk result
-        (boxes.new ≡ rows_of fixed.now.scene course.new.live.world.fields) }
-    ensures kinds { kinds_of course.new.scripts ≡ kinds_of course.old.scripts }
-    ensures count { course.new.settling.count ≡ course.old.settling.count }
+        (work_left (wiring_at routed.now) (seen course.new) tasks.new.items + 1
+        ≤ work_left (wiring_at routed.now) (seen course.old) tasks.old.items
+        + weight routed.now.routes (CascadeTask.Follow source value next)) }
+    ensures working { OnOk result
+        (IsWorking routed.now tasks.new.items replies.new.items boxes.new (seen course.new)) }
+    ensures scripts { HasSameScripts (seen course.old) (seen course.new) }
 {
     // A value is dropped by a call: left to the exits, its drop is proved once for each of them.
-    let Some(hop) = hop_at(&fixed.routes, source, next) else {
+    let Some(hop) = hop_at(&routed.routes, source, next) else {
         drop(value);
         return Ok(());
     };
     let alloc = *tasks.allocator();
-    let Ok(()) = course.deliver(alloc, fixed, boxes, hop.target, &value, replies) else {
+    let Ok(()) = course.deliver(alloc, routed, boxes, hop.target, &value, replies) else {
         drop(value);
         return Err(AllocError);
     };

@@ -1,12 +1,12 @@
 //! A stage holds the world of a scene, and applies inputs to it.
 
-use crate::bench::Buffers;
+use crate::buffers::Buffers;
 use crate::course::Course;
 use crate::fault::{ApplyFault, LoadFault, PlaceFault, StatesFault, TextFault};
-use crate::fixed::RoutedScene;
 use crate::input::advance;
 use crate::opening::open;
-use crate::parts::{Parts, fixed_of, parts_of};
+use crate::parts::{Parts, parts_of, routed_of};
+use crate::routed::RoutedScene;
 use crate::work::Work;
 use cascade_rules::put_boxes;
 use cascade_trace::push_trace;
@@ -23,9 +23,9 @@ use x3d_values::{Items, Stamped};
 /// A scene with its world, which moves on by inputs.
 #[derive(Drop)]
 pub struct Stage<B: Behaviour> {
-    fixed: RoutedScene,
+    routed: RoutedScene,
     course: Course<B>,
-    bench: Buffers,
+    buffers: Buffers,
     spoiled: Option<u32>,
 }
 
@@ -35,23 +35,23 @@ impl<B: Behaviour> Model for Stage<B> {
     ghost use Rattle.cascade_core.specs.Held.{StageView, held_of};
     ghost use Rattle.cascade_core.specs.Course.{ended, wiring_at, seen};
     ghost use Rattle.cascade_core.specs.Scripts.{kinds_in};
-    ghost use Rattle.cascade_core.specs.Sound.{HasScriptsOf, IsFixed};
+    ghost use Rattle.cascade_core.specs.Sound.{HasScriptsOf, RunsItsScripts};
     ghost use Rattle.script_running.specs.Acting.{kinds_of};
 
     ghost Value = { StageView };
 
     ghost view = { λ s.
         record {
-          scene = s.fixed.scene;
-          routes = s.fixed.routes;
+          scene = s.routed.scene;
+          routes = s.routed.routes;
           held = held_of s.spoiled (ended (seen s.course));
         } };
 
     ghost invariant = { λ s. IfNone s.spoiled
-        (s.bench.boxes ≡ rows_of s.fixed.scene s.course.live.world.fields)
-        × IsFixed s.fixed
-        × HasScriptsOf (wiring_at s.fixed) (seen s.course)
-        × (kinds_of s.course.scripts ≡ kinds_in s.fixed.scene) };
+        (s.buffers.boxes ≡ rows_of s.routed.scene s.course.live.world.fields)
+        × RunsItsScripts s.routed
+        × HasScriptsOf (wiring_at s.routed) (seen s.course)
+        × (kinds_of s.course.scripts ≡ kinds_in s.routed.scene) };
 }
 
 impl<B: Behaviour> Stage<B> {
@@ -84,25 +84,25 @@ impl<B: Behaviour> Stage<B> {
             }) }
     {
         // Each exit drops by calls: a drop in place is proved anew at each.
-        let Ok(fixed) = fixed_of(alloc, scene, routes) else {
+        let Ok(routed) = routed_of(alloc, scene, routes) else {
             drop(scripts);
             return Err(LoadFault::Memory);
         };
-        let Ok(parts) = parts_of(alloc, &fixed.scene) else {
+        let Ok(parts) = parts_of(alloc, &routed.scene) else {
             drop(scripts);
-            drop(fixed);
+            drop(routed);
             return Err(LoadFault::Memory);
         };
-        let Parts { live, mut bench } = parts;
-        let Ok(course) = open(alloc, &fixed, &mut bench, live, scripts) else {
-            drop(bench);
-            drop(fixed);
+        let Parts { live, mut buffers } = parts;
+        let Ok(course) = open(alloc, &routed, &mut buffers, live, scripts) else {
+            drop(buffers);
+            drop(routed);
             return Err(LoadFault::Memory);
         };
         Ok(Stage {
-            fixed,
+            routed,
             course,
-            bench,
+            buffers,
             spoiled: None,
         })
     }
@@ -111,12 +111,12 @@ impl<B: Behaviour> Stage<B> {
     pub fn scene(&self) -> &Scene
         ensures { result.now ≡ self.now.scene }
     {
-        &self.fixed.scene
+        &self.routed.scene
     }
 
     /// The allocator that the stage takes its memory from.
     pub fn allocator(&self) -> Global {
-        *self.bench.tasks.allocator()
+        *self.buffers.tasks.allocator()
     }
 
     /// The world, unless the stage is spoiled.
@@ -164,7 +164,7 @@ impl<B: Behaviour> Stage<B> {
     }
 
     /// Applies the next input.
-    #[tactic(auto, using(crate::proofs::SoundLemmas::cast_stands))]
+    #[tactic(auto, using(crate::proofs::Resting::has_scripts_then))]
     pub fn apply(&mut self, input: &Stamped) -> Result<Work, ApplyFault>
         // Whatever can be said before the work starts is answered then, and the stage is as it was.
         ensures refused { IfSome (refusal_of self.old.held input.now) (λ fault. (result ≡ Err fault)
@@ -185,7 +185,7 @@ impl<B: Behaviour> Stage<B> {
             return Err(fault);
         }
         let before = self.course.live.world.applied;
-        match advance(&self.fixed, &mut self.bench, &mut self.course, input) {
+        match advance(&self.routed, &mut self.buffers, &mut self.course, input) {
             Ok(work) => Ok(work),
             Err(_) => {
                 self.spoiled = Some(before);
@@ -207,7 +207,7 @@ impl<B: Behaviour> Stage<B> {
         if self.spoiled.is_some() {
             return Err(TextFault::Spoiled);
         }
-        push_trace(&self.fixed.scene, &self.course.live.world.trace, out)?;
+        push_trace(&self.routed.scene, &self.course.live.world.trace, out)?;
         Ok(())
     }
 
@@ -226,7 +226,12 @@ impl<B: Behaviour> Stage<B> {
             return Err(TextFault::Spoiled);
         }
         let fields = self.course.live.world.fields.as_slice();
-        write_scene(&self.fixed.scene, self.fixed.routes.as_slice(), fields, out)?;
+        write_scene(
+            &self.routed.scene,
+            self.routed.routes.as_slice(),
+            fields,
+            out,
+        )?;
         Ok(())
     }
 
@@ -282,9 +287,9 @@ impl<B: Behaviour> Stage<B> {
                 return Err(StateFault::StateRange);
             }
         }
-        let alloc = *self.bench.tasks.allocator();
+        let alloc = *self.buffers.tasks.allocator();
         let state = world.fields.as_slice();
-        let Ok(()) = put_boxes(&mut self.bench.boxes, alloc, &self.fixed.scene, state) else {
+        let Ok(()) = put_boxes(&mut self.buffers.boxes, alloc, &self.routed.scene, state) else {
             drop(world);
             self.spoiled = Some(applied);
             return Err(StateFault::Memory);

@@ -20,7 +20,8 @@ use Rattle.proto_walker.specs.declared.walker.Walker.{Walker}
 use Rattle.proto_walker.specs.Shown.{Steps, shown}
 use Rattle.proto_walker.proofs.Stepping.{in-turn}
 use Rattle.proto_giving.specs.Scripts.{declares}
-use Rattle.proto_giving.specs.Giving.{MayHold, aside, inside_of, is_type, value_at}
+use Rattle.proto_meaning.specs.Values.{value_at}
+use Rattle.proto_giving.specs.Giving.{MayHold, aside, inside_of, is_type}
 use Rattle.proto_giving.proofs.Given.{any-owner, stops}
 
 -- ---- where a value may stand

@@ -1,13 +1,11 @@
 -- What a step between braces has to do.
-use Rattle.std.specs.Prelude.{◌≡◌, ◌⊎◌, ℕ, Bool, true, false, ◌||◌, if◌then◌else◌, Option, None, Result, Ok, Err}
+use Rattle.std.specs.Prelude.{◌≡◌, ◌⊎◌, ℕ, Bool, true, false, Option, None, Result, Ok, Err}
 use Rattle.classic_tree.specs.declared.tree.Given.TheVariants as text
 use Rattle.proto_flat.specs.Fault.{memory}
 use Rattle.proto_flat.specs.declared.fault.ExpandFault.{ExpandFault}
-use Rattle.proto_flat.specs.declared.fault.ExpandFaultKind.TheVariants.{FieldTwice, UnknownField}
-use Rattle.x3d_values.specs.Access.{is_initial}
 use Rattle.proto_meaning.specs.Flat as flat
-use Rattle.proto_meaning.specs.Flat.{Does, ◌>>=◌, pure, refuse, fill, met_field}
-use Rattle.proto_meaning.specs.Left.{left_by}
+use Rattle.proto_meaning.specs.Flat.{Does, ◌>>=◌, pure, fill, met_field}
+use Rattle.proto_meaning.specs.Values.{left_by, value_at}
 use Rattle.proto_meaning.specs.Names.{Name, Field, value_of}
 use Rattle.proto_meaning.specs.Sight.{Owner}
 use Rattle.proto_inside.specs.Held as braces
@@ -51,13 +49,6 @@ MayJoin line name field twice outer i s (Err e) =
     (inside_of at o i)) s ≡ Err e
 
 -- ---- values
-
--- as `give` has it: a value may stand at the field, has so many items, and then goes on like that
-abbrev pub value_at : ℕ → ℕ × Field → Bool → ℕ → flat.Inside → Does flat.Inside → Does flat.Inside
-value_at line f twice items i rest =
-    if flat.is_node i.owner || is_initial f.1.access
-    then (if twice then refuse FieldTwice line else met_field i.owner f.0 items >>= λ _. rest)
-    else refuse UnknownField line
 
 -- a value may stand at the field, or comes to a fault
 abbrev pub MayStand : ℕ → Name → KnownField → Bool → Inside → Result (Unit {0}) ExpandFault → Type 0

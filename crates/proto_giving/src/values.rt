@@ -9,7 +9,8 @@ ghost use Rattle.proto_interface.specs.Fields.{numbered};
 ghost use Rattle.proto_inside.specs.Held as braces;
 ghost use Rattle.proto_limits.specs.Settled.{doing};
 ghost use Rattle.proto_walker.specs.Shown as shown;
-ghost use Rattle.proto_giving.specs.Giving.{Gives, MayHold, MayStand, aside, inside_of, is_type, value_at};
+ghost use Rattle.proto_meaning.specs.Values.{value_at};
+ghost use Rattle.proto_giving.specs.Giving.{Gives, MayHold, MayStand, aside, inside_of, is_type};
 
 use crate::giving::meet_field;
 use classic_tree::RawValue;

@@ -2,5 +2,5 @@ pub mod Limits
 pub mod Names
 pub mod Sight
 pub mod Flat
-pub mod Left
+pub mod Values
 pub mod Laws

@@ -15,9 +15,8 @@ use Rattle.proto_meaning.specs.Flat.{Does, ◌>>=◌, pure, put_in, put_default}
 use Rattle.proto_meaning.specs.Names.{Name, Filled, value_of}
 use Rattle.proto_meaning.specs.Sight.{Prototype}
 use Rattle.proto_given.specs.Held as table
-use Rattle.proto_inside.specs.Values as inside
+use Rattle.proto_meaning.specs.Values as values
 use Rattle.proto_limits.specs.Settled.{State, doing}
-use Rattle.proto_tree.specs.Meaning as meaning
 use Rattle.proto_tree.specs.Meaning.{node, default, value_in, with_given}
 use Rattle.proto_tree.specs.declared.tree.DefaultTree.{DefaultTree}
 use Rattle.proto_tree.specs.Given.{GivenTree}
@@ -76,7 +75,7 @@ stands-there d p v is =
     ∙ ap (λ n. record { line = p.line; name = n; number = 0; value = Some v }) (sym is.name)
     ∙ ap (λ n. record { line = p.line; name = p.name.now; number = n; value = Some v }) (sym is.number)
 
-pub put-plain : (v : RawValue NodeText) → put_in (meaning.plain v) ≡ pure (inside.plain v)
+pub put-plain : (v : RawValue NodeText) → put_in (values.plain v) ≡ pure (values.plain v)
 put-plain value.Null = refl
 put-plain (value.Truth truth) = refl
 put-plain (value.String text) = refl
@@ -88,12 +87,12 @@ put-plain (value.StringList texts) = refl
 put-plain (value.NumberList numbers) = refl
 put-plain (value.NodeList ns) = refl
 
-pub default-plain : (ps : List Prototype) (d : DefaultTree) (v : Bor (RawValue NodeText)) (p : FieldAt) (f g : Filling) (s : State) → d.value ≡ tree.Plain v → IsPlace d p → HasFilled f (default_value p (inside.plain v.now)) g →
+pub default-plain : (ps : List Prototype) (d : DefaultTree) (v : Bor (RawValue NodeText)) (p : FieldAt) (f g : Filling) (s : State) → d.value ≡ tree.Plain v → IsPlace d p → HasFilled f (default_value p (values.plain v.now)) g →
     default_comes ps d f s ≡ filling_next ps g next.On s
 default-plain ps d v p f g s is place filled =
     default-as ps d (tree.Plain v) f s is
     ∙ ap (λ (m : Does (RawValue ℕ)). after (doing (m >>= λ r. pure (filled_now f ++ record { line = d.declaration.now.line; name = d.declaration.now.name; number = 0; value = Some r } ∷ [])) s) (filling_comes ps f.around.value f.rest.now)) (put-plain v.now)
-    ∙ ap (λ x. filling_comes ps f.around.value f.rest.now (filled_now f ++ x ∷ []) s) (stands-there d p (inside.plain v.now) place)
+    ∙ ap (λ x. filling_comes ps f.around.value f.rest.now (filled_now f ++ x ∷ []) s) (stands-there d p (values.plain v.now) place)
     ∙ ap (λ all. filling_comes ps f.around.value f.rest.now all s) (sym filled.filled)
     ∙ ap (λ xs. filling_comes ps f.around.value xs.now (filled_now g) s) (sym filled.rest)
     ∙ ap (λ a. filling_comes ps a.value g.rest.now (filled_now g) s) (sym filled.around)
@@ -195,7 +194,7 @@ fills-if (Ok u) f new v w same some sound holds = fills f new v w same some soun
 fills-if (Err e) f new v w same some sound holds = tt
 
 pub plain-goes : (ps : List Prototype) (d : DefaultTree) (v : Bor (RawValue NodeText)) (p : FieldAt) (f g : Filling) (r : Result Next AllocError) (s : State) → d.value ≡ tree.Plain v → IsPlace d p →
-    IfOk r (λ n. (n ≡ next.On) × HasFilled f (default_value p (inside.plain v.now)) g) → DefaultGoes ps (default_comes ps d f s) r g s
+    IfOk r (λ n. (n ≡ next.On) × HasFilled f (default_value p (values.plain v.now)) g) → DefaultGoes ps (default_comes ps d f s) r g s
 plain-goes ps d v p f g (Ok n) s is place k = default-plain ps d v p f g s is place k.1 ∙ ap (λ x. filling_next ps g x s) (sym k.0)
 plain-goes ps d v p f g (Err e) s is place k = tt
 

@@ -12,7 +12,7 @@ use Rattle.proto_flat.specs.Fault.{fault, memory}
 use Rattle.proto_flat.specs.declared.fault.ExpandFault.{ExpandFault}
 use Rattle.proto_flat.specs.declared.fault.ExpandFaultKind.TheVariants.{UnknownField}
 use Rattle.proto_meaning.specs.Flat as flat
-use Rattle.proto_meaning.specs.Flat.{Does, ◌>>=◌, pure, fill, put_in, refuse}
+use Rattle.proto_meaning.specs.Flat.{Does, ◌>>=◌, pure, fill, refuse}
 use Rattle.proto_meaning.specs.Limits.{item_count}
 use Rattle.proto_meaning.specs.Names.{Name, Field}
 use Rattle.proto_meaning.specs.Sight.{Prototype, Owner}
@@ -21,7 +21,7 @@ use Rattle.proto_interface.specs.Fields.{numbered}
 use Rattle.proto_interface.specs.declared.fields.KnownField.{KnownField}
 use Rattle.proto_inside.specs.Held as braces
 use Rattle.proto_inside.specs.Held.{fields_in, filled_in}
-use Rattle.proto_inside.specs.Values as inside
+use Rattle.proto_meaning.specs.Values as values
 use Rattle.proto_inside.specs.declared.inside.Inside.{Inside}
 use Rattle.proto_inside.specs.declared.inside.Owner as holder
 use Rattle.proto_inside.specs.declared.inside.Owner.TheVariants as held
@@ -46,6 +46,7 @@ use Rattle.proto_nodes.specs.declared.frames.FieldAt.{FieldAt}
 use Rattle.proto_nodes.specs.Protos.{owner_by}
 use Rattle.proto_nodes.specs.Does.{Comes, after, nodes_do, given_by, field_does, route_does, items_do, closes, open_does, inside_now, with_value}
 use Rattle.proto_nodes.specs.Frames.{OpenGoes, OpenSound, given_at, item_comes, open_next, on_or}
+use Rattle.proto_nodes.proofs.Fillings.{put-plain}
 use Rattle.proto_nodes.proofs.Steps.{then-same, doing-then, doing-assoc, doing-inside, did, stopped, same-stop}
 
 -- ---- whose braces they are
@@ -57,32 +58,6 @@ is-node ps w (held.Instance interface) = refl
 pub is-script : (ps : List Prototype) (w : Word) (o : holder.Owner) → flat.is_script (owner_by ps w o) ≡ is_script o
 is-script ps w (held.Node t) = refl
 is-script ps w (held.Instance interface) = refl
-
--- ---- the same words in two crates
-
-pub plain-same : {N : Type 0} (v : RawValue NodeText) → meaning.plain {N = N} v ≡ inside.plain v
-plain-same value.Null = refl
-plain-same (value.Truth truth) = refl
-plain-same (value.String text) = refl
-plain-same (value.Numbers numbers) = refl
-plain-same (value.Node n) = refl
-plain-same value.EmptyList = refl
-plain-same (value.TruthList truths) = refl
-plain-same (value.StringList texts) = refl
-plain-same (value.NumberList numbers) = refl
-plain-same (value.NodeList ns) = refl
-
-pub put-plain : (v : RawValue NodeText) → put_in (meaning.plain v) ≡ pure (inside.plain v)
-put-plain value.Null = refl
-put-plain (value.Truth truth) = refl
-put-plain (value.String text) = refl
-put-plain (value.Numbers numbers) = refl
-put-plain (value.Node n) = refl
-put-plain value.EmptyList = refl
-put-plain (value.TruthList truths) = refl
-put-plain (value.StringList texts) = refl
-put-plain (value.NumberList numbers) = refl
-put-plain (value.NodeList ns) = refl
 
 -- ---- a field is given something that puts no nodes in
 
@@ -126,12 +101,12 @@ stands-then o m rest k s t is next =
 -- ---- values between braces
 
 abbrev value_of_place : (p : FieldAt) (twice : Bool) (items : ℕ) (i : flat.Inside) (rest : Does flat.Inside) → Does flat.Inside
-value_of_place p twice items i rest = giving.value_at p.line (numbered p.name.now p.field) twice items i rest
+value_of_place p twice items i rest = values.value_at p.line (numbered p.name.now p.field) twice items i rest
 
 -- a value that may not stand there
 pub value-stopped : (ps : List Prototype) (o q : Open) (p : FieldAt) (twice : Bool) (items : ℕ) (rest : Does flat.Inside) (s : State) (r : Result Next ExpandFault) (walker : Walker) (e : ExpandFault) → r ≡ Err e →
-    (e ≡ memory) ⊎ (doing (giving.value_at p.line (numbered p.name.now p.field) twice items (inside_now ps o) rest) s ≡ Err e) →
-    OpenGoes ps (doing (giving.value_at p.line (numbered p.name.now p.field) twice items (inside_now ps o) rest >>= open_does ps o) s) r walker q
+    (e ≡ memory) ⊎ (doing (values.value_at p.line (numbered p.name.now p.field) twice items (inside_now ps o) rest) s ≡ Err e) →
+    OpenGoes ps (doing (values.value_at p.line (numbered p.name.now p.field) twice items (inside_now ps o) rest >>= open_does ps o) s) r walker q
 value-stopped ps o q p twice items rest s r walker e is k =
     subst (λ x. OpenGoes ps (doing (value_of_place p twice items (inside_now ps o) rest >>= open_does ps o) s) x walker q) (sym is)
     (stopped (value_of_place p twice items (inside_now ps o) rest) (open_does ps o) s e k)
@@ -152,19 +127,19 @@ many-stand ps o p twice count ns s t is =
 
 -- so many items are met as the value has
 counted : (ps : List Prototype) (o : Open) (p : FieldAt) (twice : Bool) (v : Bor (RawValue NodeText)) (n : ℕ) → n ≡ item_count v.now →
-    giving.value_at p.line (numbered p.name.now p.field) twice n (inside_now ps o) (meaning.holds p.line (numbered p.name.now p.field) (inside_now ps o) (meaning.plain v.now)) ≡ meaning.gives p.line (numbered p.name.now p.field) twice (tree.Plain v) (inside_now ps o)
-counted ps o p twice v n is = ap (λ m. giving.value_at p.line (numbered p.name.now p.field) twice m (inside_now ps o) (meaning.holds p.line (numbered p.name.now p.field) (inside_now ps o) (meaning.plain v.now))) is
+    values.value_at p.line (numbered p.name.now p.field) twice n (inside_now ps o) (meaning.holds p.line (numbered p.name.now p.field) (inside_now ps o) (values.plain v.now)) ≡ meaning.gives p.line (numbered p.name.now p.field) twice (tree.Plain v) (inside_now ps o)
+counted ps o p twice v n is = ap (λ m. values.value_at p.line (numbered p.name.now p.field) twice m (inside_now ps o) (meaning.holds p.line (numbered p.name.now p.field) (inside_now ps o) (values.plain v.now))) is
 
 pub plain-stopped : (ps : List Prototype) (o q : Open) (p : FieldAt) (twice : Bool) (v : Bor (RawValue NodeText)) (n : ℕ) (s : State) (r : Result Next ExpandFault) (walker : Walker) (e : ExpandFault) → n ≡ item_count v.now → r ≡ Err e →
-    (e ≡ memory) ⊎ (doing (giving.value_at p.line (numbered p.name.now p.field) twice n (inside_now ps o) (meaning.holds p.line (numbered p.name.now p.field) (inside_now ps o) (meaning.plain v.now))) s ≡ Err e) →
+    (e ≡ memory) ⊎ (doing (values.value_at p.line (numbered p.name.now p.field) twice n (inside_now ps o) (meaning.holds p.line (numbered p.name.now p.field) (inside_now ps o) (values.plain v.now))) s ≡ Err e) →
     OpenGoes ps (item_comes ps (given_at p twice (tree.Plain v)) o s) r walker q
 plain-stopped ps o q p twice v n s r walker e count is k =
     subst (λ m. OpenGoes ps (doing (m >>= open_does ps o) s) r walker q) (counted ps o p twice v n count)
-    (value-stopped ps o q p twice n (meaning.holds p.line (numbered p.name.now p.field) (inside_now ps o) (meaning.plain v.now)) s r walker e is k)
+    (value-stopped ps o q p twice n (meaning.holds p.line (numbered p.name.now p.field) (inside_now ps o) (values.plain v.now)) s r walker e is k)
 
 pub plain-stands : (ps : List Prototype) (o : Open) (new : Inside) (p : FieldAt) (twice : Bool) (v : Bor (RawValue NodeText)) (copy : RawValue ℕ) (n : ℕ) (s t : State) → n ≡ item_count v.now →
-    doing (giving.value_at p.line (numbered p.name.now p.field) twice n (inside_now ps o) (meaning.holds p.line (numbered p.name.now p.field) (inside_now ps o) (meaning.plain v.now))) s ≡ doing (meaning.holds p.line (numbered p.name.now p.field) (inside_now ps o) (meaning.plain v.now)) t →
-    copy ≡ inside.plain v.now → fill p.line (numbered p.name.now p.field) (inside_now ps o) (Some copy) ≡ inside_of o.at (owner_by ps o.word o.inside.owner) new → new.owner ≡ o.inside.owner →
+    doing (values.value_at p.line (numbered p.name.now p.field) twice n (inside_now ps o) (meaning.holds p.line (numbered p.name.now p.field) (inside_now ps o) (values.plain v.now))) s ≡ doing (meaning.holds p.line (numbered p.name.now p.field) (inside_now ps o) (values.plain v.now)) t →
+    copy ≡ values.plain v.now → fill p.line (numbered p.name.now p.field) (inside_now ps o) (Some copy) ≡ inside_of o.at (owner_by ps o.word o.inside.owner) new → new.owner ≡ o.inside.owner →
     item_comes ps (given_at p twice (tree.Plain v)) o s ≡ open_next ps (record o { inside = new }) next.On t
 plain-stands ps o new p twice v copy n s t count is same filled owner =
     did (meaning.gives p.line (numbered p.name.now p.field) twice (tree.Plain v) (inside_now ps o)) (open_does ps o) s t (fill p.line (numbered p.name.now p.field) (inside_now ps o) (Some copy))
@@ -241,7 +216,7 @@ pub given-as : (ps : List Prototype) (p : FieldAt) (twice : Bool) (g t : GivenTr
 given-as ps p twice g t o s r walker b is k = subst (λ x. OpenGoes ps (item_comes ps (given_at p twice (given_by ps x)) o s) r walker b) (sym is) k
 
 pub left-out : (p : FieldAt) (twice : Bool) (wrong : Option ExpandFault) (i : flat.Inside) →
-    meaning.gives p.line (numbered p.name.now p.field) twice (tree.LeftOut wrong) i ≡ giving.value_at p.line (numbered p.name.now p.field) twice 0 i (giving.aside p.line (numbered p.name.now p.field) i wrong)
+    meaning.gives p.line (numbered p.name.now p.field) twice (tree.LeftOut wrong) i ≡ values.value_at p.line (numbered p.name.now p.field) twice 0 i (giving.aside p.line (numbered p.name.now p.field) i wrong)
 left-out p twice wrong i = refl
 
 pub item-as : (ps : List Prototype) (i t : ItemTree) (m : flat.Inside → Does flat.Inside) (o : Open) (s : State) (r : Result Next ExpandFault) (walker : Walker) (b : Open) → i ≡ t → (item ps t).does ≡ m →

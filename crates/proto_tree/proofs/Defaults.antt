@@ -21,7 +21,8 @@ use Rattle.proto_tree.specs.declared.tree.DefaultTree.{DefaultTree}
 use Rattle.proto_tree.specs.Given.{GivenTree}
 use Rattle.proto_tree.specs.declared.tree.GivenTree.TheVariants as tree
 use Rattle.proto_tree.specs.declared.tree.NodeTree.{NodeTree}
-use Rattle.proto_tree.specs.Meaning.{node, plain, value_in, with_given, default}
+use Rattle.proto_meaning.specs.Values.{plain}
+use Rattle.proto_tree.specs.Meaning.{node, value_in, with_given, default}
 use Rattle.proto_tree.specs.Resolved as rule
 use Rattle.proto_tree.specs.Resolved.{Seen, IsGiven, AreDefaults, is_value, is_plain, given_sees}
 use Rattle.proto_tree.proofs.Same.{Same, in_bared, never, same_then, same_last, same_seen}

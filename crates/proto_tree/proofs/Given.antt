@@ -23,8 +23,8 @@ use Rattle.proto_meaning.specs.Flat.{Walk, Does, ◌>>=◌, pure, refuse, see, t
 use Rattle.proto_meaning.proofs.SightLaw.{Any, Free, GoodNode, Follows, bared, each_free, aside_free, then_still}
 use Rattle.proto_tree.specs.Given.{GivenTree}
 use Rattle.proto_tree.specs.declared.tree.GivenTree.TheVariants as tree
-use Rattle.proto_tree.specs.Meaning.{plain, stands, holds, gives}
-use Rattle.proto_meaning.specs.Left.{left_by}
+use Rattle.proto_meaning.specs.Values.{left_by, plain, value_at}
+use Rattle.proto_tree.specs.Meaning.{holds, gives}
 use Rattle.proto_tree.specs.Resolved.{Seen, given_sees, wrong_in, is_plain, taking}
 use Rattle.proto_tree.proofs.Same.{Same, never, in_bared, same_then, same_first, same_last, same_seen, same_wrong, same_if, same_chosen, same_other}
 use Rattle.proto_tree.proofs.Good.{every_given}
@@ -106,7 +106,7 @@ goes_on line f i v =
     else leave_out (given.Value v) >>= λ _. pure (fill line f i None)
 
 value_same : (line : ℕ) (f : ℕ × Field) (twice : Bool) (i : Inside) (v : RawValue Node) (items : ℕ) (rest : Does Inside) (s : Sight) → met_field i.owner f.0 (item_count v) ≡ met_field i.owner f.0 items → Same s (goes_on line f i v) rest
-    → Same s (give line f twice (given.Value v) i) (stands line f twice items i rest)
+    → Same s (give line f twice (given.Value v) i) (value_at line f twice items i rest)
 value_same line f twice i v items rest s met h =
     same_if s (is_node i.owner || is_initial f.1.access) (if twice then refuse FieldTwice line else flat.give_value line f i v) (if twice then refuse FieldTwice line else met_field i.owner f.0 items >>= λ _. rest) (refuse UnknownField line) (refuse UnknownField line)
     (same_if s twice (refuse FieldTwice line) (refuse FieldTwice line) (flat.give_value line f i v) (met_field i.owner f.0 items >>= λ _. rest) (λ w e. refl)

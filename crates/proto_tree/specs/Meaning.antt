@@ -1,8 +1,7 @@
 -- What a resolved tree stands for, by the prototypes of the numbers in it: proto_meaning's steps,
 -- in which no prototype is looked up by its name, and none is declared.
-use Rattle.std.specs.Prelude.{ℕ, Bool, false, ◌||◌, if◌then◌else◌, List, [], ◌∷◌, ◌++◌, length, map, Option, Some, None, option_map, is_none, is_some, Ok, Err, slice_get}
+use Rattle.std.specs.Prelude.{ℕ, Bool, false, if◌then◌else◌, List, [], ◌∷◌, ◌++◌, length, map, Option, Some, None, option_map, is_none, is_some, Ok, Err, slice_get}
 use Rattle.std.specs.Option.{option_map_or}
-use Rattle.x3d_values.specs.Access.{is_initial}
 use Rattle.classic_tree.specs.declared.tree.BodyItem.TheOpen.{NodeText-F, Statement-F}
 use Rattle.classic_tree.specs.declared.tree.Declaration.{Declaration}
 use Rattle.classic_tree.specs.declared.tree.Given.{Given}
@@ -11,15 +10,15 @@ use Rattle.classic_tree.specs.declared.tree.NodeText.{NodeText}
 use Rattle.classic_tree.specs.declared.tree.ProtoText.{out-ProtoText}
 use Rattle.classic_tree.specs.declared.tree.RawValue.{RawValue}
 use Rattle.classic_tree.specs.declared.tree.RawValue.TheVariants as value
-use Rattle.proto_flat.specs.declared.fault.ExpandFaultKind.TheVariants.{FieldTwice, UnknownField}
+use Rattle.proto_flat.specs.declared.fault.ExpandFaultKind.TheVariants.{UnknownField}
 use Rattle.proto_flat.specs.declared.flat.Flat.{Flat}
 use Rattle.proto_flat.specs.declared.flat.Header.{Header}
 use Rattle.proto_meaning.specs.Limits.{Outcome, and_then, item_count}
 use Rattle.proto_meaning.specs.Names.{Field, Filled, value_of}
 use Rattle.proto_meaning.specs.Sight.{Put, Instance, Prototype, Look, Owner, OfType, OfProto}
 use Rattle.proto_meaning.specs.Flat as flat
-use Rattle.proto_meaning.specs.Flat.{Does, ◌>>=◌, comes, pure, refuse, note, through, part, nothing_found, Node, Item, Stated, Inside, put_in, field, numbered_from, is_filled, is_node, is_script, met_field, fill, give, full_node, in_body, begin, made}
-use Rattle.proto_meaning.specs.Left.{left_by}
+use Rattle.proto_meaning.specs.Flat.{Does, ◌>>=◌, comes, pure, refuse, note, through, part, nothing_found, Node, Item, Stated, Inside, put_in, field, numbered_from, is_filled, is_script, fill, give, full_node, in_body, begin, made}
+use Rattle.proto_meaning.specs.Values.{left_by, plain, value_at}
 use Rattle.proto_tree.specs.declared.tree.BodyTree.{BodyTree}
 use Rattle.proto_tree.specs.declared.tree.BodyTree.TheVariants as body
 use Rattle.proto_tree.specs.declared.tree.DefaultTree.{DefaultTree}
@@ -34,26 +33,6 @@ use Rattle.proto_tree.specs.declared.tree.Word.TheVariants as word
 
 -- ---- values
 
--- a value without nodes as it is, in which nodes could stand as something else
-abbrev pub plain : {N : Type 0} → RawValue NodeText → RawValue N
-plain value.Null = value.Null
-plain (value.Truth truth) = value.Truth truth
-plain (value.String text) = value.String text
-plain (value.Numbers numbers) = value.Numbers numbers
-plain (value.Node n) = value.EmptyList
-plain value.EmptyList = value.EmptyList
-plain (value.TruthList truths) = value.TruthList truths
-plain (value.StringList texts) = value.StringList texts
-plain (value.NumberList numbers) = value.NumberList numbers
-plain (value.NodeList ns) = value.EmptyList
-
--- as `give` has it: a value may stand at the field, has so many items, and then goes on like that
-abbrev pub stands : ℕ → ℕ × Field → Bool → ℕ → Inside → Does Inside → Does Inside
-stands line f twice items i rest =
-    if is_node i.owner || is_initial f.1.access
-    then (if twice then refuse FieldTwice line else met_field i.owner f.0 items >>= λ _. rest)
-    else refuse UnknownField line
-
 abbrev pub holds : ℕ → ℕ × Field → Inside → RawValue Node → Does Inside
 holds line f i v = put_in v >>= λ r. pure (fill line f i (Some r))
 
@@ -61,12 +40,12 @@ abbrev pub gives : ℕ → ℕ × Field → Bool → GivenTree Node → Inside �
 gives line f twice Nothing i = give line f twice given.Nothing i
 gives line f twice (Is outer) i = give line f twice (given.Is outer.now) i
 gives line f twice (Plain v) i =
-    stands line f twice (item_count v.now) i (holds line f i (plain v.now))
-gives line f twice (One n) i = stands line f twice 1 i (holds line f i (value.Node n))
+    value_at line f twice (item_count v.now) i (holds line f i (plain v.now))
+gives line f twice (One n) i = value_at line f twice 1 i (holds line f i (value.Node n))
 gives line f twice (Many count ns) i =
-    stands line f twice count i (holds line f i (value.NodeList ns))
+    value_at line f twice count i (holds line f i (value.NodeList ns))
 gives line f twice (LeftOut wrong) i =
-    stands line f twice 0 i (left_by wrong >>= λ _. pure (fill line f i None))
+    value_at line f twice 0 i (left_by wrong >>= λ _. pure (fill line f i None))
 
 -- a Script's declaration is one field more, as `declare_field` has it
 abbrev pub declares : Declaration NodeText → GivenTree Node → Inside → Does Inside

@@ -1,17 +1,19 @@
 -- The offers that wait, as a queue in a ring: made - covered of them, from place covered % 64 on.
-use Rattle.std.proofs.Common.{◌≡◌, ℕ, ◌+◌, ◌-◌, ◌%◌, ◌<◌, ◌≤◌, min, max, Bool, true, false, refl, List, [], ◌∷◌, ◌++◌, length, map, get_or, take, drop, inl, inr, sym, ap, ◌∙◌, arith}
+use Rattle.std.proofs.Common.{◌≡◌, ℕ, ◌+◌, ◌-◌, ◌%◌, ◌<◌, ◌≤◌, List, [], ◌∷◌, ◌++◌, length, map, get_or, take, drop, sym, ap, ◌∙◌, arith}
 use native.Mathlib.Nat.{mod-add-mod}
-use Rattle.std.specs.Prelude.{slice_get, slice_set, ◌==◌, if◌then◌else◌, Some}
-use Rattle.std.proofs.lemmas.List.{map-set, get_or-map, length-map, drop_all}
-use Rattle.std.proofs.lemmas.Bool.{cases_lt, cond-true, eq-eqb}
+use Rattle.std.specs.Prelude.{slice_get, slice_set, Some}
+use Rattle.std.proofs.lemmas.List.{map-set, get_or-map, length-map}
 use Rattle.x3d_values.specs.declared.pointing.Point.{Point}
+use Rattle.share_rules.specs.declared.acks.Tally.{Tally}
+use Rattle.share_rules.specs.Acks.{covered_after}
 use Rattle.share_rules.specs.Offers.{most_waiting}
 use Rattle.share_wire.specs.declared.message.Body.TheVariants.{Offer}
-use Rattle.share_law.specs.Viewer.{ViewerWorld, ViewerState, offer_packet, covered_by, viewer_resend}
+use Rattle.share_law.specs.Viewer.{ViewerWorld, ViewerState, offer_packet, acked, viewer_resend}
 use Rattle.share_core.specs.declared.waiting.OfferedPoint.{OfferedPoint}
 use Rattle.share_rules.specs.Rings.{in_order}
 use Rattle.share_core.specs.Steps.{point_aimed}
 use Rattle.share_core.specs.Waiting.{Offers, with_offers}
+use Rattle.share_rules.proofs.Covers.{covers_least, covers_most}
 use Rattle.share_rules.proofs.Rings.{length-queue, slice_get-queue, queue-pushed, queue-dropped}
 
 abbrev pub shown : (covered made : ℕ) → List OfferedPoint → List Point
@@ -43,17 +45,11 @@ module _ (covered made : ℕ) (places : List OfferedPoint) (less : covered ≤ m
       ∙ ap (λ p. take (made - covered - d) (in_order p (map point_aimed places))) (sym (mod-add-mod covered most_waiting d))
       ∙ queue-dropped most_waiting (covered % most_waiting) (made - covered) (map point_aimed places) (omega arith) (omega arith) (length-map places point_aimed ∙ long) d h
 
-  pub shown-settled : (count least latest : ℕ) → least ≡ min count made → latest ≡ max covered least → shown latest made places ≡ drop (count - covered) (shown covered made places)
-  shown-settled count least latest is_least is_latest = elim (cases_lt made count) [
-    | inl over ↦
-        (let all : latest ≡ covered + (made - covered) = omega (arith, is_least, is_latest) in
-        ap (λ s. shown s made places) all ∙ dropped (made - covered) (omega arith)
-        ∙ drop_all (made - covered) (shown covered made places) (omega (arith, length-shown))
-        ∙ sym (drop_all (count - covered) (shown covered made places) (omega (arith, length-shown))))
-    | inr within ↦
-        (let some : latest ≡ covered + (count - covered) = omega (arith, is_least, is_latest) in
-        ap (λ s. shown s made places) some ∙ dropped (count - covered) (omega arith))
-  ]
+  -- those up to number n, of which more wait no more than before
+  pub shown-covered : (n : ℕ) → covered ≤ n → n ≤ made → shown n made places ≡ drop (n - covered) (shown covered made places)
+  shown-covered n least most =
+      let some : n ≡ covered + (n - covered) = omega (arith, least) in
+      ap (λ s. shown s made places) some ∙ dropped (n - covered) (omega (arith, most))
 
 -- ---- the steps of a viewer
 
@@ -70,16 +66,17 @@ pub resend-packet : {W : Type 0} (o : Offers) (view : ViewerWorld W) (i number :
 resend-packet o view i number a at is =
     ap (λ n. offer_packet o.who o.boot n (Some (point_aimed a))) is ∙ ap (offer_packet o.who o.boot (o.made - length o.waiting + i + 1)) (sym at)
 
--- an ack of this boot, and one of another
+-- an ack
 pub acks-heeded : {W : Type 0} (who boot covered made : ℕ) (places : List OfferedPoint) → covered ≤ made → made ≤ covered + most_waiting → length places ≡ most_waiting
-    → (view : ViewerWorld W) (count latest : ℕ) (same : Bool) → latest ≡ (if same then max covered (min count made) else covered)
+    → (view : ViewerWorld W) (other count latest : ℕ) → latest ≡ covered_after (record { boot = boot; made = made; covered = covered }) other count
     → (let o : Offers = record { who = who; boot = boot; made = made; waiting = shown covered made places } in
     let new : Offers = record { who = who; boot = boot; made = made; waiting = shown latest made places } in
-    with_offers new view ≡ (if same then covered_by (with_offers o view) count else with_offers o view))
-acks-heeded {W} who boot covered made places less few long view count latest true is =
-    let left : made - length (shown covered made places) ≡ covered = omega (arith, length-shown covered made places less few long) in
+    with_offers new view ≡ acked (with_offers o view) other count)
+acks-heeded {W} who boot covered made places less few long view other count latest is =
+    let before : List Point = shown covered made places in
     let state : List Point → ViewerState W = λ xs. record { boot = boot; made = made; waiting = xs; view = view } in
-    ap state (shown-settled covered made places less few long count (min count made) latest refl is)
-    ∙ ap (λ (s : ℕ). state (drop (count - s) (shown covered made places))) (sym left)
-acks-heeded {W} who boot covered made places less few long view count latest false is =
-    ap (λ (s : ℕ). let z : ViewerState W = record { boot = boot; made = made; waiting = shown s made places; view = view } in z) is
+    let t : ℕ → Tally = λ c. record { boot = boot; made = made; covered = c } in
+    let left : made - length before ≡ covered = omega (arith, length-shown covered made places less few long) in
+    ap (λ n. state (shown n made places)) is
+    ∙ ap state (shown-covered covered made places less few long (covered_after (t covered) other count) (covers_least (t covered) other count) (covers_most (t covered) other count less))
+    ∙ ap (λ c. state (drop (covered_after (t c) other count - c) before)) (sym left)

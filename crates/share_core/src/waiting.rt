@@ -1,7 +1,7 @@
 //! The offers that a viewer made, and that wait until the host has numbered them.
 
 ghost use Rattle.std.specs.Prelude.{◌≡◌, ◌≤◌, ◌<◌, ◌^◌, ◌++◌, ◌+◌, ◌==◌, [], ◌∷◌, List, Option};
-ghost use Rattle.std.specs.Prelude.{length, if◌then◌else◌, IsTrue};
+ghost use Rattle.std.specs.Prelude.{length, IsTrue};
 ghost use Rattle.std.specs.Option.{option_map};
 ghost use Rattle.x3d_values.specs.Pointing.{is_ray};
 ghost use Rattle.x3d_values.specs.Ranges.{is_viewer};
@@ -9,7 +9,7 @@ ghost use Rattle.x3d_values.specs.Stamp.{StampedView};
 ghost use Rattle.share_wire.specs.Messages.{is_ordinal};
 ghost use Rattle.share_wire.specs.declared.message.Body.TheVariants as body;
 ghost use Rattle.cascade_core.specs.Course.{Scripted};
-ghost use Rattle.share_law.specs.Viewer.{ViewerWorld, Running, offer_refusal, covered_by, viewer_offer};
+ghost use Rattle.share_law.specs.Viewer.{ViewerWorld, Running, acked, offer_refusal, viewer_offer};
 ghost use Rattle.share_law.specs.Viewer.{viewer_resend};
 ghost use Rattle.share_core.specs.Steps.{point_aimed};
 ghost use Rattle.share_core.specs.Waiting.{with_offers};
@@ -191,9 +191,7 @@ impl Waiting {
     pub(crate) fn heed(&mut self, ack: Ack)
         ensures who { self.new.who ≡ self.old.who }
         ensures step { (view : ViewerWorld Scripted) → with_offers self.new view
-            ≡ (if ack.boot == self.old.boot
-            then covered_by (with_offers self.old view) ack.count
-            else with_offers self.old view) }
+            ≡ acked (with_offers self.old view) ack.boot ack.count }
     {
         let tally = Tally {
             boot: self.boot,

@@ -7,14 +7,14 @@ use Rattle.cascade_core.proofs.opening.initialize_all.Goals as goal
 
 pub loop-k-init : goal.loop-k-init
 loop-k-init g c = record {
-  done = started_first (wiring_at c.args.fixed.now) c.args.scripts.now c.in_ok-sendings.sendings.items c.len-count.result c.in_ok-sendings.ensures.items c.len-count.ensures;
+  done = started_first (wiring_at c.args.routed.now) c.args.scripts.now c.in_ok-sendings.sendings.items c.len-count.result c.in_ok-sendings.ensures.items c.len-count.ensures;
   kinds = refl;
 }
 
 pub loop-k-preserved : goal.loop-k-preserved
 loop-k-preserved g c = record {
   done =
-      started_more (wiring_at c.args.fixed.now) _ c.loop-k.scripts _ c.loop-k.sendings.items _ c.initialize_one.result c.loop-k.k c.len-count.result c.loop-k-test.true
+      started_more (wiring_at c.args.routed.now) _ c.loop-k.scripts _ c.loop-k.sendings.items _ c.initialize_one.result c.loop-k.k c.len-count.result c.loop-k-test.true
       c.initialize_one.ensures.scripts c.initialize_one.ensures.sending c.in_ok-push.ensures.items c.loop-k.invariant.done;
   kinds = c.initialize_one.ensures.kinds ∙ c.loop-k.invariant.kinds;
 }
@@ -25,7 +25,7 @@ initialize_one-requires-clause-there g c =
 
 pub initialize_one-requires-clause-sound : goal.initialize_one-requires-clause-sound
 initialize_one-requires-clause-sound g c =
-    sound_still (wiring_at c.args.fixed.now) c.args.scripts.now c.loop-k.scripts c.loop-k.invariant.kinds c.requires.sound
+    sound_still (wiring_at c.args.routed.now) c.args.scripts.now c.loop-k.scripts c.loop-k.invariant.kinds c.requires.sound
 
 pub returns-in_err-push-clause-kinds : goal.returns-in_err-push-clause-kinds
 returns-in_err-push-clause-kinds g c = c.initialize_one.ensures.kinds ∙ c.loop-k.invariant.kinds

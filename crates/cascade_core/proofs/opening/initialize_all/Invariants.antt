@@ -9,7 +9,7 @@ use Rattle.cascade_core.proofs.opening.initialize_all.Given as goal
 abbrev pub invariant-loop-k : goal.invariant-loop-k
 invariant-loop-k g l = record {
   done :
-      fold (start_one (wiring_at l.fixed)) (record { scripts = l.scripts; sendings = l.sendings.items }) (range_with_len l.k (l.count - l.k))
-      ≡ started (wiring_at l.fixed) l.fn.scripts;
+      fold (start_one (wiring_at l.routed)) (record { scripts = l.scripts; sendings = l.sendings.items }) (range_with_len l.k (l.count - l.k))
+      ≡ started (wiring_at l.routed) l.fn.scripts;
   kinds : kinds_of l.scripts ≡ kinds_of l.fn.scripts;
 }

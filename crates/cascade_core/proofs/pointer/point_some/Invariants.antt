@@ -1,9 +1,8 @@
-use Rattle.std.proofs.Common.{◌≡◌, ◌-◌, []}
+use Rattle.std.proofs.Common.{◌≡◌, ◌-◌}
 use Rattle.std.specs.List.{fold, range_with_len}
 use Rattle.scene_core.specs.Scene.{types_of}
-use Rattle.pick_core.specs.Sites.{rows_of}
-use Rattle.script_running.specs.Acting.{kinds_of}
 use Rattle.cascade_core.specs.Course.{wiring_at, seen}
+use Rattle.cascade_core.specs.Resting.{HasSameScripts, IsAtRest}
 use Rattle.cascade_world.specs.Nodes.{is_sensor}
 use Rattle.cascade_world.specs.Insides.{seen as insides_seen}
 use Rattle.cascade_core.specs.Apply.{point_node as point_node_of}
@@ -13,12 +12,9 @@ use Rattle.cascade_core.proofs.pointer.point_some.Given as goal
 -- the course now, after the nodes that are left, is what the definition gives for all of them
 abbrev pub invariant-loop-node : goal.invariant-loop-node
 invariant-loop-node g l = record {
-  empty : l.tasks.items ≡ [];
-  none : l.replies.items ≡ [];
-  boxes : l.boxes ≡ rows_of l.fixed.scene l.course.live.world.fields;
-  kinds : kinds_of l.course.scripts ≡ kinds_of l.fn.course.scripts;
-  count : l.course.settling.count ≡ l.fn.course.settling.count;
+  rest : IsAtRest l.routed l.tasks.items l.replies.items l.boxes (seen l.course);
+  scripts : HasSameScripts (seen l.fn.course) (seen l.course);
   done :
-      fold (where_passes (is_sensor (types_of l.fixed.scene)) (untracked_by (point_node_of l.fixed.scene (wiring_at l.fixed) l.aim.pointer l.aim.before (insides_seen l.aim.inside)))) (seen l.course) (range_with_len l.node (l.end - l.node))
-      ≡ fold (where_passes (is_sensor (types_of l.fixed.scene)) (untracked_by (point_node_of l.fixed.scene (wiring_at l.fixed) l.aim.pointer l.aim.before (insides_seen l.aim.inside)))) (seen l.fn.course) (range_with_len l.start (l.end - l.start));
+      fold (where_passes (is_sensor (types_of l.routed.scene)) (untracked_by (point_node_of l.routed.scene (wiring_at l.routed) l.aim.pointer l.aim.before (insides_seen l.aim.inside)))) (seen l.course) (range_with_len l.node (l.end - l.node))
+      ≡ fold (where_passes (is_sensor (types_of l.routed.scene)) (untracked_by (point_node_of l.routed.scene (wiring_at l.routed) l.aim.pointer l.aim.before (insides_seen l.aim.inside)))) (seen l.fn.course) (range_with_len l.start (l.end - l.start));
 }

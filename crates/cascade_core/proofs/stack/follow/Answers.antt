@@ -3,45 +3,59 @@ use Rattle.cascade_core.specs.Course.{Course, wiring_at, seen}
 use Rattle.cascade_core.specs.Stack.{finish}
 use Rattle.cascade_core.proofs.Tasks.{follow-none, follow-done, follow-fewer, follow-ready, last-done, last-fewer, reached-ready}
 use Rattle.cascade_trace.proofs.RoutePlaces.{target-few}
+use Rattle.cascade_core.proofs.Resting.{has_scripts_then, rest_working}
 use Rattle.cascade_core.proofs.stack.follow.Goals as goal
+
+pub deliver-requires : goal.deliver-requires
+deliver-requires g c = record { rest = rest_working c.requires.working }
 
 pub returns-in_default-clause-done : goal.returns-in_default-clause-done
 returns-in_default-clause-done g c =
-    ap (λ (t : Course). finish (wiring_at c.args.fixed.now) t c.args.tasks.now.items)
-    (sym (follow-none (wiring_at c.args.fixed.now) (seen c.args.course.now) c.args.source c.args.value c.args.next (rw c.in_default.is at c.hop_at.ensures.none)))
+    ap (λ (t : Course). finish (wiring_at c.args.routed.now) t c.args.tasks.now.items)
+    (sym (follow-none (wiring_at c.args.routed.now) (seen c.args.course.now) c.args.source c.args.value c.args.next (rw c.in_default.is at c.hop_at.ensures.none)))
 
 pub returns-clause-done : goal.returns-clause-done
 returns-clause-done g c =
     rw (c.in_ok-push_replies.ensures.tasks, c.in-Ok.ensures.replies, c.in-Ok.ensures.course)
-    (last-done (wiring_at c.args.fixed.now) (seen c.args.course.now) c.args.source c.args.value c.args.next c.in-Some.hop.target c.args.tasks.now.items
+    (last-done (wiring_at c.args.routed.now) (seen c.args.course.now) c.args.source c.args.value c.args.next c.in-Some.hop.target c.args.tasks.now.items
     c.in-Some.ensures.target (c.in-Some.ensures.last c.if-hop.false))
 
-pub returns-clause-ready : goal.returns-clause-ready
-returns-clause-ready g c =
-    rw (c.in_ok-push_replies.ensures.tasks, c.in-Ok.ensures.replies)
-    (reached-ready (wiring_at c.args.fixed.now) (seen c.args.course.now) c.in-Some.hop.target c.args.value c.args.tasks.now.items c.requires.cast.sound c.requires.tasks)
+pub returns-clause-working : goal.returns-clause-working
+returns-clause-working g c = record {
+  ready =
+      rw (c.in_ok-push_replies.ensures.tasks, c.in-Ok.ensures.replies)
+      (reached-ready (wiring_at c.args.routed.now) (seen c.args.course.now) c.in-Some.hop.target c.args.value c.args.tasks.now.items c.requires.working.has_scripts.sound c.requires.working.ready);
+  none = c.in_ok-push_replies.ensures.none;
+  boxes = c.in-Ok.ensures.boxes;
+  has_scripts = has_scripts_then c.deliver.ensures.scripts c.requires.working.has_scripts;
+}
 
 pub returns-clause-fewer : goal.returns-clause-fewer
 returns-clause-fewer g c =
-    let below : c.args.next < length c.args.fixed.now.routes = target-few c.args.fixed.now.routes c.args.source c.args.next c.in-Some.hop.target c.in-Some.ensures.target in
+    let below : c.args.next < length c.args.routed.now.routes = target-few c.args.routed.now.routes c.args.source c.args.next c.in-Some.hop.target c.in-Some.ensures.target in
     rw (c.in_ok-push_replies.ensures.tasks, c.in-Ok.ensures.course)
-    (last-fewer (wiring_at c.args.fixed.now) (seen c.args.course.now) c.in-Some.hop.target
+    (last-fewer (wiring_at c.args.routed.now) (seen c.args.course.now) c.in-Some.hop.target
     c.args.source c.args.value c.args.next c.in-Some.hop.target.node _ c.args.tasks.now.items c.in_ok-push_replies.ensures.few below)
 
 pub returns-then-hop-clause-done : goal.returns-then-hop-clause-done
 returns-then-hop-clause-done g c =
     rw (c.in_ok-push_before.ensures.tasks, c.in-Ok.ensures.replies, c.in-Ok.ensures.course)
-    (follow-done (wiring_at c.args.fixed.now) (seen c.args.course.now) c.args.source c.args.value c.args.next c.in-Some.hop.target c.args.tasks.now.items c.in-Some.ensures.target)
+    (follow-done (wiring_at c.args.routed.now) (seen c.args.course.now) c.args.source c.args.value c.args.next c.in-Some.hop.target c.args.tasks.now.items c.in-Some.ensures.target)
 
-pub returns-then-hop-clause-ready : goal.returns-then-hop-clause-ready
-returns-then-hop-clause-ready g c =
-    rw (c.in_ok-push_before.ensures.tasks, c.in-Ok.ensures.replies)
-    (reached-ready (wiring_at c.args.fixed.now) (seen c.args.course.now) c.in-Some.hop.target c.args.value _ c.requires.cast.sound
-    (follow-ready (wiring_at c.args.fixed.now).shapes c.args.source c.args.value (c.args.next + 1) c.args.tasks.now.items c.requires.tasks))
+pub returns-then-hop-clause-working : goal.returns-then-hop-clause-working
+returns-then-hop-clause-working g c = record {
+  ready =
+      rw (c.in_ok-push_before.ensures.tasks, c.in-Ok.ensures.replies)
+      (reached-ready (wiring_at c.args.routed.now) (seen c.args.course.now) c.in-Some.hop.target c.args.value _ c.requires.working.has_scripts.sound
+      (follow-ready (wiring_at c.args.routed.now).shapes c.args.source c.args.value (c.args.next + 1) c.args.tasks.now.items c.requires.working.ready));
+  none = c.in_ok-push_before.ensures.none;
+  boxes = c.in-Ok.ensures.boxes;
+  has_scripts = has_scripts_then c.deliver.ensures.scripts c.requires.working.has_scripts;
+}
 
 pub returns-then-hop-clause-fewer : goal.returns-then-hop-clause-fewer
 returns-then-hop-clause-fewer g c =
-    let below : c.args.next < length c.args.fixed.now.routes = target-few c.args.fixed.now.routes c.args.source c.args.next c.in-Some.hop.target c.in-Some.ensures.target in
+    let below : c.args.next < length c.args.routed.now.routes = target-few c.args.routed.now.routes c.args.source c.args.next c.in-Some.hop.target c.in-Some.ensures.target in
     rw (c.in_ok-push_before.ensures.tasks, c.in-Ok.ensures.course)
-    (follow-fewer (wiring_at c.args.fixed.now) (seen c.args.course.now) c.in-Some.hop.target
+    (follow-fewer (wiring_at c.args.routed.now) (seen c.args.course.now) c.in-Some.hop.target
     c.args.source c.args.value c.args.next c.in-Some.hop.target.node _ c.args.tasks.now.items c.in_ok-push_before.ensures.few below)

@@ -2,7 +2,8 @@ use Rattle.std.proofs.Common.{◌≡◌, ◌∙◌, Err, inr, rules}
 use Rattle.proto_interface.specs.Fields.{numbered}
 use Rattle.proto_limits.specs.Settled.{doing}
 use Rattle.proto_walker.specs.Shown.{shown}
-use Rattle.proto_giving.specs.Giving.{aside, inside_of, value_at}
+use Rattle.proto_meaning.specs.Values.{value_at}
+use Rattle.proto_giving.specs.Giving.{aside, inside_of}
 use Rattle.proto_giving.proofs.Given.{gives-refused}
 use Rattle.proto_giving.proofs.Standing.{aside-put, aside-wrong}
 use Rattle.proto_giving.proofs.values.put_aside.Goals as goal

@@ -1,6 +1,7 @@
 use Rattle.std.proofs.Common.{◌≡◌, Err, rules}
 use Rattle.proto_interface.specs.Fields.{numbered}
-use Rattle.proto_tree.specs.Meaning.{holds, plain}
+use Rattle.proto_meaning.specs.Values.{plain}
+use Rattle.proto_tree.specs.Meaning.{holds}
 use Rattle.proto_walker.specs.Shown.{shown}
 use Rattle.proto_nodes.specs.Does.{inside_now}
 use Rattle.proto_nodes.specs.Protos.{owner_by}

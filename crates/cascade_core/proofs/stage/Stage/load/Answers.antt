@@ -1,18 +1,21 @@
-use Rattle.std.proofs.Common.{rules, ◌≡◌, ◌∙◌, ap, sym}
-use Rattle.pick_core.specs.Sites.{rows_of}
-use Rattle.cascade_core.specs.Course.{wiring_at, seen}
-use Rattle.cascade_core.specs.Scripts.{scripts_in}
-use Rattle.cascade_core.specs.Sound.{HasScriptsOf}
-use Rattle.cascade_core.proofs.Openings.{cast_opened}
+use Rattle.std.proofs.Common.{refl}
+use Rattle.cascade_core.specs.Course.{wiring_at}
+use Rattle.cascade_core.proofs.Openings.{live_untold}
+use Rattle.cascade_core.proofs.Resting.{has_scripts_begun}
 use Rattle.cascade_core.proofs.stage.Stage.load.Goals as goal
 
-pub open-requires-clause-sound : goal.open-requires-clause-sound
-open-requires-clause-sound g c = c.in-Ok.ensures.sound c.args.scripts c.requires.fits
+pub open-requires-clause-rest : goal.open-requires-clause-rest
+open-requires-clause-rest g c = record {
+  empty = c.in-Ok-parts_of.ensures.tasks;
+  none = refl;
+  boxes = c.in-Ok-parts_of.ensures.boxes;
+  has_scripts = has_scripts_begun (wiring_at c.in-Ok.routed) c.in-Ok-parts_of.parts.live c.args.scripts (c.in-Ok.ensures.sound c.args.scripts c.requires.fits);
+}
+
+pub open-requires-clause-live : goal.open-requires-clause-live
+open-requires-clause-live g c = live_untold _ c.in-Ok.routed.scene c.in-Ok-parts_of.ensures.world c.in-Ok-parts_of.ensures.sent
 
 pub invariant_of-result : goal.invariant_of-result
 invariant_of-result g c =
-    let boxes : c.open.new.bench.boxes ≡ rows_of c.in-Ok.fixed.scene c.in-Ok-open.course.live.world.fields = search rules in
-    let cast : HasScriptsOf (wiring_at c.in-Ok.fixed) (seen c.in-Ok-open.course) =
-    cast_opened (wiring_at c.in-Ok.fixed) c.in-Ok.fixed.scene c.args.scripts (seen c.in-Ok-open.course) (c.in-Ok.ensures.sound c.args.scripts c.requires.fits)
-    (c.requires.fresh ∙ ap scripts_in (sym c.in-Ok.ensures.scene)) c.in-Ok-open.ensures.kinds c.in-Ok-open.ensures.count in
-    (boxes, c.in-Ok.ensures.runs, cast, c.in-Ok-open.ensures.kinds)
+    let rest = c.in-Ok-open.ensures.rest in
+    (rest.boxes, c.in-Ok.ensures.runs, rest.has_scripts, c.in-Ok-open.ensures.scene.kinds)

@@ -2,7 +2,7 @@ use Rattle.std.proofs.Common.{rules, ◌≡◌, map}
 use Rattle.script_running.specs.Runs.{run_of}
 use Rattle.script_running.specs.Scripts.{script_list}
 use Rattle.cascade_core.proofs.SoundPlans.{sound_scene}
-use Rattle.cascade_core.proofs.parts.fixed_of.Goals as goal
+use Rattle.cascade_core.proofs.parts.routed_of.Goals as goal
 
 pub returns-clause-sound : goal.returns-clause-sound
 returns-clause-sound c =

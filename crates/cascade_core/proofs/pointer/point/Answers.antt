@@ -1,0 +1,15 @@
+use Rattle.std.proofs.Common.{refl}
+use Rattle.cascade_core.proofs.pointer.point.Goals as goal
+
+pub point_concerned-requires : goal.point_concerned-requires
+point_concerned-requires g c = record {
+  rest = record {
+    empty = c.requires.rest.empty;
+    none = refl;
+    boxes = rw c.set_button.ensures c.requires.rest.boxes;
+    has_scripts = record { sound = c.requires.rest.has_scripts.sound; counted = c.requires.rest.has_scripts.counted };
+  };
+}
+
+pub returns-clause-scripts : goal.returns-clause-scripts
+returns-clause-scripts g c = record { kinds = c.point_concerned.ensures.scripts.kinds; count = c.point_concerned.ensures.scripts.count }
