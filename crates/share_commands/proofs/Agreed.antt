@@ -4,7 +4,10 @@ use Rattle.std.proofs.lemmas.List.{append-nil, drop_all, take_all}
 use Rattle.x3d_values.specs.Stamp.{StampedView}
 use Rattle.share_core.specs.Viewer.{ViewerView}
 use Rattle.share_law.specs.Parts.{HostPart, new_part}
-use Rattle.share_turns.specs.Agreeing.{AreAgreed, IsAgreeRunEnd, IsAgreedText, Meeting, Seats, Ways, meeting}
+use Rattle.share_turns.specs.Seats.{Seats, Ways}
+use Rattle.share_turns.specs.Round.{Meeting, meeting}
+use Rattle.share_turns.specs.Agreeing.{AreAgreed}
+use Rattle.share_turns.specs.AgreedTexts.{IsAgreeRunEnd, IsAgreedText}
 use Rattle.share_turns.specs.declared.fault.SeriesFault.{SeriesFault}
 use Rattle.share_commands.specs.Joining.{IsAgreed, IsAgreedInPart, Joint}
 use Rattle.share_commands.specs.Hosting.{series_fault}

@@ -28,7 +28,7 @@ use Rattle.share_jobs.specs.Faults.{of_read, of_expand, of_scene, of_route}
 use Rattle.share_program.specs.Opening.{next, same, good, built, routed, with_routes, flattened, opened}
 use Rattle.share_program.specs.declared.open.OpenedScene.{OpenedScene}
 use Rattle.laws_networks.specs.Opened.{IsOpened}
-use Rattle.share_rehearsal.specs.Rehearsed.{AreLoaded}
+use Rattle.share_rehearsal.specs.Loaded.{AreLoaded}
 use Rattle.share_stages.specs.Stages.{staged_scene}
 use Rattle.share_commands.specs.Stages.{fresh, scripted, unless_refused}
 use Rattle.share_commands.proofs.Staging.{are_of, same_ok}

@@ -8,7 +8,7 @@ use Rattle.share_jobs.specs.declared.fault.JobFault.TheVariants.{Memory}
 use Rattle.share_program.specs.Opening.{next, opened, same}
 use Rattle.share_program.specs.declared.open.OpenedScene.{OpenedScene}
 use Rattle.share_rehearsal.specs.Calls.{viewers_from}
-use Rattle.share_rehearsal.specs.Rehearsed.{AreFresh, AreOf}
+use Rattle.share_rehearsal.specs.Loaded.{AreFresh, AreOf}
 use Rattle.share_stages.specs.Stages.{staged_scene}
 use Rattle.share_commands.specs.Stages.{AreStages, IsStage, fresh, scripted, scripts_refusal, unless_refused}
 

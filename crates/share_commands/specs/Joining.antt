@@ -5,7 +5,10 @@ use Rattle.cascade_core.specs.Held.{StageView}
 use Rattle.share_law.specs.Parts.{new_part}
 use Rattle.share_core.specs.Viewer.{ViewerView}
 use Rattle.share_rehearsal.specs.Calls.{viewers_from}
-use Rattle.share_turns.specs.Agreeing.{Meeting, Seats, Ways, AreAgreed, IsAgreeRunEnd, IsAgreedText, seats_of}
+use Rattle.share_turns.specs.Seats.{Seats, Ways, seats_of}
+use Rattle.share_turns.specs.Round.{Meeting}
+use Rattle.share_turns.specs.Agreeing.{AreAgreed}
+use Rattle.share_turns.specs.AgreedTexts.{IsAgreeRunEnd, IsAgreedText}
 use Rattle.share_turns.specs.declared.fault.SeriesFault.{SeriesFault}
 use Rattle.share_program.specs.declared.fault.ShareFault.{ShareFault}
 use Rattle.share_words.specs.declared.order.Order.{Order}

@@ -5,8 +5,8 @@ ghost use Rattle.x3d_values.specs.Ranges.{max_viewers};
 ghost use Rattle.share_commands.specs.Jobs.{staffed};
 ghost use Rattle.share_commands.specs.Joining.{IsAgreed, IsAgreedInPart, IsJoint, IsStaged};
 ghost use Rattle.share_rehearsal.specs.Calls.{viewers_from};
-ghost use Rattle.share_rehearsal.specs.Rehearsed.{AreFresh};
-ghost use Rattle.share_turns.specs.Agreeing.{seats_of, ways_of};
+ghost use Rattle.share_rehearsal.specs.Loaded.{AreFresh};
+ghost use Rattle.share_turns.specs.Seats.{seats_of, ways_of};
 ghost use Rattle.share_jobs.specs.declared.fault.JobFault.TheVariants.{Memory};
 
 use crate::fits::job_fits;

@@ -93,8 +93,8 @@ fn millis_of(micros: u64) -> u32 {
 }
 
 impl<P: Port, C: Clock> PatientPort<P, C> {
-    ghost use Rattle.std.specs.Prelude.{◌≡◌, ◌≤◌, ⊤, OnOk, OnErr, MatchOption, MatchResult};
-    ghost use Rattle.share_port.specs.Told.{one_more};
+    ghost use Rattle.std.specs.Prelude.{◌≡◌, ◌≤◌, ⊤, MatchOption, MatchResult};
+    ghost use Rattle.share_port.specs.Told.{counted};
 
     /// Whether a datagram is sent now.
     fn is_due(&mut self, bytes: &[u8]) -> bool
@@ -131,10 +131,8 @@ impl<P: Port, C: Clock> PatientPort<P, C> {
     fn receive_late(&mut self, into: &mut [u8; RECEIVED]) -> Result<Option<(u16, usize)>, PortFault>
         ensures got { MatchResult result
             (λ came. MatchOption came ⊤ (λ r. (r.1 ≤ max_received) × ⊤)) (λ _. ⊤) }
-        ensures count_ok { OnOk result
-            (P.failure_count self.new.port ≡ P.failure_count self.old.port) }
-        ensures count_err { OnErr result
-            (P.failure_count self.new.port ≡ one_more (P.failure_count self.old.port)) }
+        ensures failures { P.failure_count self.new.port
+            ≡ counted result (P.failure_count self.old.port) }
     {
         let left = self.pace.left(time_of(&self.clock));
         if left == 0 {

@@ -5,7 +5,7 @@ ghost use Rattle.x3d_values.specs.Ranges.{max_viewers};
 ghost use Rattle.share_commands.specs.Rehearsing.{IsLogOf, IsRehearsedLog, IsScheduleLog};
 ghost use Rattle.share_commands.specs.Rehearsing.{schedule_scene};
 ghost use Rattle.share_stages.specs.Stages.{staged_scene};
-ghost use Rattle.share_rehearsal.specs.Rehearsed.{AreFresh};
+ghost use Rattle.share_rehearsal.specs.Loaded.{AreFresh};
 ghost use Rattle.share_jobs.specs.declared.fault.JobFault.TheVariants.{Memory};
 
 use crate::stages::stages_of;

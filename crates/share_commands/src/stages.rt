@@ -3,7 +3,7 @@
 ghost use Rattle.std.specs.Prelude.{◌≡◌, ◌≤◌, ◌⊎◌, IfOk, IfErr, Err, length};
 ghost use Rattle.share_commands.specs.Stages.{AreStages, IsStage};
 ghost use Rattle.share_stages.specs.Stages.{staged_scene};
-ghost use Rattle.share_rehearsal.specs.Rehearsed.{AreFresh};
+ghost use Rattle.share_rehearsal.specs.Loaded.{AreFresh};
 ghost use Rattle.share_jobs.specs.declared.fault.JobFault.TheVariants.{Memory};
 
 use cascade_core::Stage;

@@ -92,7 +92,7 @@ fn packet_of(mark: [u8; 32], input: Option<Stamped>) -> Option<Packet>
 }
 
 impl Host {
-    ghost use Rattle.std.specs.Prelude.{◌≡◌, ◌<◌, ◌≤◌, ◌^◌, Some, IfOk, length, slice_get};
+    ghost use Rattle.std.specs.Prelude.{◌≡◌, ◌<◌, ◌≤◌, ◌^◌, Ok, Some, IfOk, length, slice_get};
     ghost use Rattle.std.specs.Option.{option_map};
     ghost use Rattle.x3d_values.specs.Ranges.{max_viewers};
     ghost use Rattle.share_wire.specs.Datagram.{datagram};
@@ -246,10 +246,20 @@ impl Host {
         ensures step { IsPartTakeOf self.old.mark self.old.part (decoded bytes.now) result
             self.new.part }
     {
-        let message = match decode(bytes) {
-            Ok(message) => message,
-            Err(fault) => return Err(HostFault::Wire(fault)),
-        };
+        match decode(bytes) {
+            Ok(message) => self.take_message(message),
+            Err(fault) => Err(HostFault::Wire(fault)),
+        }
+    }
+
+    /// Takes the message of a packet, as `take` does once its bytes are decoded: the first refusal
+    /// is `WrongScene`.
+    pub fn take_message(&mut self, message: Message) -> Result<HostReply, HostFault>
+        ensures mark { self.new.mark ≡ self.old.mark }
+        ensures asked { IfOk result (AreNumbered self.new.part) }
+        ensures step { IsPartTakeOf self.old.mark self.old.part (Ok message) result
+            self.new.part }
+    {
         if message.mark != self.mark {
             return Err(HostFault::WrongScene);
         }

@@ -1,5 +1,6 @@
 -- What a port tells of what passed.
 use Rattle.std.specs.Prelude.{◌≡◌, ℕ, ◌+◌, ◌-◌, ◌^◌, min, List, ◌++◌, Option, Some, None, ⊤}
+use Rattle.std.specs.Prelude.{Result, Ok, Err}
 use Rattle.share_port.specs.declared.traffic.Traffic.{Traffic}
 
 -- how many bytes of a datagram are received: one more than the longest that anyone takes
@@ -15,3 +16,8 @@ Grows (Some before) (Some after) passed = after ≡ before ++ passed
 -- one more failure, up to 2^64 - 1
 abbrev pub one_more : ℕ → ℕ
 one_more n = min (n + 1) (2 ^ 64 - 1)
+
+-- how many failures are counted after a send or a receive with this answer
+abbrev pub counted : {A E : Type 0} → Result A E → ℕ → ℕ
+counted (Ok a) n = n
+counted (Err fault) n = one_more n

@@ -1,7 +1,7 @@
 //! A port in memory, which tells its datagrams.
 
 ghost use Rattle.std.specs.Prelude.{◌≡◌, ◌≤◌, ◌++◌, ◌∷◌, [], length, take, Some, IfOk, OnErr};
-ghost use Rattle.share_port.specs.Told.{one_more, max_received};
+ghost use Rattle.share_port.specs.Told.{max_received};
 
 use crate::port::{Port, PortFault, RECEIVED};
 use crate::traffic::{Bytes, Datagram, Traffic};
@@ -21,7 +21,7 @@ pub struct FakePort {
 
 impl FakePort {
     ghost use Rattle.std.specs.Prelude.{◌≡◌, ◌++◌, ◌∷◌, [], IfOk, OnErr};
-    ghost use Rattle.share_port.specs.Told.{one_more};
+    ghost use Rattle.share_port.specs.Told.{counted, one_more};
 
     /// Nothing passed, and nothing came. The send or the receive of that number, from 1, fails;
     /// none for 0.
@@ -79,9 +79,8 @@ impl FakePort {
     fn tell(&mut self, traffic: Traffic) -> Result<(), PortFault>
         ensures ok { IfOk result
             (λ _. self.new.passed.items ≡ self.old.passed.items ++ traffic ∷ []) }
-        ensures ok_failed { IfOk result (λ _. self.new.failed ≡ self.old.failed) }
         ensures err { OnErr result (self.new.passed.items ≡ self.old.passed.items) }
-        ensures err_failed { OnErr result (self.new.failed ≡ one_more self.old.failed) }
+        ensures failed { self.new.failed ≡ counted result self.old.failed }
     {
         match self.passed.push(traffic) {
             Ok(()) => Ok(()),

@@ -2,7 +2,7 @@
 
 ghost use Rattle.std.specs.Prelude.{◌≡◌, ◌≤◌, ℕ, List, [], ◌∷◌, Option, None, take, length};
 ghost use Rattle.std.specs.Prelude.{OnOk, OnErr, MatchResult, MatchOption};
-ghost use Rattle.share_port.specs.Told.{Grows, one_more, max_received};
+ghost use Rattle.share_port.specs.Told.{Grows, counted, max_received};
 ghost use Rattle.share_port.specs.declared.traffic.Traffic.{Traffic};
 ghost use Rattle.share_port.specs.declared.traffic.Traffic.TheVariants.{Nothing, Received, Sent};
 
@@ -33,9 +33,7 @@ pub trait Port {
         ensures ok { OnOk result (Grows (told self.old) (told self.new)
             (Sent (record { peer = to; bytes = bytes.now }) ∷ [])) }
         ensures err { OnErr result (Grows (told self.old) (told self.new) []) }
-        ensures count_ok { OnOk result (failure_count self.new ≡ failure_count self.old) }
-        ensures count_err { OnErr result
-            (failure_count self.new ≡ one_more (failure_count self.old)) };
+        ensures failures { failure_count self.new ≡ counted result (failure_count self.old) };
 
     /// Receives a datagram, if one came: its peer, and how many bytes it has, which stand at the
     /// front of `into`. Of a datagram of more than 257 bytes the first 257 are received.
@@ -45,9 +43,7 @@ pub trait Port {
             (λ r. (r.1 ≤ max_received) × Grows (told self.old) (told self.new)
             (Received (record { peer = r.0; bytes = take r.1 into.new }) ∷ [])))
             (λ _. Grows (told self.old) (told self.new) []) }
-        ensures count_ok { OnOk result (failure_count self.new ≡ failure_count self.old) }
-        ensures count_err { OnErr result
-            (failure_count self.new ≡ one_more (failure_count self.old)) };
+        ensures failures { failure_count self.new ≡ counted result (failure_count self.old) };
 
     /// How many sends and receives failed, up to 2^64 - 1.
     fn failures(&self) -> u64

@@ -29,7 +29,7 @@ use Rattle.share_rehearsal.specs.declared.answer.Answer.TheVariants.{Joined}
 use Rattle.share_rehearsal.specs.declared.nodes.Shot.{Shot as Kept}
 use Rattle.share_rehearsal.specs.Calls.{Seen}
 use Rattle.share_rehearsal.specs.Laws.{IsTaken, JoinersStand, OfRehearsals, PiecesHold}
-use Rattle.share_rehearsal.specs.Rehearsed.{StandFor, law_answer, shot_at, viewer_at}
+use Rattle.share_rehearsal.specs.Stands.{StandFor, law_answer, shot_at, viewer_at}
 use Rattle.share_rehearsal.specs.Told.{IsToldStep, ToldRun}
 
 -- ---- what stands for what

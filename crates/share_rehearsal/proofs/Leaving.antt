@@ -20,7 +20,7 @@ use Rattle.share_core.specs.Host.{HostView}
 use Rattle.share_core.specs.Viewer.{ViewerView}
 use Rattle.share_rehearsal.specs.Calls.{Seen}
 use Rattle.share_rehearsal.specs.Laws.{HostHolds, IsLeft, OfRehearsals, TimesRise, ViewersAgree, ViewersHold, WindowsHold}
-use Rattle.share_rehearsal.specs.Rehearsed.{StandFor, viewer_at}
+use Rattle.share_rehearsal.specs.Stands.{StandFor, viewer_at}
 
 -- the viewer of a seat that runs
 record Runs (scene : SceneView) (routes : List Route) (net : Network Scripted) (v : ℕ) (x : ViewerView) (held : Scripted) (window : List (Option StampedView)) : Type 0 where

@@ -18,7 +18,9 @@ use Rattle.share_core.specs.Viewer.{ViewerView}
 use Rattle.share_rehearsal.specs.declared.answer.Answer.{Answer}
 use Rattle.share_rehearsal.specs.Calls.{Seen, IsCall, AreCalls, viewers_from, begun_with}
 use Rattle.share_rehearsal.specs.Log.{line_text, lines_from, ending_text, endings_from}
-use Rattle.share_rehearsal.specs.Rehearsed.{AreOf, IsPlayed, StandFor, viewer_at}
+use Rattle.share_rehearsal.specs.Stands.{StandFor, viewer_at}
+use Rattle.share_rehearsal.specs.Loaded.{AreOf}
+use Rattle.share_rehearsal.specs.Rehearsed.{IsPlayed}
 
 -- ---- one step more
 

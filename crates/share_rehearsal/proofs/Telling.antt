@@ -40,7 +40,7 @@ use Rattle.share_rehearsal.specs.declared.answer.Answer.TheVariants.{Clocked, Ho
 use Rattle.share_rehearsal.specs.Laws.{MemoryIsLogged}
 use Rattle.share_rehearsal.specs.Log.{answer_text, gather_text, host_text, take_text}
 use Rattle.share_rehearsal.specs.Names.{floor_name, join_name, number_name, offer_name, save_name, snap_name}
-use Rattle.share_rehearsal.specs.Rehearsed.{law_answer}
+use Rattle.share_rehearsal.specs.Stands.{law_answer}
 use Rattle.share_rehearsal.specs.Told.{IsToldStep, ToldRun}
 
 -- ---- runs

@@ -54,7 +54,7 @@ use Rattle.share_rehearsal.specs.declared.answer.Answer.{Answer}
 use Rattle.share_rehearsal.specs.declared.answer.Answer.TheVariants.{Clocked, HostTook, ViewerTook, Offered, Sent, Saved, Rewound, Dropped, Collected, Joined, Forgot, NoSuch}
 use Rattle.share_rehearsal.specs.declared.nodes.Shot.{Shot}
 use Rattle.share_rehearsal.specs.Calls.{Seen, with_host, with_viewer, with_packets, with_shots, message, IsUnknown, IsMade, IsAcked, IsHostGiven, IsGiven, IsSaving, IsSaved, IsRewinding, IsCut, IsGathering, IsJoining, IsForgotten, IsOffering, IsCall, AreCalls}
-use Rattle.share_rehearsal.specs.Rehearsed.{law_answer, viewer_at, shot_at, StandFor}
+use Rattle.share_rehearsal.specs.Stands.{law_answer, viewer_at, shot_at, StandFor}
 
 -- each world that a viewer runs with fits a snapshot, whatever happened before
 abbrev pub RunningWorldsFit : (mark : List ℕ) → SceneView → List Route → Type 0

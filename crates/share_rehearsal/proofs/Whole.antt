@@ -14,7 +14,9 @@ use Rattle.share_core.specs.Viewer.{ViewerView}
 use Rattle.laws_networks.proofs.Worlds.{running_have}
 use Rattle.share_rehearsal.specs.declared.answer.Answer.{Answer}
 use Rattle.share_rehearsal.specs.Calls.{Seen, AreCalls, begun_with}
-use Rattle.share_rehearsal.specs.Rehearsed.{AreLoaded, IsLogged, IsRehearsal, IsRehearsed, law_answer}
+use Rattle.share_rehearsal.specs.Stands.{law_answer}
+use Rattle.share_rehearsal.specs.Loaded.{AreLoaded}
+use Rattle.share_rehearsal.specs.Rehearsed.{IsLogged, IsRehearsal, IsRehearsed}
 use Rattle.share_rehearsal.proofs.Plays.{stand-begun}
 use Rattle.share_rehearsal.proofs.Telling.{told_run}
 use Rattle.share_rehearsal.proofs.Ties.{RunningWorldsFit, tied}

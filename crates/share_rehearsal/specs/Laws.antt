@@ -21,7 +21,8 @@ use Rattle.share_rehearsal.specs.declared.answer.Answer.{Answer}
 use Rattle.share_rehearsal.specs.declared.answer.Answer.TheVariants.{Joined}
 use Rattle.share_rehearsal.specs.Calls.{Seen}
 use Rattle.share_rehearsal.specs.Log.{answer_text}
-use Rattle.share_rehearsal.specs.Rehearsed.{IsRehearsal, law_answer, shot_at}
+use Rattle.share_rehearsal.specs.Stands.{law_answer, shot_at}
+use Rattle.share_rehearsal.specs.Rehearsed.{IsRehearsal}
 
 -- of whatever a rehearsal of a scene leaves, whichever its steps, and of the list of all inputs
 -- that its host numbered, of which it holds a part

@@ -3,7 +3,8 @@
 ghost use Rattle.std.specs.Prelude.{◌≡◌, ◌<◌, ◌≤◌, ◌++◌, ◌∷◌, [], length, Err, IfErr, IfOk, OnErr, OnOk};
 ghost use Rattle.x3d_values.specs.Ranges.{max_viewers};
 ghost use Rattle.share_rehearsal.specs.Calls.{begun_with, seen, viewers_from};
-ghost use Rattle.share_rehearsal.specs.Rehearsed.{AreFresh, IsLogged, IsRehearsed};
+ghost use Rattle.share_rehearsal.specs.Loaded.{AreFresh};
+ghost use Rattle.share_rehearsal.specs.Rehearsed.{IsLogged, IsRehearsed};
 
 use crate::ending::push_endings;
 use crate::fault::RehearseFault;

@@ -3,7 +3,9 @@ use Rattle.std.proofs.Common.{◌≡◌, ℕ, suc, ◌+◌, ◌<◌, Bool, false
 use Rattle.std.specs.Prelude.{◌==◌, ◌&&◌, ◌||◌, length, Option, None, Ok, slice_get, if◌then◌else◌}
 use Rattle.x3d_values.specs.Stamp.{StampedView}
 use Rattle.share_turns.specs.declared.fault.TurnFault.{TurnFault}
-use Rattle.share_turns.specs.Agreeing.{AreCut, IsRoundEnd, IsRoundOf, IsSeatTurn, Meeting, Rounds, SeatTurns, Seats, Ways, due, is_over, is_caught_up}
+use Rattle.share_turns.specs.Seats.{IsSeatTurn, SeatTurns, Seats, Ways}
+use Rattle.share_turns.specs.Round.{IsRoundEnd, IsRoundOf, Meeting}
+use Rattle.share_turns.specs.Agreeing.{AreCut, Rounds, due, is_over, is_caught_up}
 use Rattle.share_turns.specs.Views.{one_more_if}
 
 -- the step that a round was made with is the one that is due

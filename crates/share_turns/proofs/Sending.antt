@@ -14,7 +14,7 @@ use Rattle.share_law.specs.Parts.{HostPart, part_packet}
 use Rattle.share_port.specs.declared.port.PortFault.{PortFault}
 use Rattle.share_port.specs.declared.traffic.Traffic.{Traffic}
 use Rattle.share_port.specs.declared.traffic.Traffic.TheVariants.{Sent}
-use Rattle.share_port.specs.Told.{Grows, one_more}
+use Rattle.share_port.specs.Told.{Grows}
 use Rattle.share_turns.specs.Exchanges.{AreSent, sent_to}
 use Rattle.share_turns.specs.HostTurn.{acks_for, ack_to, datagrams_of, listed}
 
@@ -61,15 +61,6 @@ pub are_sent_one : (result : Result (Unit {0}) PortFault) (peer : ℕ) (a b : Op
     → AreSent (is_ok result) peer a b (bytes ∷ [])
 are_sent_one (Ok u) peer a b bytes ok err = record { sent = bytes ∷ []; of_wanted = refl; told = ok }
 are_sent_one (Err f) peer a b bytes ok err = record { sent = []; of_wanted = (bytes ∷ [], refl); told = err }
-
--- failures were counted up to b before
-pub counted_ok : (result : Result (Unit {0}) PortFault) (a b c : ℕ) → OnOk result (c ≡ b) → b ≡ a → OnOk result (c ≡ a)
-counted_ok (Ok u) a b c e same = e ∙ same
-counted_ok (Err f) a b c e same = tt
-
-pub counted_err : (result : Result (Unit {0}) PortFault) (a b c : ℕ) → OnErr result (c ≡ one_more b) → b ≡ a → OnErr result (c ≡ one_more a)
-counted_err (Ok u) a b c e same = tt
-counted_err (Err f) a b c e same = e ∙ ap one_more same
 
 -- ---- acks
 

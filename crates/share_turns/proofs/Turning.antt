@@ -1,9 +1,11 @@
 -- A turn of the host, datagram by datagram.
-use Rattle.std.proofs.Common.{◌≡◌, ℕ, ◌+◌, ◌<◌, ◌≤◌, ℤ, Bool, true, false, List, [], ◌∷◌, ◌++◌, length, length-append, refl, ap, sym, ◌∙◌, arith, append-nil}
+use Rattle.std.proofs.Common.{◌≡◌, ℕ, ◌+◌, ◌<◌, ◌≤◌, ℤ, Bool, true, false, List, [], ◌∷◌, ◌++◌, length, length-append, refl, ap, sym, ◌∙◌, subst, arith, append-nil}
 use Rattle.std.specs.Prelude.{Option, Result, Ok, Err, OnErr, is_err, is_ok}
 use Rattle.std.proofs.lemmas.Grind.{flat_map-append}
 use Rattle.std.proofs.lemmas.List.{map-append}
 use Rattle.share_wire.specs.Decoding.{decoded}
+use Rattle.share_wire.specs.declared.fault.WireFault.{WireFault}
+use Rattle.share_wire.specs.declared.message.Message.{Message}
 use Rattle.share_law.specs.declared.fault.HostFault.{HostFault}
 use Rattle.share_law.specs.declared.reply.HostReply.{HostReply}
 use Rattle.share_law.specs.Calls.{IsPartTakeOf}
@@ -163,13 +165,18 @@ turned_more mark clock a b c d came old mid new x y z n t received hearing i =
 -- ---- one exchange
 
 -- the host refused what came, and nothing was sent
-pub exchange_refused : (result : Result (Unit {0}) TurnFault) (fault : HostFault) (mark : List ℕ) (h : HostPart) (came : Datagram) (a : Option (List Traffic)) (new : HostPart)
-    → IsPartTakeOf mark h (decoded came.bytes) (Err fault) new → is_err result ≡ says_memory (HostTook (Err fault)) → OnErr result (result ≡ Err turn_fault.Memory)
-    → IsExchange result mark h came a a new
-exchange_refused result fault mark h came a new took refused memory = record {
+pub exchange_refused : (result : Result (Unit {0}) TurnFault) (fault : HostFault) (mark : List ℕ) (h : HostPart) (peer : ℕ) (read : Result Message WireFault) (a : Option (List Traffic)) (new : HostPart)
+    → IsPartTakeOf mark h read (Err fault) new → is_err result ≡ says_memory (HostTook (Err fault)) → OnErr result (result ≡ Err turn_fault.Memory)
+    → (bytes : List ℕ) → read ≡ decoded bytes → IsExchange result mark h (record { peer = peer; bytes = bytes }) a a new
+exchange_refused result fault mark h peer read a new took refused memory bytes is = record {
   refused = is_err result;
   sent = [];
-  answered = record { result = Err fault; took = took; refused = refused; sent = none_sent result };
+  answered = record {
+    result = Err fault;
+    took = subst (λ (r : Result Message WireFault). IsPartTakeOf mark h r (Err fault) new) is took;
+    refused = refused;
+    sent = none_sent result;
+  };
   memory = answered_one (is_err result) result refl memory;
   told = grows_none a;
 }
@@ -181,13 +188,18 @@ exchange_refused result fault mark h came a new took refused memory = record {
     none_sent (Err turn_fault.Memory) = refl
 
 -- the host took what came, and sent for it as far as the port did
-pub exchange_sent : (result : Result (Unit {0}) TurnFault) (reply : HostReply) (mark : List ℕ) (h : HostPart) (came : Datagram) (a b : Option (List Traffic)) (new : HostPart)
-    → IsPartTakeOf mark h (decoded came.bytes) (Ok reply) new → AreSent (is_whole result) came.peer a b (datagrams_of mark (bodies_for new (sender_of (decoded came.bytes)) reply))
-    → IsAnswerAfter (false ∷ []) result → IsExchange result mark h came a b new
-exchange_sent result reply mark h came a b new took s answers = record {
+pub exchange_sent : (result : Result (Unit {0}) TurnFault) (reply : HostReply) (mark : List ℕ) (h : HostPart) (peer : ℕ) (read : Result Message WireFault) (a b : Option (List Traffic)) (new : HostPart)
+    → IsPartTakeOf mark h read (Ok reply) new → AreSent (is_whole result) peer a b (datagrams_of mark (bodies_for new (sender_of read) reply))
+    → IsAnswerAfter (false ∷ []) result → (bytes : List ℕ) → read ≡ decoded bytes → IsExchange result mark h (record { peer = peer; bytes = bytes }) a b new
+exchange_sent result reply mark h peer read a b new took s answers bytes is = record {
   refused = false;
   sent = s.sent;
-  answered = record { result = Ok reply; took = took; refused = refl; sent = s.of_wanted };
+  answered = record {
+    result = Ok reply;
+    took = subst (λ (r : Result Message WireFault). IsPartTakeOf mark h r (Ok reply) new) is took;
+    refused = refl;
+    sent = subst (λ (r : Result Message WireFault). IsSentOf (is_whole result) s.sent (datagrams_of mark (bodies_for new (sender_of r) reply))) is s.of_wanted;
+  };
   memory = answers;
   told = s.told;
 }

@@ -1,6 +1,6 @@
 -- A turn of the host: the next clock of its job, then datagrams that come, each answered.
-use Rattle.std.specs.Prelude.{◌≡◌, ℕ, ◌≤◌, ℤ, Bool, true, false, List, [], ◌∷◌, ◌++◌, map, slice_get, length}
-use Rattle.std.specs.Prelude.{Option, Some, None, Result, Ok, Err, is_ok, nat_eq, nat_lt}
+use Rattle.std.specs.Prelude.{◌≡◌, ℕ, ◌≤◌, ℤ, Bool, true, false, List, [], ◌∷◌, ◌++◌, map, length}
+use Rattle.std.specs.Prelude.{slice_get, Option, Some, None, Result, Ok, Err, is_ok, nat_eq, nat_lt}
 use Rattle.std.specs.Prelude.{if◌then◌else◌}
 use Rattle.std.specs.Cmp.Lexicographic.{pointwise}
 use Rattle.std.specs.List.{flat_map, range_with_len}
@@ -146,6 +146,14 @@ pub record IsExchange (result : Result (Unit {0}) TurnFault) (mark : List ℕ) (
       (record { came = came; refused = refused; sent = sent }) new
   pub memory : IsAnswerAfter (refused ∷ []) result
   pub told : Grows told_before told_after (sent_to came.peer sent)
+
+-- the same, of any datagram from this peer that was decoded so
+abbrev pub IsExchangeOf : (result : Result (Unit {0}) TurnFault) → (mark : List ℕ) → HostPart
+    → (peer : ℕ) → (read : Result Message WireFault)
+    → (told_before told_after : Option (List Traffic)) → (new : HostPart) → Type 0
+IsExchangeOf result mark h peer read a b new =
+    (bytes : List ℕ) → read ≡ decoded bytes
+    → IsExchange result mark h (record { peer = peer; bytes = bytes }) a b new
 
 -- where others follow, all was sent: a port that fails ends the turn
 abbrev pub is_whole_before : (whole : Bool) → (others : List Exchange) → Bool

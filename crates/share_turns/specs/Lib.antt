@@ -6,4 +6,8 @@ pub mod Runs
 pub mod Gathers
 pub mod Gives
 pub mod Views
+pub mod Issuing
+pub mod Seats
+pub mod Round
 pub mod Agreeing
+pub mod AgreedTexts

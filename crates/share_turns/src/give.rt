@@ -3,7 +3,7 @@
 
 ghost use Rattle.std.specs.Prelude.{◌≡◌, [], Err, IfErr, OnErr, OnOk, is_ok};
 ghost use Rattle.std.specs.Option.{option_map};
-ghost use Rattle.share_port.specs.Told.{one_more};
+ghost use Rattle.share_port.specs.Told.{counted};
 ghost use Rattle.share_wire.specs.Datagram.{datagram};
 ghost use Rattle.share_core.specs.Pieces.{count_of};
 ghost use Rattle.share_turns.specs.Exchanges.{AreSent};
@@ -54,9 +54,7 @@ fn send_piece<P: Port>(
 ) -> Result<(), PortFault>
     ensures sent { AreSent (is_ok result) to (P.told port.old) (P.told port.new)
         (given_in mark.now bytes.now turn) }
-    ensures count_ok { OnOk result (P.failure_count port.new ≡ P.failure_count port.old) }
-    ensures count_err { OnErr result
-        (P.failure_count port.new ≡ one_more (P.failure_count port.old)) }
+    ensures failures { P.failure_count port.new ≡ counted result (P.failure_count port.old) }
 {
     match packet_among(mark, bytes, piece_count(bytes), turn) {
         Some(packet) => port.send(to, packet.as_slice()),

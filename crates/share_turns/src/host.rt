@@ -1,17 +1,18 @@
 //! A turn of the host.
 
-ghost use Rattle.std.specs.Prelude.{◌≡◌, [], ◌∷◌, Err, OnOk, OnErr, is_err, is_ok, nat_eq};
+ghost use Rattle.std.specs.Prelude.{◌≡◌, [], ◌∷◌, Err, IfOk, OnErr, is_err, is_ok, nat_eq};
 ghost use Rattle.std.specs.Cmp.Lexicographic.{pointwise};
-ghost use Rattle.share_wire.specs.Decoding.{decoded};
-ghost use Rattle.share_port.specs.Told.{one_more};
+ghost use Rattle.share_port.specs.Told.{counted};
 ghost use Rattle.share_turns.specs.Exchanges.{AreSent};
+ghost use Rattle.share_law.specs.Calls.{IsPartTakeOf};
 ghost use Rattle.share_law.specs.Parts.{part_floor_packet, part_packet};
 ghost use Rattle.share_law.specs.Network.{Clocked, HostTook};
 ghost use Rattle.share_law.specs.Steps.{says_memory};
 ghost use Rattle.share_core.specs.Host.{AreNumbered};
-ghost use Rattle.share_turns.specs.HostTurn.{IsHostTurn, IsBegun, IsExchange, acks_for};
-ghost use Rattle.share_turns.specs.HostTurn.{bodies_for, datagrams_of, inputs_for, listed, sender_in, sender_of};
-ghost use Rattle.share_turns.specs.HostTurn.{IsHeardTurn, ask_in, asked_of, hear_from, hears};
+ghost use Rattle.share_turns.specs.HostTurn.{IsHostTurn, IsBegun, IsExchangeOf, acks_for};
+ghost use Rattle.share_turns.specs.HostTurn.{bodies_for, datagrams_of, inputs_for, listed};
+ghost use Rattle.share_turns.specs.HostTurn.{sender_in, sender_of};
+ghost use Rattle.share_turns.specs.HostTurn.{IsHeardTurn, ask_in, asked_of, hear_from};
 ghost use Rattle.share_turns.specs.HostTurn.{failures_after};
 ghost use Rattle.share_turns.specs.declared.fault.TurnFault.TheVariants.{Memory};
 
@@ -21,7 +22,7 @@ use share_core::Host;
 use share_heard::Heard;
 use share_law::{HostFault, HostReply, NumberFault};
 use share_port::{Port, PortFault, RECEIVED};
-use share_wire::{Ask, Body, decode};
+use share_wire::{Ask, Body, Message, WireFault, decode};
 
 /// Goes on after a clock, unless memory was refused to it. One that was refused for another cause
 /// is dropped.
@@ -59,10 +60,10 @@ fn sender_in(body: Body) -> Option<u8>
 }
 
 /// The viewer that offered or asked.
-fn sender_of(bytes: &[u8]) -> Option<u8>
-    ensures { result ≡ sender_of (decoded bytes.now) }
+fn sender_of(read: &Result<Message, WireFault>) -> Option<u8>
+    ensures { result ≡ sender_of read.now }
 {
-    match decode(bytes) {
+    match read {
         Ok(message) => sender_in(message.body),
         Err(_) => None,
     }
@@ -72,9 +73,7 @@ fn sender_of(bytes: &[u8]) -> Option<u8>
 fn send_input<P: Port>(host: &Host, number: u32, to: u16, port: &mut P) -> Result<(), PortFault>
     ensures sent { AreSent (is_ok result) to (P.told port.old) (P.told port.new)
         (datagrams_of host.now.mark (listed (part_packet host.now.part number))) }
-    ensures count_ok { OnOk result (P.failure_count port.new ≡ P.failure_count port.old) }
-    ensures count_err { OnErr result
-        (P.failure_count port.new ≡ one_more (P.failure_count port.old)) }
+    ensures failures { P.failure_count port.new ≡ counted result (P.failure_count port.old) }
 {
     match host.packet(number) {
         Some(packet) => port.send(to, packet.as_slice()),
@@ -86,9 +85,7 @@ fn send_input<P: Port>(host: &Host, number: u32, to: u16, port: &mut P) -> Resul
 fn send_floor<P: Port>(host: &Host, to: u16, port: &mut P) -> Result<(), PortFault>
     ensures sent { AreSent (is_ok result) to (P.told port.old) (P.told port.new)
         (datagrams_of host.now.mark (part_floor_packet host.now.part ∷ [])) }
-    ensures count_ok { OnOk result (P.failure_count port.new ≡ P.failure_count port.old) }
-    ensures count_err { OnErr result
-        (P.failure_count port.new ≡ one_more (P.failure_count port.old)) }
+    ensures failures { P.failure_count port.new ≡ counted result (P.failure_count port.old) }
 {
     port.send(to, host.floor_packet().as_slice())
 }
@@ -103,9 +100,7 @@ fn send_inputs<P: Port>(
     requires { AreNumbered host.now.part reply }
     ensures sent { AreSent (is_ok result) to (P.told port.old) (P.told port.new)
         (datagrams_of host.now.mark (inputs_for host.now.part reply)) }
-    ensures count_ok { OnOk result (P.failure_count port.new ≡ P.failure_count port.old) }
-    ensures count_err { OnErr result
-        (P.failure_count port.new ≡ one_more (P.failure_count port.old)) }
+    ensures failures { P.failure_count port.new ≡ counted result (P.failure_count port.old) }
 {
     if let HostReply::Below(_floor) = reply {
         return send_floor(host, to, port);
@@ -129,9 +124,7 @@ fn send_ack<P: Port>(
 ) -> Result<(), PortFault>
     ensures sent { AreSent (is_ok result) to (P.told port.old) (P.told port.new)
         (datagrams_of host.now.mark (acks_for host.now.part sender)) }
-    ensures count_ok { OnOk result (P.failure_count port.new ≡ P.failure_count port.old) }
-    ensures count_err { OnErr result
-        (P.failure_count port.new ≡ one_more (P.failure_count port.old)) }
+    ensures failures { P.failure_count port.new ≡ counted result (P.failure_count port.old) }
 {
     let Some(who) = sender else {
         return Ok(());
@@ -153,9 +146,7 @@ fn send_for<P: Port>(
     requires { AreNumbered host.now.part reply }
     ensures sent { AreSent (is_ok result) to (P.told port.old) (P.told port.new)
         (datagrams_of host.now.mark (bodies_for host.now.part sender reply)) }
-    ensures count_ok { OnOk result (P.failure_count port.new ≡ P.failure_count port.old) }
-    ensures count_err { OnErr result
-        (P.failure_count port.new ≡ one_more (P.failure_count port.old)) }
+    ensures failures { P.failure_count port.new ≡ counted result (P.failure_count port.old) }
 {
     send_inputs(host, reply, to, port)?;
     send_ack(host, sender, to, port)
@@ -172,17 +163,33 @@ fn after_refusal(fault: HostFault) -> Result<(), TurnFault>
     }
 }
 
-/// Takes a datagram, and sends to its peer what belongs to it.
-fn answer<P: Port>(host: &mut Host, from: u16, bytes: &[u8], port: &mut P) -> Result<(), TurnFault>
+/// The host takes what a datagram was decoded to, or refuses it.
+fn take(host: &mut Host, read: &Result<Message, WireFault>) -> Result<HostReply, HostFault>
     ensures mark { host.new.mark ≡ host.old.mark }
-    ensures exchange { IsExchange result host.old.mark host.old.part
-        (record { peer = from; bytes = bytes.now }) (P.told port.old) (P.told port.new)
-        host.new.part }
+    ensures asked { IfOk result (AreNumbered host.new.part) }
+    ensures step { IsPartTakeOf host.old.mark host.old.part read.now result host.new.part }
+{
+    match read {
+        Ok(message) => host.take_message(*message),
+        Err(fault) => Err(HostFault::Wire(*fault)),
+    }
+}
+
+/// Takes what a datagram was decoded to, and sends to its peer what belongs to it.
+fn answer<P: Port>(
+    host: &mut Host,
+    from: u16,
+    read: &Result<Message, WireFault>,
+    port: &mut P,
+) -> Result<(), TurnFault>
+    ensures mark { host.new.mark ≡ host.old.mark }
+    ensures exchange { IsExchangeOf result host.old.mark host.old.part from read.now
+        (P.told port.old) (P.told port.new) host.new.part }
     ensures failures { P.failure_count port.new
         ≡ failures_after result (P.failure_count port.old) }
 {
-    match host.take(bytes) {
-        Ok(reply) => Ok(send_for(host, reply, sender_of(bytes), from, port)?),
+    match take(host, read) {
+        Ok(reply) => Ok(send_for(host, reply, sender_of(read), from, port)?),
         Err(fault) => after_refusal(fault),
     }
 }
@@ -203,10 +210,10 @@ fn is_same(mark: &[u8; 32], other: &[u8; 32]) -> bool
 }
 
 /// The ask of the scene with this mark that came.
-fn asked_of(bytes: &[u8], mark: &[u8; 32]) -> Option<Ask>
-    ensures { result ≡ asked_of mark.now (decoded bytes.now) }
+fn asked_of(read: &Result<Message, WireFault>, mark: &[u8; 32]) -> Option<Ask>
+    ensures { result ≡ asked_of mark.now read.now }
 {
-    match decode(bytes) {
+    match read {
         Ok(message) => {
             if is_same(&message.mark, mark) {
                 ask_in(message.body)
@@ -230,10 +237,10 @@ fn hear_from(heard: &mut Heard, ask: Option<Ask>, viewers: u8)
 }
 
 /// Hears of a viewer, if one asks.
-fn hear(heard: &mut Heard, bytes: &[u8], mark: &[u8; 32], viewers: u8)
-    ensures { heard.new ≡ hears mark.now viewers heard.old bytes.now }
+fn hear(heard: &mut Heard, read: &Result<Message, WireFault>, mark: &[u8; 32], viewers: u8)
+    ensures { heard.new ≡ hear_from viewers heard.old (asked_of mark.now read.now) }
 {
-    hear_from(heard, asked_of(bytes, mark), viewers);
+    hear_from(heard, asked_of(read, mark), viewers);
 }
 
 /// A turn of the host, as by `host_turn`, in which it hears of its viewers by their asks.
@@ -256,8 +263,9 @@ pub(crate) fn hearing_turn<P: Port>(
     for _turn in 0..MOST {
         match port.receive(&mut bytes)? {
             Some((from, count)) => {
-                hear(heard, &bytes[..count], &mark, viewers);
-                answer(host, from, &bytes[..count], port)?;
+                let read = decode(&bytes[..count]);
+                hear(heard, &read, &mark, viewers);
+                answer(host, from, &read, port)?;
             }
             None => return Ok(()),
         }
@@ -268,8 +276,7 @@ pub(crate) fn hearing_turn<P: Port>(
 /// A turn of the host: it numbers the next clock of its job, at a time in microseconds, if there is
 /// one; then it takes at most 64 datagrams, and sends to each one's peer what belongs to it: for an
 /// ask the inputs that were asked for, or the floor where they are below it, and an ack, for an
-/// offer an ack. A clock or a datagram that
-/// is refused for another cause than memory is dropped.
+/// offer an ack. A clock or a datagram that is refused for another cause than memory is dropped.
 ///
 /// `Port` where a send or a receive failed, `Memory` where memory was refused to a clock or to an
 /// offer: either ends the turn at once.

@@ -4,12 +4,19 @@
 ghost use Rattle.std.specs.Prelude.{◌≡◌, ◌⊎◌, ◌≤◌, ◌<◌, ◌+◌, ◌++◌, ◌^◌, ◌==◌, ◌&&◌, ◌||◌, IfOk};
 ghost use Rattle.std.specs.Prelude.{if◌then◌else◌, IfErr, OnOk, OnErr, length, slice_get, None};
 ghost use Rattle.x3d_lists.specs.Extends.{Extends};
-ghost use Rattle.share_turns.specs.Agreeing.{AreAgreed, IsAgreeEnd, IsAgreedText};
-ghost use Rattle.share_turns.specs.Agreeing.{IsAgreedTextFault};
-ghost use Rattle.share_turns.specs.Agreeing.{IsAgreeRunEnd, IsRoundOf, IsRoundEnd, IsSeatTurn};
-ghost use Rattle.share_turns.specs.Agreeing.{SeatTurns, SeatTurnsEnd};
-ghost use Rattle.share_turns.specs.Agreeing.{agreed_line, are_at, clock_at, clock_of, is_issued};
-ghost use Rattle.share_turns.specs.Agreeing.{meeting, offer_of, pointed_by, seats_of, ways_of};
+ghost use Rattle.share_turns.specs.Agreeing.{AreAgreed, IsAgreeEnd};
+ghost use Rattle.share_turns.specs.AgreedTexts.{IsAgreedText};
+ghost use Rattle.share_turns.specs.AgreedTexts.{IsAgreedTextFault};
+ghost use Rattle.share_turns.specs.Seats.{IsSeatTurn};
+ghost use Rattle.share_turns.specs.Round.{IsRoundOf, IsRoundEnd};
+ghost use Rattle.share_turns.specs.AgreedTexts.{IsAgreeRunEnd};
+ghost use Rattle.share_turns.specs.Seats.{SeatTurns, SeatTurnsEnd};
+ghost use Rattle.share_turns.specs.Issuing.{clock_at, clock_of, is_issued};
+ghost use Rattle.share_turns.specs.Agreeing.{are_at};
+ghost use Rattle.share_turns.specs.AgreedTexts.{agreed_line};
+ghost use Rattle.share_turns.specs.Issuing.{offer_of, pointed_by};
+ghost use Rattle.share_turns.specs.Seats.{seats_of, ways_of};
+ghost use Rattle.share_turns.specs.Round.{meeting};
 
 use crate::fault::{SeriesFault, TurnFault};
 use crate::host::host_turn;

@@ -1,10 +1,10 @@
 //! A turn of a viewer.
 
-ghost use Rattle.std.specs.Prelude.{◌≡◌, Err, OnOk, OnErr, is_err, is_ok};
+ghost use Rattle.std.specs.Prelude.{◌≡◌, Err, OnErr, is_err, is_ok};
 ghost use Rattle.share_law.specs.Network.{ViewerTook};
 ghost use Rattle.share_law.specs.Steps.{says_memory};
 ghost use Rattle.share_law.specs.Viewer.{viewer_resend};
-ghost use Rattle.share_port.specs.Told.{one_more};
+ghost use Rattle.share_port.specs.Told.{counted};
 ghost use Rattle.share_core.specs.Viewer.{IfRunning, IfSpoiled, machine_of, with_state};
 ghost use Rattle.share_turns.specs.Exchanges.{AreSent};
 ghost use Rattle.share_turns.specs.HostTurn.{datagrams_of, failures_after, listed};
@@ -78,9 +78,7 @@ fn send_offer<B: Behaviour, P: Port>(
 ) -> Result<(), PortFault>
     ensures sent { AreSent (is_ok result) host (P.told port.old) (P.told port.new)
         (datagrams_of viewer.now.mark (listed (viewer_resend viewer.now.who viewer.now.state 0))) }
-    ensures count_ok { OnOk result (P.failure_count port.new ≡ P.failure_count port.old) }
-    ensures count_err { OnErr result
-        (P.failure_count port.new ≡ one_more (P.failure_count port.old)) }
+    ensures failures { P.failure_count port.new ≡ counted result (P.failure_count port.old) }
 {
     match viewer.resend(0) {
         Some(packet) => port.send(host, packet.as_slice()),
@@ -96,9 +94,7 @@ fn send_requests<B: Behaviour, P: Port>(
 ) -> Result<(), PortFault>
     ensures sent { AreSent (is_ok result) host (P.told port.old) (P.told port.new)
         (requests (machine_of viewer.now) viewer.now.mark viewer.now.who viewer.now.state) }
-    ensures count_ok { OnOk result (P.failure_count port.new ≡ P.failure_count port.old) }
-    ensures count_err { OnErr result
-        (P.failure_count port.new ≡ one_more (P.failure_count port.old)) }
+    ensures failures { P.failure_count port.new ≡ counted result (P.failure_count port.old) }
 {
     send_offer(viewer, host, port)?;
     port.send(host, viewer.ask().as_slice())

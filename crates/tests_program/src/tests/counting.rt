@@ -4,7 +4,7 @@
 ghost use Rattle.std.specs.Prelude.{◌≡◌, ◌∷◌, [], IfOk};
 ghost use Rattle.cascade_core.specs.Apply.{opening};
 ghost use Rattle.cascade_core.specs.Held.{Running};
-ghost use Rattle.share_rehearsal.specs.Rehearsed.{AreFresh};
+ghost use Rattle.share_rehearsal.specs.Loaded.{AreFresh};
 
 mod boxes;
 

@@ -1,6 +1,6 @@
 use Rattle.std.proofs.Common.{rules, ◌≡◌, ◌∙◌, ap, length}
 use Rattle.share_law.specs.Parts.{new_part}
-use Rattle.share_turns.specs.Agreeing.{seats_of, ways_of}
+use Rattle.share_turns.specs.Seats.{seats_of, ways_of}
 use Rattle.share_commands.specs.Joining.{Joint}
 use Rattle.share_commands.proofs.Agreed.{is_agreed, is_agreed_in_part, written}
 use Rattle.share_commands.proofs.joining.agree_job.Goals as goal

@@ -4,7 +4,7 @@ use Rattle.x3d_values.specs.Ranges.{max_viewers}
 use Rattle.cascade_core.specs.Held.{StageView}
 use Rattle.share_core.specs.Viewer.{ViewerView}
 use Rattle.share_rehearsal.specs.Calls.{viewers_from}
-use Rattle.share_rehearsal.specs.Rehearsed.{AreFresh}
+use Rattle.share_rehearsal.specs.Loaded.{AreFresh}
 use Rattle.share_rehearsal.proofs.Seating.{few, seat_of, seated}
 use Rattle.share_rehearsal.proofs.rehearsal.viewers_of.Goals as goal
 

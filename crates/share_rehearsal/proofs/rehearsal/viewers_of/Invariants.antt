@@ -2,7 +2,7 @@ use Rattle.std.proofs.Common.{◌≡◌, ◌+◌, ◌++◌, ◌≤◌, length}
 use Rattle.std.specs.Vec.Iter.{into_iter_items}
 use Rattle.x3d_values.specs.Ranges.{max_viewers}
 use Rattle.share_rehearsal.specs.Calls.{viewers_from}
-use Rattle.share_rehearsal.specs.Rehearsed.{AreFresh}
+use Rattle.share_rehearsal.specs.Loaded.{AreFresh}
 use Rattle.share_rehearsal.proofs.rehearsal.viewers_of.Given as goal
 
 abbrev pub invariant-loop-stage : goal.invariant-loop-stage

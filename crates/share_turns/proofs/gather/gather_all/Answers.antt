@@ -45,5 +45,5 @@ loop-turn-preserved g c =
       gathers_more c.args.viewer.now c.loop-turn.viewer went_on (g.P.Port.told c.args.port.now) (g.P.Port.told c.loop-turn.port) (g.P.Port.told c.receive.new.self)
           came false c.gather_one.new.viewer.gathering c.loop-turn._turn c.loop-turn.invariant.1 c.loop-turn.invariant.0 got.1 c.in_ok-gather_one-in-Some.ensures.gathered (1, refl),
       c.in_ok-gather_one-in-Some.ensures.others ∙ ap (λ v. with_gathering v c.gather_one.new.viewer.gathering) c.loop-turn.invariant.1,
-      c.in_ok-_from.ensures.count_ok ∙ c.loop-turn.invariant.2,
+      c.in_ok-_from.ensures.failures ∙ c.loop-turn.invariant.2,
     )

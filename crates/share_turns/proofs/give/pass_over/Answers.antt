@@ -33,5 +33,5 @@ loop-turn-preserved g c =
     let came : Datagram = record { peer = c.in-Some._from; bytes = take c.in-Some._count c.receive.new.into } in
     let got = rw c.in-Some.is at c.in_ok-_from.ensures.got in (
       passed_more (g.P.Port.told c.args.port.now) (g.P.Port.told c.loop-turn.port) (g.P.Port.told c.receive.new.self) came c.loop-turn._turn c.loop-turn.invariant.0 got.1,
-      c.in_ok-_from.ensures.count_ok ∙ c.loop-turn.invariant.1,
+      c.in_ok-_from.ensures.failures ∙ c.loop-turn.invariant.1,
     )

@@ -26,8 +26,8 @@ returns-in_err-answer-in-Some-clause-turn g c =
     let failed : c.from_residual-in_err-answer-in-Some.result ≡ Err c.in_err-answer-in-Some.field-0.0 = search rules in
     let came : Datagram = record { peer = c.in-Some.from; bytes = take c.in-Some.count c.receive.new.into } in
     let got = rw c.in-Some.is at c.in_ok-from.ensures.got in
-    let hearing = rw (c.mark-mark.ensures.value, c.viewers-viewers.ensures) at c.hear.ensures in
-    let exchange = rw c.loop-turn.invariant.1 at c.in_err-answer-in-Some.ensures.exchange in
+    let hearing = rw (c.mark-mark.ensures.value, c.viewers-viewers.ensures, c.decode-read.ensures.exact) at c.hear.ensures in
+    let exchange = rw c.loop-turn.invariant.1 at (c.in_err-answer-in-Some.ensures.exchange came.bytes c.decode-read.ensures.exact) in
     rw failed (turn_cut c.in_err-answer-in-Some.field-0.0 c.args.host.now.mark c.args.clock (g.P.Port.told c.args.port.now) (g.P.Port.told c.loop-turn.port) (g.P.Port.told c.receive.new.self) (g.P.Port.told c.answer.new.port)
     came c.args.host.now.part c.loop-turn.host.part c.answer.new.host.part c.args.heard.now c.loop-turn.heard c.hear.new.heard c.loop-turn._turn c.loop-turn.invariant.0 (omega (arith, c.loop-turn-test.true)) got.1 hearing exchange)
 
@@ -48,10 +48,10 @@ pub loop-turn-preserved : goal.loop-turn-preserved
 loop-turn-preserved g c =
     let came : Datagram = record { peer = c.in-Some.from; bytes = take c.in-Some.count c.receive.new.into } in
     let got = rw c.in-Some.is at c.in_ok-from.ensures.got in
-    let hearing = rw (c.mark-mark.ensures.value, c.viewers-viewers.ensures) at c.hear.ensures in
-    let exchange = rw c.loop-turn.invariant.1 at c.in_ok-answer-in-Some.ensures.exchange in (
+    let hearing = rw (c.mark-mark.ensures.value, c.viewers-viewers.ensures, c.decode-read.ensures.exact) at c.hear.ensures in
+    let exchange = rw c.loop-turn.invariant.1 at (c.in_ok-answer-in-Some.ensures.exchange came.bytes c.decode-read.ensures.exact) in (
       turned_more c.args.host.now.mark c.args.clock (g.P.Port.told c.args.port.now) (g.P.Port.told c.loop-turn.port) (g.P.Port.told c.receive.new.self) (g.P.Port.told c.answer.new.port)
           came c.args.host.now.part c.loop-turn.host.part c.answer.new.host.part c.args.heard.now c.loop-turn.heard c.hear.new.heard c.loop-turn._turn c.loop-turn.invariant.0 got.1 hearing exchange,
       c.in_ok-answer-in-Some.ensures.mark ∙ c.loop-turn.invariant.1,
-      c.in_ok-answer-in-Some.ensures.failures ∙ c.in_ok-from.ensures.count_ok ∙ c.loop-turn.invariant.2,
+      c.in_ok-answer-in-Some.ensures.failures ∙ c.in_ok-from.ensures.failures ∙ c.loop-turn.invariant.2,
     )

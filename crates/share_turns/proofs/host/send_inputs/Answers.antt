@@ -20,7 +20,7 @@ loop-number-preserved g c =
     let n = c.loop-number.number in (
       rw (inputs_from-more mark host c.in-Asked.first n i.2)
           (are_sent_then true c.args.to (g.P.Port.told c.args.port.now) (g.P.Port.told c.loop-number.port) (g.P.Port.told c.send_input.new.port) _ _ i.0 c.in_ok-send_input.ensures.sent),
-      c.in_ok-send_input.ensures.count_ok ∙ i.1,
+      c.in_ok-send_input.ensures.failures ∙ i.1,
       omega (arith, i.2),
       refl,
       omega (arith, c.loop-number-test.true),

@@ -1,7 +1,8 @@
 use Rattle.std.proofs.Common.{rules, ◌≡◌, false, ◌∙◌, arith}
 use Rattle.std.specs.Prelude.{◌==◌, ◌&&◌, length, Err}
 use Rattle.share_turns.specs.declared.fault.SeriesFault.TheVariants.{Turn}
-use Rattle.share_turns.specs.Agreeing.{meeting, ways_of}
+use Rattle.share_turns.specs.Seats.{ways_of}
+use Rattle.share_turns.specs.Round.{meeting}
 use Rattle.share_turns.proofs.Meeting.{cut_round, goes_on, one_more_round}
 use Rattle.share_turns.proofs.rounds.agree_until.Goals as goal
 

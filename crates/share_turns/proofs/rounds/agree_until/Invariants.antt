@@ -1,5 +1,7 @@
 use Rattle.std.proofs.Common.{◌≡◌, ◌≤◌, length}
-use Rattle.share_turns.specs.Agreeing.{meeting, ways_of, Rounds}
+use Rattle.share_turns.specs.Seats.{ways_of}
+use Rattle.share_turns.specs.Round.{meeting}
+use Rattle.share_turns.specs.Agreeing.{Rounds}
 use Rattle.share_turns.proofs.rounds.agree_until.Given as goal
 
 abbrev pub invariant-loop-round : goal.invariant-loop-round

@@ -1,5 +1,5 @@
 use Rattle.std.proofs.Common.{rules}
-use Rattle.share_turns.specs.Agreeing.{seats_of, ways_of}
+use Rattle.share_turns.specs.Seats.{seats_of, ways_of}
 use Rattle.share_turns.proofs.Meeting.{one_more_seat}
 use Rattle.share_turns.proofs.rounds.seat_turns.Goals as goal
 

@@ -1,5 +1,5 @@
 use Rattle.std.proofs.Common.{◌≡◌, ◌≤◌, length}
-use Rattle.share_turns.specs.Agreeing.{seats_of, ways_of, SeatTurns}
+use Rattle.share_turns.specs.Seats.{seats_of, ways_of, SeatTurns}
 use Rattle.share_turns.proofs.rounds.seat_turns.Given as goal
 
 abbrev pub invariant-loop-who : goal.invariant-loop-who

@@ -1,12 +1,13 @@
-use Rattle.std.proofs.Common.{rules, ◌≡◌, [], ◌∷◌}
+use Rattle.std.proofs.Common.{rules, ◌≡◌, [], ◌∷◌, ap, ◌∙◌}
 use Rattle.std.specs.Prelude.{Err, is_ok}
 use Rattle.std.proofs.lemmas.List.{map-append}
 use Rattle.share_wire.specs.Datagram.{datagram}
 use Rattle.share_wire.specs.declared.message.Body.{Body}
 use Rattle.share_law.specs.Viewer.{viewer_ask, viewer_resend}
+use Rattle.share_port.specs.Told.{counted}
 use Rattle.share_core.specs.Viewer.{machine_of}
 use Rattle.share_turns.specs.HostTurn.{listed}
-use Rattle.share_turns.proofs.Sending.{are_sent_front, are_sent_one, are_sent_then, counted_err, counted_ok}
+use Rattle.share_turns.proofs.Sending.{are_sent_front, are_sent_one, are_sent_then}
 use Rattle.share_turns.proofs.viewer.send_requests.Goals as goal
 
 pub returns-clause-sent : goal.returns-clause-sent
@@ -24,12 +25,5 @@ returns-in_err-send_offer-clause-sent g c =
     rw failed (rw (map-append (λ (body : Body). datagram (record { mark = v.mark; body = body })) (listed (viewer_resend v.who v.state 0)) (viewer_ask (machine_of v) v.who v.state ∷ []))
     (are_sent_front c.args.host (g.P.Port.told c.args.port.now) (g.P.Port.told c.send_offer.new.port) _ _ c.in_err-send_offer.ensures.sent))
 
-pub returns-clause-count_ok : goal.returns-clause-count_ok
-returns-clause-count_ok g c =
-    counted_ok c.send.result (g.P.Port.failure_count c.args.port.now) (g.P.Port.failure_count c.send_offer.new.port) (g.P.Port.failure_count c.send.new.self)
-    c.send.ensures.count_ok c.in_ok-send_offer.ensures.count_ok
-
-pub returns-clause-count_err : goal.returns-clause-count_err
-returns-clause-count_err g c =
-    counted_err c.send.result (g.P.Port.failure_count c.args.port.now) (g.P.Port.failure_count c.send_offer.new.port) (g.P.Port.failure_count c.send.new.self)
-    c.send.ensures.count_err c.in_ok-send_offer.ensures.count_ok
+pub returns-clause-failures : goal.returns-clause-failures
+returns-clause-failures g c = c.send.ensures.failures ∙ ap (counted c.send.result) c.in_ok-send_offer.ensures.failures

@@ -36,5 +36,5 @@ loop-turn-preserved g c =
       takes_more c.args.viewer.now c.loop-turn.viewer went_on (g.P.Port.told c.args.port.now) (g.P.Port.told c.loop-turn.port) (g.P.Port.told c.receive.new.self)
           came false c.take_one.new.viewer.state c.loop-turn._turn c.loop-turn.invariant.1 c.loop-turn.invariant.0 got.1 c.in_ok-take_one-in-Some.ensures.taken (1, refl),
       c.in_ok-take_one-in-Some.ensures.others ∙ ap (λ v. with_state v c.take_one.new.viewer.state) c.loop-turn.invariant.1,
-      c.in_ok-_from.ensures.count_ok ∙ c.loop-turn.invariant.2,
+      c.in_ok-_from.ensures.failures ∙ c.loop-turn.invariant.2,
     )

@@ -61,7 +61,7 @@ returns-in_err-send_requests-clause-turn g c =
 pub returns-in_err-send_requests-clause-failures : goal.returns-in_err-send_requests-clause-failures
 returns-in_err-send_requests-clause-failures g c =
     let failed : c.from_residual-in_err-send_requests.result ≡ Err Port = search rules in
-    rw failed (c.in_err-send_requests.ensures.count_err ∙ ap one_more c.in_ok-take_all.ensures.failures)
+    rw failed (c.in_err-send_requests.ensures.failures ∙ ap one_more c.in_ok-take_all.ensures.failures)
 
 pub returns-clause-turn : goal.returns-clause-turn
 returns-clause-turn g c =
@@ -72,4 +72,4 @@ returns-clause-turn g c =
 
 pub returns-clause-failures : goal.returns-clause-failures
 returns-clause-failures g c =
-    c.in_ok-send_requests.ensures.count_ok ∙ c.in_ok-take_all.ensures.failures
+    c.in_ok-send_requests.ensures.failures ∙ c.in_ok-take_all.ensures.failures
