@@ -26,10 +26,14 @@ all_traffic es = flat_map traffic_of es
 abbrev pub refusals_in : List Exchange → List Bool
 refusals_in es = map (λ e. e.refused) es
 
+-- how many datagrams a turn takes
+abbrev pub most_taken : ℕ
+most_taken = 64
+
 -- what a port tells at the end of what came: where all was taken, that nothing more came, or
--- nothing where 64 datagrams came; where a turn ended before that, nothing
+-- nothing where as many datagrams came as a turn takes; where a turn ended before that, nothing
 abbrev pub IsEnd : (all : Bool) → (came : ℕ) → List Traffic → Type 0
-IsEnd true came rest = (rest ≡ Nothing ∷ []) ⊎ ((rest ≡ []) × (came ≡ 64))
+IsEnd true came rest = (rest ≡ Nothing ∷ []) ⊎ ((rest ≡ []) × (came ≡ most_taken))
 IsEnd false came rest = rest ≡ []
 
 -- what was sent is all that had to be sent, or where the port failed the front of it

@@ -22,17 +22,17 @@ use Rattle.share_turns.specs.declared.fault.SeriesFault.{SeriesFault}
 use Rattle.share_turns.specs.declared.fault.SeriesFault.TheVariants.{Turn, TurnsUsedUp, Join}
 use Rattle.share_turns.specs.declared.fault.TurnFault.{TurnFault}
 use Rattle.share_turns.specs.declared.fault.TurnFault.TheVariants.{Memory}
-use Rattle.share_turns.specs.Exchanges.{IsEnd}
+use Rattle.share_turns.specs.Exchanges.{IsEnd, most_taken}
 use Rattle.share_turns.specs.Refusals.{IsAnswerAfter}
 use Rattle.share_turns.specs.ViewerTurn.{Taking, received, refusals_of}
 
 -- ---- what comes in a turn
 
--- at most 64 datagrams, until no more come, as a port tells them
+-- as many datagrams as a turn takes, or until no more come, as a port tells them
 pub record Comes (result : Result (Unit {0}) TurnFault)
     (told_before told_after : Option (List Traffic)) (takings : List Taking) : Type 0 where
   pub memory : IsAnswerAfter (refusals_of takings) result
-  pub most : length takings ≤ 64
+  pub most : length takings ≤ most_taken
   pub rest : List Traffic
   pub ended : IsEnd (is_ok result) (length takings) rest
   pub told : Grows told_before told_after (received takings ++ rest)

@@ -28,7 +28,7 @@ use Rattle.share_port.specs.Told.{Grows, one_more}
 use Rattle.share_turns.specs.declared.fault.TurnFault.{TurnFault}
 use Rattle.share_turns.specs.declared.fault.TurnFault.TheVariants.{Port}
 use Rattle.share_turns.specs.Exchanges.{Exchange, all_traffic, refusals_in, sent_to}
-use Rattle.share_turns.specs.Exchanges.{IsEnd, IsSentOf}
+use Rattle.share_turns.specs.Exchanges.{IsEnd, IsSentOf, most_taken}
 use Rattle.share_turns.specs.Refusals.{IsAnswerAfter}
 
 -- ---- what is sent for a datagram
@@ -168,8 +168,8 @@ AreAnswered whole mark h (e ∷ es) new =
     (next : HostPart) × IsAnswered (is_whole_before whole es) mark h e next
     × AreAnswered whole mark next es new
 
--- the clock, and then datagrams, at most 64, until no more come; what it had heard of its viewers,
--- and then has
+-- the clock, and then as many datagrams as a turn takes, or until no more come; what it had heard
+-- of its viewers, and then has
 pub record IsHeardTurn (result : Result (Unit {0}) TurnFault) (mark : List ℕ) (clock : Option ℤ)
     (told_before told_after : Option (List Traffic)) (old new : HostPart)
     (before after : List ℕ) : Type 0 where
@@ -180,7 +180,7 @@ pub record IsHeardTurn (result : Result (Unit {0}) TurnFault) (mark : List ℕ) 
   pub answered : AreAnswered (is_whole result) mark begun exchanges new
   pub heard : after ≡ all_heard mark (length old.kept) before exchanges
   pub memory : IsAnswerAfter (refused ∷ refusals_in exchanges) result
-  pub most : length exchanges ≤ 64
+  pub most : length exchanges ≤ most_taken
   pub rest : List Traffic
   pub ended : IsEnd (is_ok result) (length exchanges) rest
   pub told : Grows told_before told_after (all_traffic exchanges ++ rest)

@@ -17,7 +17,7 @@ use Rattle.share_port.specs.declared.traffic.Traffic.{Traffic}
 use Rattle.share_port.specs.declared.traffic.Traffic.TheVariants.{Received}
 use Rattle.share_port.specs.Told.{Grows}
 use Rattle.share_turns.specs.declared.fault.TurnFault.{TurnFault}
-use Rattle.share_turns.specs.Exchanges.{IsEnd, IsSentOf, sent_to}
+use Rattle.share_turns.specs.Exchanges.{IsEnd, IsSentOf, most_taken, sent_to}
 use Rattle.share_turns.specs.HostTurn.{datagrams_of, listed}
 use Rattle.share_turns.specs.Refusals.{IsAnswerAfter}
 
@@ -55,14 +55,14 @@ received takings = map (λ t. Received t.came) takings
 abbrev pub refusals_of : List Taking → List Bool
 refusals_of takings = map (λ t. t.refused) takings
 
--- the same, of at most 64 datagrams until no more come, as a port tells them
+-- the same, of as many datagrams as a turn takes, or until no more come, as a port tells them
 pub record Takes {W : Type 0} (m : Machine W) (mark : List ℕ) (who : ℕ)
     (result : Result (Unit {0}) TurnFault) (told_before told_after : Option (List Traffic))
     (old new : ViewerState W) : Type 0 where
   pub takings : List Taking
   pub taken : AreTaken m mark who old takings new
   pub memory : IsAnswerAfter (refusals_of takings) result
-  pub most : length takings ≤ 64
+  pub most : length takings ≤ most_taken
   pub rest : List Traffic
   pub ended : IsEnd (is_ok result) (length takings) rest
   pub told : Grows told_before told_after (received takings ++ rest)
@@ -89,7 +89,7 @@ pub record IsViewerTurn {W : Type 0} (m : Machine W) (mark : List ℕ) (who host
   pub takings : List Taking
   pub taken : AreTaken m mark who begun takings new
   pub memory : IsAnswerAfter (refusals_of takings) result
-  pub most : length takings ≤ 64
+  pub most : length takings ≤ most_taken
   pub rest : List Traffic
   pub sent : List (List ℕ)
   pub ended : IsEnd true (length takings) rest ⊎ IsCut result rest sent
