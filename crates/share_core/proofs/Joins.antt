@@ -1,7 +1,7 @@
--- A viewer that begins again in what it gathered, and one that is told a floor.
+-- A viewer that begins again in what it gathered, and one that is told a floor or what an ack covers.
 use Rattle.std.proofs.Common.{◌≡◌, ℕ, ◌+◌, true, false, cond, List, length, refl, ap, sym, ◌∙◌, subst, inl, inr}
-use Rattle.std.specs.Prelude.{nat_lt, is_ok, Option, None, Some, Result, Ok, Err, if◌then◌else◌}
-use Rattle.std.proofs.lemmas.Bool.{cases_Bool, cond-true, cond-false, false≢true}
+use Rattle.std.specs.Prelude.{◌==◌, nat_lt, is_ok, Option, None, Some, Result, Ok, Err, if◌then◌else◌}
+use Rattle.std.proofs.lemmas.Bool.{cases_Bool, cond-true, cond-false, eq-eqb, false≢true}
 use Rattle.std.proofs.lemmas.Option.{same_Some, none-some}
 use Rattle.x3d_values.specs.Stamp.{StampedView}
 use Rattle.scene_core.specs.declared.scene.Route.{Route}
@@ -9,7 +9,8 @@ use Rattle.scene_core.specs.Scene.{SceneView}
 use Rattle.cascade_core.specs.Course.{Scripted}
 use Rattle.cascade_core.specs.Held.{Held, applied_of}
 use Rattle.cascade_core.specs.Held as held
-use Rattle.share_wire.specs.declared.message.Body.TheVariants.{Floor}
+use Rattle.share_wire.specs.Messages.{AckView}
+use Rattle.share_wire.specs.declared.message.Body.TheVariants.{Ack, Floor}
 use Rattle.snapshot_core.specs.declared.fault.SnapFault.{SnapFault}
 use Rattle.share_law.specs.declared.fault.JoinFault.{JoinFault}
 use Rattle.share_law.specs.declared.fault.JoinFault.TheVariants.{NotWhole}
@@ -21,7 +22,7 @@ use Rattle.share_law.specs.Cascade.{cascade}
 use Rattle.share_law.specs.Machine.{Machine}
 use Rattle.share_law.specs.Network.{join_result}
 use Rattle.share_law.specs.Pieces.{Gathering, all_there, joined, whole_of}
-use Rattle.share_law.specs.Viewer.{ViewerWorld, Running, Spoiled, ViewerState, applied_in, take_in}
+use Rattle.share_law.specs.Viewer.{ViewerWorld, Running, Spoiled, ViewerState, acked, applied_in, take_in}
 use Rattle.share_core.specs.Rewinds.{IsBegunFrom, IsJoined, IsLawfulJoin, IsRewound}
 use Rattle.share_core.specs.Viewer.{ViewerView, is_spoiled, view_of, with_gathering}
 use Rattle.share_core.proofs.Rewinds.{rewind-step}
@@ -122,3 +123,15 @@ floor_taken m who f applied x result runs count is =
     let same : (if nat_lt (applied_in m x.view + 1) f then Behind else Noted) ≡ result =
     ap (λ (n : ℕ). if nat_lt (n + 1) f then Behind else Noted) (sym count) ∙ sym is in
     inl (floor_in m who f x x.view runs ∙ ap (λ (t : Taken). let r : Result Taken TakeFault × ViewerState Scripted = (Ok t, x) in r) same)
+
+-- ---- an ack
+
+ack_in : (m : Machine Scripted) (who : ℕ) (x : ViewerState Scripted) (a : AckView) (view : ViewerWorld Scripted) → is_spoiled view ≡ false → a.who ≡ who
+    → (let r : Result Taken TakeFault × ViewerState Scripted = (Ok Noted, acked x a.boot a.count) in take_in m who x (Ack a) view ≡ r)
+ack_in m who x a (Running w window) runs mine = cond-true (a.who == who) _ _ (eq-eqb a.who who mine)
+ack_in m who x a (Spoiled count) runs mine = absurd (false≢true (sym runs))
+
+pub ack_taken : (m : Machine Scripted) (who : ℕ) (x y : ViewerState Scripted) (a : AckView) → is_spoiled x.view ≡ false → a.who ≡ who → y ≡ acked x a.boot a.count
+    → IsTake m who x (Ack a) (Ok Noted) y
+ack_taken m who x y a runs mine is =
+    inl (ack_in m who x a x.view runs mine ∙ ap (λ (z : ViewerState Scripted). let r : Result Taken TakeFault × ViewerState Scripted = (Ok Noted, z) in r) (sym is))
