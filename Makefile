@@ -25,7 +25,7 @@ fresh = { [ -e $(1) ] && [ -z "$$(find crates -path '*/out' -prune -o \
 run:
 	@job=$$(realpath $(JOB)); cd crates/x3d_share && $(RT) run -- run < "$$job"
 
-# The same without a proof, in half a minute.
+# The same without a proof, in a minute or two.
 try:
 	@job=$$(realpath $(JOB)); cd crates/x3d_share && rt try -- run < "$$job"
 
