@@ -3,7 +3,7 @@ use Rattle.std.specs.Prelude.{ℕ, List, codes}
 use Rattle.classic_lex.specs.declared.fault.LexFaultKind.{LexFaultKind}
 use Rattle.classic_lex.specs.declared.fault.LexFaultKind.TheVariants.{TooLong, NotUtf8, NoHeader, BadVersion, OpenString, BadNumeral, NumberRange, BadCharacter, Memory}
 
--- the name of the fault, as it stands in the type
+-- the name of the variant
 abbrev pub fault_name : LexFaultKind → List ℕ
 fault_name TooLong = codes "TooLong"
 fault_name NotUtf8 = codes "NotUtf8"

@@ -1,4 +1,4 @@
--- What stands at the front of a text: white space, a comment, a token, or what is none of these.
+-- What a text begins with: white space, a comment, a token, or a fault.
 use Rattle.std.specs.Prelude.{ℕ, ℤ, ◌<◌, ◌≤◌, ◌+◌, List, [], ◌∷◌, take, Bool, false, not, ◌||◌, ◌&&◌, ◌==◌, Option, Some, None, Result, Ok, Err, if◌then◌else◌}
 use Rattle.std.specs.List.{prefix_len}
 use Rattle.x3d_numerals.specs.Reading.{numeral}
@@ -27,7 +27,7 @@ begins_digit (b ∷ bs) = is_digit b
 unfoldable pub begins_numeral : ℕ → List ℕ → Bool
 begins_numeral b bs = is_digit b || b == 43 || b == 45 || (b == 46 && begins_digit bs)
 
--- the bytes up to the first that no numeral holds
+-- the number of bytes before the first that ends a numeral
 abbrev pub numeral_len : List ℕ → ℕ
 numeral_len bs = prefix_len (λ b. not (ends_numeral b)) bs
 
@@ -36,7 +36,7 @@ numeral_piece n (Ok value) = Piece Numeral n
 numeral_piece n (Err numeral_fault.NotNumeral) = Bad BadNumeral
 numeral_piece n (Err numeral_fault.NumberRange) = Bad NumberRange
 
--- the run of so many bytes, if it is a numeral
+-- the numeral of the first n bytes, or the fault of these bytes
 abbrev pub numeral_front : ℕ → List ℕ → Start
 numeral_front n text = numeral_piece n (numeral (take n text))
 
@@ -50,7 +50,7 @@ mark b =
     (if b == 93 then Piece CloseBracket 1
     else (if b == 46 then Piece Point 1 else Bad BadCharacter))))
 
--- what begins with this byte before the others
+-- what a text begins with, from its first byte and the others
 unfoldable pub front_at : ℕ → List ℕ → Start
 front_at b bs =
     if is_space b then Blank 1
@@ -64,7 +64,7 @@ abbrev pub front : List ℕ → Start
 front [] = Blank 0
 front (b ∷ bs) = front_at b bs
 
--- it has a byte, and ends within a text of this length
+-- the piece has a byte or more, and ends within a text of this length
 abbrev pub IsWithin : ℕ → Start → Type 0
 IsWithin len (Blank n) = (0 < n) × (n ≤ len)
 IsWithin len (Piece k n) = (0 < n) × (n ≤ len)

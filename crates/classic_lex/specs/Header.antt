@@ -11,7 +11,7 @@ use Rattle.classic_lex.specs.declared.versions.Version.{Version}
 use Rattle.classic_lex.specs.declared.versions.Version.TheVariants.{V3_0, V3_1, V3_2, V3_3, V4_0}
 use Rattle.classic_bytes.specs.Bytes.{is_digit, is_space}
 
--- a text has at most 16 MiB (our choice)
+-- the largest number of bytes of a text, 16 MiB (our choice)
 abbrev pub max_len : ℕ
 max_len = 16777216
 
@@ -19,11 +19,11 @@ max_len = 16777216
 abbrev pub byte_order_mark : List ℕ
 byte_order_mark = 239 ∷ 187 ∷ 191 ∷ []
 
--- how many bytes a byte order mark takes at the front
+-- the number of bytes of the byte order mark at the front; 0 if there is none
 unfoldable pub mark_len : List ℕ → ℕ
 mark_len text = if starts_with nat_eq text byte_order_mark then 3 else 0
 
--- the text behind a byte order mark (our choice)
+-- the text after a byte order mark (our choice)
 abbrev pub without_mark : List ℕ → List ℕ
 without_mark text = drop (mark_len text) text
 
@@ -45,18 +45,19 @@ version_named name =
     else (if pointwise nat_eq name (codes "3.3") then Ok V3_3 else
     (if pointwise nat_eq name (codes "4.0") then Ok V4_0 else Err BadVersion))))
 
--- how many digits stand at the front
+-- the number of digits at the front
 abbrev pub digits_len : List ℕ → ℕ
 digits_len text = prefix_len is_digit text
 
--- the same with a point and digits behind so many digits
+-- the length of digits, a point and digits, given the number of the first digits and the text after
+-- them
 abbrev pub with_fraction : ℕ → List ℕ → Option ℕ
 with_fraction whole [] = None
 with_fraction whole (b ∷ bs) =
     if b == 46 && nat_lt 0 whole && nat_lt 0 (digits_len bs) then Some (whole + 1 + digits_len bs)
     else None
 
--- how many bytes digits, a point and digits take at the front, if they stand there
+-- the number of bytes of digits, a point and digits at the front, if they are there
 unfoldable pub number_len : List ℕ → Option ℕ
 number_len text = with_fraction (digits_len text) (drop (digits_len text) text)
 
@@ -72,7 +73,7 @@ unfoldable pub ends_header : List ℕ → Bool
 ends_header text = if starts_with nat_eq text (codes " utf8") then is_space_or_end (drop 5 text)
     else false
 
--- the version in so many bytes, before the end of the header
+-- the version named by the first n bytes, if the end of the header follows
 abbrev pub version_of_len : Option ℕ → List ℕ → Result Version LexFaultKind
 version_of_len None text = Err NoHeader
 version_of_len (Some n) text =
@@ -81,15 +82,15 @@ version_of_len (Some n) text =
 unfoldable pub version_at : List ℕ → Result Version LexFaultKind
 version_at text = version_of_len (number_len text) text
 
--- `#X3D V`, digits, a point, digits, ` utf8`, and then white space or the end; what stands further
--- in the line is ignored
+-- `#X3D V`, digits, a point, digits, ` utf8`, and then white space or the end; the rest of the line
+-- is ignored
 unfoldable pub header : List ℕ → Result Version LexFaultKind
 header text = if starts_with nat_eq text (codes "#X3D V") then version_at (drop 6 text)
     else Err NoHeader
 
 -- ---- the head
 
--- a fault of the head stands in the first line
+-- a fault of the head is on the first line
 abbrev pub at_head : LexFaultKind → LexFault
 at_head kind = record { kind = kind; line = 1 }
 

@@ -1,5 +1,5 @@
 -- Which tokens a text has, as the standard says it (ISO/IEC 19776-2): a head, and then white space,
--- comments and tokens. What ends a piece is said of the rest of the text behind it.
+-- comments and tokens. Where a piece ends depends on the rest of the text after it.
 use Rattle.std.specs.Prelude.{◌≡◌, ◌≢◌, ◌⊎◌, ℕ, ◌≤◌, ℤ, Bool, not, List, [], ◌∷◌, ◌++◌, length, IsTrue, IsFalse, IsUtf8, codes}
 use Rattle.std.specs.List.{list_all, flat_map}
 use Rattle.x3d_numerals.specs.Numeral as stands
@@ -10,12 +10,12 @@ use Rattle.classic_bytes.specs.Bytes.{is_space, is_line_end, is_digit, ends_nume
 use Rattle.classic_lex.specs.Header.{max_len, byte_order_mark, version_text}
 use Rattle.classic_lex.specs.Lexed.{Tok, line_after}
 
--- the rest doesn't begin with such a byte
+-- the rest doesn't begin with a byte of this class
 abbrev pub NotAhead : (ℕ → Bool) → List ℕ → Type 0
 NotAhead p [] = Unit {0}
 NotAhead p (b ∷ bs) = IsFalse (p b)
 
--- the longest run: each byte is such a one, and the rest doesn't begin with one
+-- the longest run of bytes of this class: the rest doesn't begin with one
 abbrev pub IsRun : (ℕ → Bool) → List ℕ → List ℕ → Type 0
 IsRun p run rest = IsTrue (list_all p run) × NotAhead p rest
 
@@ -26,14 +26,14 @@ abbrev pub IsWhiteSpace : List ℕ → Type 0
 IsWhiteSpace [] = ⊥
 IsWhiteSpace (b ∷ bs) = IsTrue (is_space b) × (bs ≡ [])
 
--- `#` and what stands before the line's end
+-- `#` and everything before the end of the line
 abbrev pub IsComment : List ℕ → List ℕ → Type 0
 IsComment [] rest = ⊥
 IsComment (b ∷ bs) rest = (b ≡ 35) × IsRun (λ c. not (is_line_end c)) bs rest
 
 -- ---- tokens
 
--- a byte that an identifier may begin with, and all further ones that it may have
+-- a byte that an identifier may begin with, and all bytes after it that an identifier may have
 abbrev pub IsIdentifier : List ℕ → List ℕ → Type 0
 IsIdentifier [] rest = ⊥
 IsIdentifier (b ∷ bs) rest = IsTrue (begins_name b) × IsRun continues_name bs rest
@@ -46,14 +46,14 @@ BeginsWithDigit (b ∷ bs) = IsTrue (is_digit b)
 abbrev pub BeginsNumeral : ℕ → List ℕ → Type 0
 BeginsNumeral b bs = IsTrue (is_digit b) ⊎ ((b ≡ 43) ⊎ ((b ≡ 45) ⊎ ((b ≡ 46) × BeginsWithDigit bs)))
 
--- what begins so, and all up to the next white space, bracket, brace, quote or comment; as a whole
--- it stands for a number (our choice: a run that stands for none is a fault)
+-- bytes that begin like a numeral, up to the next white space, bracket, brace, quote or comment;
+-- together they are a numeral (our choice: any other run is a fault)
 abbrev pub IsNumeral : List ℕ → List ℕ → Type 0
 IsNumeral [] rest = ⊥
 IsNumeral (b ∷ bs) rest = BeginsNumeral b bs × IsRun (λ c. not (ends_numeral c)) bs rest
     × ((n : ℤ) × stands.IsNumeral (b ∷ bs) n)
 
--- what stands behind the quote that opens a string, up to the one that closes it, with it: bytes
+-- the bytes after the quote that opens a string, up to and including the one that closes it: bytes
 -- other than a quote and a backslash, and pairs of a backslash and any byte
 pub data IsClosed : List ℕ → Type 0 where
   quote : IsClosed (34 ∷ [])
@@ -64,7 +64,7 @@ abbrev pub IsString : List ℕ → Type 0
 IsString [] = ⊥
 IsString (b ∷ bs) = (b ≡ 34) × IsClosed bs
 
--- a token of this kind, with the rest of the text behind it
+-- a token of this kind, with the rest of the text after it
 abbrev pub IsToken : TokenKind → List ℕ → List ℕ → Type 0
 IsToken Identifier bytes rest = IsIdentifier bytes rest
 IsToken Numeral bytes rest = IsNumeral bytes rest
@@ -86,7 +86,7 @@ abbrev pub bytes_of : Piece → List ℕ
 bytes_of (blank bytes) = bytes
 bytes_of (token kind bytes) = bytes
 
--- the text that the pieces make
+-- the text made of the pieces
 abbrev pub text_of : List Piece → List ℕ
 text_of pieces = flat_map bytes_of pieces
 
@@ -94,12 +94,12 @@ abbrev pub IsPiece : Piece → List ℕ → Type 0
 IsPiece (blank bytes) rest = IsWhiteSpace bytes ⊎ IsComment bytes rest
 IsPiece (token kind bytes) rest = IsToken kind bytes rest
 
--- each is a piece before those behind it
+-- each is a piece, followed by the next ones
 abbrev pub ArePieces : List Piece → Type 0
 ArePieces [] = Unit {0}
 ArePieces (piece ∷ pieces) = IsPiece piece (text_of pieces) × ArePieces pieces
 
--- the tokens among pieces that begin on this line
+-- the tokens among the pieces, which begin on this line
 abbrev pub tokens_among : ℕ → List Piece → List Tok
 tokens_among line [] = []
 tokens_among line (blank bytes ∷ pieces) = tokens_among (line_after line bytes) pieces
@@ -108,14 +108,14 @@ tokens_among line (token kind bytes ∷ pieces) =
 
 -- ---- a text
 
--- `#X3D V`, the version and ` utf8` before white space or the end
+-- `#X3D V`, the version and ` utf8`, followed by white space or the end
 pub record IsHeader (version : Version) (body : List ℕ) : Type 0 where
   pub rest : List ℕ
   pub spelled : codes "#X3D V" ++ (version_text version ++ (codes " utf8" ++ rest)) ≡ body
   pub ends : NotAhead (λ b. not (is_space b)) rest
 
--- at most 16 MiB of UTF-8 (our choice), and behind a byte order mark or none (our choice) a header
--- of this version
+-- at most 16 MiB of UTF-8 (our choice), with a header of this version after an optional byte order
+-- mark (our choice)
 pub record IsHeaded (text : List ℕ) (version : Version) (body : List ℕ) : Type 0 where
   pub size : length text ≤ max_len
   pub encoded : IsUtf8 text

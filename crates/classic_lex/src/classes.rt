@@ -14,7 +14,7 @@ pub(crate) trait Class {
         ensures { result ≡ class b };
 }
 
-/// What an identifier goes on with.
+/// Bytes that may follow in an identifier.
 pub(crate) struct NameBytes;
 
 impl Class for NameBytes {
@@ -25,7 +25,7 @@ impl Class for NameBytes {
     }
 }
 
-/// What may stand in the run of a numeral.
+/// Bytes that may follow in a numeral.
 pub(crate) struct NumeralBytes;
 
 impl Class for NumeralBytes {
@@ -36,7 +36,7 @@ impl Class for NumeralBytes {
     }
 }
 
-/// What a comment goes on with.
+/// Bytes that may follow in a comment.
 pub(crate) struct CommentBytes;
 
 impl Class for CommentBytes {
@@ -57,7 +57,7 @@ impl Class for Digits {
     }
 }
 
-/// How many bytes of the class stand at the front.
+/// Returns the number of bytes of the class at the front.
 pub(crate) fn run_len<C: Class>(text: &[u8]) -> usize
     ensures value { result ≡ prefix_len C.Class.class text.now }
     ensures within { result ≤ length text.now }

@@ -12,12 +12,12 @@ use thiserror::Error;
 #[derive(Clone, Copy, Debug, PartialEq, Eq)]
 pub struct LexFault {
     pub kind: LexFaultKind,
-    /// From 1, or 0 where the fault has no place in the text.
+    /// From 1, or 0 if the fault has no place in the text.
     pub line: u32,
 }
 
-/// The faults of lexing, in the order of precedence; of `OpenString` to `BadCharacter` the first
-/// in the text is answered.
+/// The faults of lexing, in order of precedence. Of `OpenString` to `BadCharacter`, the first in
+/// the text is reported.
 #[derive(Clone, Copy, Debug, PartialEq, Eq, Error)]
 pub enum LexFaultKind {
     #[error("the text is longer than 16 MiB")]
@@ -26,19 +26,19 @@ pub enum LexFaultKind {
     NotUtf8,
     #[error("the first line is no X3D header")]
     NoHeader,
-    /// The header names a version that isn't read, as `#X3D V2.0 utf8`.
+    /// The header names an unsupported version, such as `#X3D V2.0 utf8`.
     #[error("the header names an unknown version")]
     BadVersion,
     /// A string without its closing quote.
     #[error("a string is not closed")]
     OpenString,
-    /// What begins as a numeral and has not the form of one, as `1.5.5`.
+    /// Bytes that begin like a numeral but don't have the form of one, such as `1.5.5`.
     #[error("a numeral is malformed")]
     BadNumeral,
-    /// A numeral that stands for too large a number, as `1e13`.
+    /// A numeral whose value is too large, such as `1e13`.
     #[error("a numeral is out of range")]
     NumberRange,
-    /// A byte that no token begins with, as `'`.
+    /// A byte that no token begins with, such as `'`.
     #[error("no token begins with this character")]
     BadCharacter,
     #[error("memory was refused")]
@@ -46,7 +46,7 @@ pub enum LexFaultKind {
 }
 
 impl LexFaultKind {
-    /// The name of the variant.
+    /// Returns the name of the variant.
     pub fn name(self) -> &'static str
         ensures { result.now ≡ fault_name self }
     {
@@ -64,8 +64,7 @@ impl LexFaultKind {
     }
 }
 
-/// Writes what a fault of a text is, behind its line where it has one. Lines count from 1; 0 is
-/// none.
+/// Writes a fault of a text, after its line if it has one. Lines count from 1; 0 means no line.
 pub fn write_on_line<K: fmt::Display, W: fmt::Write>(
     kind: &K,
     line: u32,

@@ -1,4 +1,4 @@
-//! What stands at the front of a text.
+//! What a text begins with.
 
 ghost use Rattle.std.specs.Prelude.{◌≡◌, ◌≤◌, ◌<◌, length};
 ghost use Rattle.classic_lex.specs.Front as spec;
@@ -9,7 +9,7 @@ use crate::token::TokenKind;
 use classic_bytes::{begins_name, closing, is_digit, is_space};
 use x3d_numerals::{NumeralFault, millionths};
 
-/// White space or a comment of so many bytes, a token of so many bytes, or what is neither.
+/// What a text begins with: white space or a comment of n bytes, a token of n bytes, or a fault.
 #[derive(Clone, Copy)]
 pub(crate) enum Start {
     Blank(usize),
@@ -30,7 +30,7 @@ fn begins_numeral(first: u8, rest: &[u8]) -> bool
     }
 }
 
-/// The numeral of so many bytes at the front.
+/// Returns the numeral of the first `len` bytes, or the fault of these bytes.
 fn numeral_front(text: &[u8], len: usize) -> Start
     requires some { 0 < len }
     requires room { len ≤ length text.now }
@@ -59,7 +59,7 @@ fn mark(b: u8) -> Start
     }
 }
 
-/// What stands at the front of a text that is not empty.
+/// Returns what a text begins with. The text must not be empty.
 #[tactic(auto, unfolding(crate::specs::Front::front_at))]
 pub(crate) fn front(text: &[u8]) -> Start
     requires { 0 < length text.now }

@@ -11,12 +11,12 @@ use crate::fault::{LexFault, LexFaultKind};
 use crate::versions::Version;
 use classic_bytes::is_space;
 
-/// How many bytes a text may have: 16 MiB.
+/// The largest number of bytes of a text: 16 MiB.
 pub const MAX_LEN: usize = 16_777_216;
 
 const BYTE_ORDER_MARK: &[u8; 3] = b"\xef\xbb\xbf";
 
-/// How many bytes a byte order mark takes at the front.
+/// Returns the number of bytes of the byte order mark at the front; 0 if there is none.
 #[tactic(auto, unfolding(crate::specs::Header::mark_len))]
 pub(crate) fn mark_len(text: &[u8]) -> usize
     ensures value { result ≡ spec.mark_len text.now }
@@ -38,7 +38,7 @@ fn is_text(bytes: &[u8]) -> bool
     }
 }
 
-/// How many bytes digits, a point and digits take at the front, if they stand there.
+/// Returns the number of bytes of digits, a point and digits at the front, if they are there.
 #[tactic(auto, unfolding(crate::specs::Header::number_len))]
 fn number_len(text: &[u8]) -> Option<usize>
     ensures value { result ≡ spec.number_len text.now }
@@ -58,7 +58,7 @@ fn number_len(text: &[u8]) -> Option<usize>
     }
 }
 
-/// Behind the version stand ` utf8` and then white space or the end.
+/// Reports whether the text after the version begins with ` utf8` and then white space or the end.
 #[tactic(auto, unfolding(crate::specs::Header::ends_header))]
 fn ends_header(text: &[u8]) -> bool
     ensures { result ≡ spec.ends_header text.now }
@@ -126,10 +126,11 @@ fn head_version(text: &[u8]) -> Result<Version, LexFault>
     }
 }
 
-/// The version that a text's header names.
+/// Returns the version that a text's header names. Fails with `TooLong`, `NotUtf8`, `NoHeader` or
+/// `BadVersion` on line 1, tested in this order.
 pub fn version(text: &[u8]) -> Result<Version, LexFault>
     ensures exact { result ≡ spec.version_of text.now }
-    // What is answered is what the header names, and what it names is answered.
+    // The version returned is exactly the one that the header names.
     ensures found { IfOk result (λ version. HasVersion text.now version) }
     ensures only { (version : Version) → HasVersion text.now version → result ≡ Ok version }
     ensures size { OnOk result (length text.now ≤ spec.max_len) }

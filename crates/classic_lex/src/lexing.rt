@@ -21,7 +21,7 @@ fn line_feeds(text: &[u8]) -> usize
     text.iter().filter(|b| is_line_feed(**b)).count()
 }
 
-/// The line on which a text ends.
+/// Returns the line on which a text ends, from 1.
 pub fn last_line(text: &[u8]) -> u32
     requires { length text.now ≤ max_len }
     ensures { result ≡ last_line text.now }
@@ -29,14 +29,15 @@ pub fn last_line(text: &[u8]) -> u32
     (line_feeds(text) + 1) as u32
 }
 
-/// The tokens of a text.
+/// Returns the tokens of a text. Fails with the fault of the text that comes first (see
+/// `LexFaultKind`), or with `Memory` if memory runs out.
 pub fn lex(alloc: Global, text: &[u8]) -> Result<Vec<Token>, LexFault>
     ensures exact { Gives memory (λ v. map (seen text.now) v.items) result (lexed text.now) }
-    // What is answered is what the text has, and what it has is answered, memory aside.
+    // The tokens returned are exactly those of the text, unless memory runs out.
     ensures found { IfOk result (λ v. HasTokens text.now (map (seen text.now) v.items)) }
     ensures only { (tokens : List Tok) → HasTokens text.now tokens
         → MatchResult result (λ v. map (seen text.now) v.items ≡ tokens) (λ fault. fault ≡ memory) }
-    // Each token has its place in the text.
+    // The tokens have their places in the text.
     ensures spans { IfOk result (λ v. AreSpans text.now (mark_len text.now) v.items) }
     ensures size { OnOk result (length text.now ≤ max_len) }
 {
@@ -53,7 +54,7 @@ fn tokens_of(alloc: Global, text: &[u8]) -> Result<Vec<Token>, LexFault>
     cut(alloc, text, mark_len(text))
 }
 
-/// The tokens behind the first bytes, so many of them.
+/// Returns the tokens after the first `start` bytes.
 fn cut(alloc: Global, text: &[u8], start: usize) -> Result<Vec<Token>, LexFault>
     requires room { start ≤ length text.now }
     requires size { length text.now ≤ max_len }

@@ -1,7 +1,7 @@
-//! Cuts a text of the Classic VRML encoding (ISO/IEC 19776-2) into its tokens.
+//! Splits a text of the Classic VRML encoding (ISO/IEC 19776-2) into its tokens.
 //!
 //! A text is UTF-8 of at most 16 MiB and begins with a header line. Outside strings, white space
-//! and comments part the tokens. The only memory taken is the list of tokens.
+//! and comments separate the tokens. Only the list of tokens takes memory.
 #![tactic(auto)]
 
 mod classes;

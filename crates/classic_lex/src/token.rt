@@ -1,11 +1,11 @@
 //! Tokens.
 
-/// What a token is.
+/// The kind of a token.
 #[derive(Clone, Copy, PartialEq, Eq)]
 pub enum TokenKind {
-    /// A name, a keyword or a truth value, as `DEF`, `children`, `Name:1`.
+    /// A name, a keyword or a truth value, such as `DEF`, `children` or `Name:1`.
     Identifier,
-    /// A number, as `-.5e3`, `0xFF`.
+    /// A number, such as `-.5e3` or `0xFF`.
     Numeral,
     /// A string, with its quotes.
     Text,
@@ -13,13 +13,14 @@ pub enum TokenKind {
     CloseBracket,
     OpenBrace,
     CloseBrace,
-    /// The point between a node's name and its field's in a ROUTE.
+    /// The point between the node's name and the field's name in a ROUTE.
     Point,
 }
 
 /// A token of a text: its kind, its bytes from `start` up to `end`, and the line of its first byte.
 ///
-/// Bytes are counted from 0 at the beginning of the text, a byte order mark included; lines from 1.
+/// Bytes are counted from 0 at the beginning of the text, including a byte order mark; lines from
+/// 1.
 #[derive(Clone, Copy, PartialEq, Eq)]
 pub struct Token {
     pub kind: TokenKind,

@@ -14,6 +14,7 @@ pub enum Version {
 }
 
 impl Version {
+    /// Returns the version as a header names it, such as `3.0`.
     pub fn text(self) -> &'static str
         ensures { result.now ≡ version_text self }
     {

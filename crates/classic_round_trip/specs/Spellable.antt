@@ -1,7 +1,8 @@
--- Which documents have a spelling, lines apart (ISO/IEC 19776-2, grammar): their names are names,
--- their strings are UTF-8, their numbers are within the limit, a declaration stands in a Script or
--- an interface and is given what its access asks for, nodes and the bodies of PROTOs nest no deeper
--- than allowed, and no statement begins with a word that means something else there.
+-- Which documents have a spelling, ignoring lines (ISO/IEC 19776-2, grammar). Their names are
+-- names, their strings are UTF-8, and their numbers are within the limit. Declarations are in a
+-- Script or an interface, and have a value or not as their access requires. Nodes and the bodies of
+-- PROTOs nest no deeper than allowed. No statement begins with a word that means something else
+-- there.
 use Rattle.std.specs.Prelude.{◌≡◌, ◌≢◌, ◌⊎◌, ℕ, zero, suc, Bool, true, false, List, [], ◌∷◌, ◌++◌, Option, Some, None, IsUtf8, codes}
 use Rattle.std.specs.List.{AllByRecursion}
 use Rattle.x3d_numerals.specs.NumberText.{IsLimited}
@@ -27,7 +28,7 @@ use Rattle.classic_text.specs.Spells.{IsEvent, IsStored, max_depth}
 
 -- ---- names and values
 
--- none of these words
+-- the name is none of these words
 abbrev pub IsNoneOf : List (List ℕ) → List ℕ → Type 0
 IsNoneOf words name = AllByRecursion (λ word. name ≢ word) words
 
@@ -36,13 +37,13 @@ abbrev pub grammar_words : List (List ℕ)
 grammar_words = codes "DEF" ∷ codes "USE" ∷ codes "ROUTE" ∷ codes "TO" ∷ codes "PROTO" ∷ codes "IS"
     ∷ codes "NULL" ∷ codes "TRUE" ∷ codes "FALSE" ∷ []
 
--- the words of access, and the older ones for the same (our choice)
+-- the words of access, and the older words for the same (our choice)
 abbrev pub access_words : List (List ℕ)
 access_words =
     codes "inputOnly" ∷ codes "outputOnly" ∷ codes "inputOutput" ∷ codes "initializeOnly"
     ∷ codes "eventIn" ∷ codes "eventOut" ∷ codes "exposedField" ∷ codes "field" ∷ []
 
--- an identifier that is no reserved word
+-- an identifier that is not a reserved word
 pub record IsFreeName (name : List ℕ) : Type 0 where
   pub is : IsIdentifier name []
   pub no_word : IsNoneOf grammar_words name
@@ -53,12 +54,12 @@ abbrev pub IsSpellableRoute : RouteText → Type 0
 IsSpellableRoute r = IsFreeName r.source.node × IsFreeName r.source.field × IsFreeName r.target.node
     × IsFreeName r.target.field
 
--- one or more, and each is so
+-- one or more items, each with the property P
 abbrev pub AreSome : {A : Type 0} → (A → Type 0) → List A → Type 0
 AreSome P [] = ⊥
 AreSome P (x ∷ xs) = AllByRecursion P (x ∷ xs)
 
--- a value, by which nodes in it are spellable
+-- values; Inner says which nodes in them are spellable
 module _ (Inner : NodeText → Type 0) where
   abbrev pub IsSpellableValue : RawValue NodeText → Type 0
   IsSpellableValue v.Null = Unit {0}
@@ -77,8 +78,8 @@ module _ (Inner : NodeText → Type 0) where
   IsSpellableGiven (given.Value x) = IsSpellableValue x
   IsSpellableGiven (given.Is n) = IsFreeName n
 
-  -- what a declaration of a field of that access gives it: in a Script `IS name`; without one a
-  -- value exactly where the field holds one
+  -- what follows the name in a declaration of a field of that access: `IS name`, only in a Script,
+  -- or else a value exactly if the field holds one
   abbrev pub IsSpellableDeclared : Bool → Access → Given NodeText → Type 0
   IsSpellableDeclared script access given.Nothing = IsEvent access
   IsSpellableDeclared script access (given.Value x) = IsStored access × IsSpellableValue x
@@ -88,9 +89,9 @@ module _ (Inner : NodeText → Type 0) where
   abbrev pub IsSpellableDeclaration : Bool → Declaration NodeText → Type 0
   IsSpellableDeclaration script d = IsFreeName d.name × IsSpellableDeclared script d.access d.given
 
--- ---- what stands in a body
+-- ---- items of a body
 
--- by which nodes and PROTOs in it are spellable
+-- Inner and Proto say which nodes and PROTOs in the body are spellable
 module _ (Inner : NodeText → Type 0) (Proto : ProtoText → Type 0) where
   pub record IsSpellableField (item : BodyItem) : Type 0 where
     pub at : ℕ
@@ -111,7 +112,7 @@ module _ (Inner : NodeText → Type 0) (Proto : ProtoText → Type 0) where
     pub is : item ≡ held.Proto proto
     pub spellable : Proto proto
 
-  -- in a Script alone
+  -- only in a Script
   pub record IsSpellableDeclarationItem (node_type : List ℕ) (item : BodyItem) : Type 0 where
     pub scripted : node_type ≡ codes "Script"
     pub declaration : Declaration NodeText
@@ -126,7 +127,7 @@ module _ (Inner : NodeText → Type 0) (Proto : ProtoText → Type 0) where
 
 -- ---- statements
 
--- by which nodes and PROTOs are spellable
+-- Node and Proto say which nodes and PROTOs are spellable
 module _ (Node : NodeText → Type 0) (Proto : ProtoText → Type 0) where
   pub record IsSpellableNodeStatement (statement : Statement) : Type 0 where
     pub node : NodeText
@@ -159,18 +160,18 @@ pub record IsSpellableUse (node : NodeText) : Type 0 where
   pub is : node ≡ made.Use at name
   pub named : IsFreeName name
 
--- a name, or none
+-- a name or no name
 abbrev pub IsNameOrNone : Option (List ℕ) → Type 0
 IsNameOrNone None = Unit {0}
 IsNameOrNone (Some name) = IsFreeName name
 
--- without a DEF the type is the first word, which is none of these
+-- without a DEF, the first word is the type, which is none of these words
 abbrev pub BeginsWithNoneOf : List (List ℕ) → Option (List ℕ) → List ℕ → Type 0
 BeginsWithNoneOf words None node_type = IsNoneOf words node_type
 BeginsWithNoneOf words (Some def) node_type = Unit {0}
 
--- a node with a body that begins with none of these words, by which items are spellable in a node
--- of a type
+-- a node with a body that doesn't begin with one of these words; Item says which items are
+-- spellable in a node of a type
 pub record IsSpellableFull (Item : List ℕ → BodyItem
     → Type 0) (words : List (List ℕ)) (node : NodeText) : Type 0 where
   pub at : ℕ
@@ -183,16 +184,15 @@ pub record IsSpellableFull (Item : List ℕ → BodyItem
   pub begins : BeginsWithNoneOf words def node_type
   pub body : AllByRecursion (Item node_type) items
 
--- a PROTO, by which nodes in its interface and which bodies are spellable
+-- a PROTO; Inner says which nodes in its interface are spellable, and Body which bodies
 abbrev pub IsSpellableProtoBy : (NodeText → Type 0) → (List Statement → Type 0) → ProtoText → Type 0
 IsSpellableProtoBy Inner Body p =
     IsFreeName (out-ProtoText p).name
     × AllByRecursion (IsSpellableDeclaration Inner false) (out-ProtoText p).interface
     × Body (out-ProtoText p).body
 
--- Nodes that begin with none of these words, and bodies of PROTOs, in which nodes and bodies nest
--- no deeper than the number, themselves counted. The interface of a PROTO stands as deep as the
--- PROTO.
+-- Nodes that don't begin with one of these words, and bodies of PROTOs. Nodes and bodies nest at
+-- most to the given depth, counting themselves. The interface of a PROTO is as deep as the PROTO.
 unfoldable mutual
   pub IsSpellableNode : ℕ → List (List ℕ) → NodeText → Type 0
   IsSpellableNode zero words node = ⊥
@@ -214,20 +214,20 @@ IsSpellableProto depth p =
 
 -- ---- all statements
 
--- a statement that begins with none of these words
+-- a statement that doesn't begin with one of these words
 abbrev pub IsSpellableTopStatement : List (List ℕ) → Statement → Type 0
 IsSpellableTopStatement words s =
     IsSpellableStatement (IsSpellableNode max_depth words) (IsSpellableProto max_depth) s
 
--- words that would be read as a part of the head where the first statement stands: META, COMPONENT
--- where there is no META, and PROFILE where there is nothing before it
+-- words that would be read as a part of the head if the first statement began with them: META,
+-- COMPONENT if there is no META, and PROFILE if there is nothing before the statement
 abbrev pub head_words : List Meta → List (List ℕ) → Option (List ℕ) → List (List ℕ)
 head_words (m ∷ ms) components profile = codes "META" ∷ []
 head_words [] (c ∷ cs) profile = codes "META" ∷ codes "COMPONENT" ∷ []
 head_words [] [] (Some name) = codes "META" ∷ codes "COMPONENT" ∷ []
 head_words [] [] None = codes "META" ∷ codes "COMPONENT" ∷ codes "PROFILE" ∷ []
 
--- the first of the statements begins with none of these words either
+-- statements, of which the first doesn't begin with one of these words either
 abbrev pub AreSpellableStatements : List (List ℕ) → List Statement → Type 0
 AreSpellableStatements words [] = Unit {0}
 AreSpellableStatements words (s ∷ ss) =
@@ -242,8 +242,8 @@ IsSpellableComponent component = IsFreeName component × HasLevel component
 abbrev pub IsSpellableMeta : Meta → Type 0
 IsSpellableMeta meta = IsUtf8 meta.key × IsUtf8 meta.content
 
--- What any text spells is so, and what is written of such a document spells it, lines and the
--- length of what is written apart.
+-- Every document that some text spells is spellable. The text written for a spellable document
+-- spells it, ignoring lines and the length of the text.
 pub record IsSpellable (d : Document) : Type 0 where
   pub profile : IsNameOrNone d.profile
   pub components : AllByRecursion IsSpellableComponent d.components

@@ -1,4 +1,4 @@
-//! What is written of a tree is a text that spells it, if any text does.
+//! Writing a tree gives a text that spells it, if any text does.
 #![tactic(auto)]
 
 mod laws;

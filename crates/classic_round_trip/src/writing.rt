@@ -9,8 +9,8 @@ ghost use Rattle.classic_round_trip.specs.AnyLength.{SpellsAtAnyLength};
 use classic_tree::Document;
 use std::alloc::AllocError;
 
-/// Appends a text of the tree. If any text spells the tree, this one does, but for the lines in it
-/// and for its own length. On a refusal the buffer is as it was.
+/// Appends a text of the tree. If any text spells the tree, this one does too, ignoring lines and
+/// the limit on its own length. Fails, with the buffer unchanged, if memory runs out.
 pub fn write(document: &Document, out: &mut Vec<u8>) -> Result<(), AllocError>
     ensures ok { OnOk result (out.new.items ≡ out.old.items ++ document_text document.now) }
     ensures err { OnErr result (out.new.items ≡ out.old.items) }

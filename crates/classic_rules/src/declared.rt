@@ -1,4 +1,4 @@
-//! Where a field may be declared, and what its declaration may give it.
+//! Where a field may be declared, and what may follow its name.
 
 ghost use Rattle.std.specs.Prelude.{◌≡◌};
 ghost use Rattle.x3d_values.specs.Access.{is_initial};
@@ -6,7 +6,7 @@ ghost use Rattle.classic_rules.specs.Bounds as spec;
 
 use x3d_values::{Access, Text};
 
-/// Who has the declared field.
+/// Where a field is declared.
 #[derive(Clone, Copy)]
 pub enum DeclaredIn {
     Script,
@@ -14,7 +14,7 @@ pub enum DeclaredIn {
     Interface,
 }
 
-/// Whether `IS name` may stand in a declaration.
+/// Reports whether `IS name` may appear in a declaration.
 pub fn takes_is(owner: DeclaredIn) -> bool
     ensures { result ≡ spec.takes_is owner }
 {
@@ -24,7 +24,7 @@ pub fn takes_is(owner: DeclaredIn) -> bool
     }
 }
 
-/// Whether a field of that access holds a value.
+/// Reports whether a field of that access holds a value.
 pub fn holds_value(access: Access) -> bool
     ensures { result ≡ is_initial access }
 {
@@ -34,7 +34,7 @@ pub fn holds_value(access: Access) -> bool
     }
 }
 
-/// Whether fields may be declared in the body of a node of that type.
+/// Reports whether fields may be declared in the body of a node of that type: only in a Script.
 #[tactic(auto, unfolding(crate::specs::Bounds::is_script))]
 pub fn is_script(node_type: &Text) -> bool
     ensures { result ≡ spec.is_script node_type.now }

@@ -5,7 +5,7 @@ ghost use Rattle.classic_rules.specs.Bounds.{max_depth};
 
 const MAX_DEPTH: u32 = 64;
 
-/// How many levels of nodes and of bodies of PROTOs a statement of a text may have.
+/// Returns how deep nodes and the bodies of PROTOs may nest in a statement of a text.
 pub fn top_depth() -> u32
     ensures { result ≡ max_depth }
 {

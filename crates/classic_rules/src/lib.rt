@@ -1,5 +1,5 @@
 //! The bounds of the Classic grammar (ISO/IEC 19776-2): how deep nodes may nest, and where
-//! declarations, their values and `IS` may stand.
+//! declarations, their values and `IS` may appear.
 #![tactic(auto)]
 
 mod declared;

@@ -1,4 +1,4 @@
--- The grammar, as it is read from left to right (ISO/IEC 19776-2, grammar).
+-- The grammar as a parser from left to right (ISO/IEC 19776-2, grammar).
 use Rattle.std.specs.Prelude.{ℕ, ℤ, zero, suc, Bool, true, false, ◌||◌, ◌&&◌, if◌then◌else◌, List, [], ◌∷◌, ◌++◌, length, Option, Some, None, Ok, Err, codes}
 use Rattle.x3d_values.specs.declared.field_type.Access.{Access}
 use Rattle.classic_lex.specs.Lexed.{Tok}
@@ -43,14 +43,14 @@ route = do
 
 -- ---- runs and lists
 
--- The number bounds the turns: each takes a token, so the count of the tokens is enough.
+-- The number bounds the turns. Each turn takes a token, so the number of tokens is enough.
 unfoldable pub numbers_from : ℕ → List ℤ → Parser (List ℤ)
 numbers_from zero found = pure found
 numbers_from (suc n) found =
     λ ts. if sees t.Numeral ts then and_then (number ts) (λ x. numbers_from n (found ++ x ∷ []))
     else Ok (found, ts)
 
--- numerals up to what is none
+-- numerals up to the next token that is not a numeral
 unfoldable pub numbers : Parser (List ℤ)
 numbers = λ ts. numbers_from (length ts) [] ts
 
@@ -60,13 +60,13 @@ until_from k item (suc n) found =
     λ ts. if sees k ts then Ok (found, next ts)
     else and_then (item ts) (λ x. until_from k item n (found ++ x ∷ []))
 
--- items up to a token of this kind, which is passed over
+-- items up to a token of this kind, which is consumed
 unfoldable pub until : {A : Type 0} → Terminal → Parser A → Parser (List A)
 until k item = λ ts. until_from k item (length ts) [] ts
 
--- ---- what isn't read
+-- ---- statements that aren't supported
 
--- what begins with EXTERNPROTO, IMPORT, EXPORT or UNIT
+-- a statement that begins with EXTERNPROTO, IMPORT, EXPORT or UNIT
 unfoldable pub begins_unread_statement : List Tok → Bool
 begins_unread_statement ts =
     sees_word (codes "EXTERNPROTO") ts || sees_word (codes "IMPORT") ts
@@ -75,7 +75,7 @@ begins_unread_statement ts =
 abbrev pub unsupported : {A : Type 0} → Parser A
 unsupported = λ ts. Err (Unsupported (line ts))
 
--- ---- values, by how a node in them is read
+-- ---- values; inner reads a node in them
 
 unfoldable pub what_is : Parser (Given NodeText)
 what_is = do
@@ -83,7 +83,7 @@ what_is = do
   n ← name
   pure (given.Is n)
 
--- in the declaration of a field, in a Script alone
+-- `IS name` in the declaration of a field, only in a Script
 unfoldable pub joined : Bool → Parser (Given NodeText)
 joined script = λ ts. if script then what_is ts else refuse ts
 
@@ -108,7 +108,7 @@ module _ (inner : Parser NodeText) where
     xs ← until t.CloseBracket inner
     pure (v.NodeList xs)
 
-  -- a list behind its bracket
+  -- a list after its opening bracket
   unfoldable pub list : Parser (RawValue NodeText)
   list = peek >>= list_by
 
@@ -150,7 +150,7 @@ module _ (inner : Parser NodeText) where
 
   -- ---- declarations
 
-  -- `IS name`, and else a value where the field holds one
+  -- `IS name`, or else a value if the field holds one
   unfoldable pub declared : Bool → Access → Parser (Given NodeText)
   declared script a =
       λ ts. if sees t.Is ts then joined script ts
@@ -166,7 +166,7 @@ module _ (inner : Parser NodeText) where
     x ← declared script a
     pure (record { line = at; access = a; field_type = f; name = n; given = x })
 
-  -- the body is read by the line of the first word
+  -- inside reads the body, given the line of the first word
   unfoldable pub proto_with : (ℕ → Parser (List Statement)) → Parser ProtoText
   proto_with inside = do
     at ← here
@@ -190,7 +190,7 @@ module _ (inner : Parser NodeText) where
       else (inner >>= λ n. pure (stands.Node n)) ts
 
 module _ (inner : Parser NodeText) (proto : Parser ProtoText) where
-  -- what stands in the body of a Script, or of another node
+  -- an item in the body of a Script, or of another node
   unfoldable pub one_item : Bool → Parser BodyItem
   one_item script = λ ts.
       if sees t.Route ts then (route >>= λ r. pure (held.Route r)) ts
@@ -234,19 +234,19 @@ full_node inside = do
   is ← inside (is_script k)
   pure (made.Full at def k is)
 
--- a node, by how its body is read
+-- a node; inside reads its body
 abbrev pub node_with : (Bool → Parser (List BodyItem)) → Parser NodeText
 node_with inside = λ ts. if sees t.Use ts then use_node ts else full_node inside ts
 
 unfoldable pub begins_node : List Tok → Bool
 begins_node ts = sees t.Use ts || sees t.Def ts || sees t.Name ts
 
--- where no node may stand any more
+-- the refusal if nodes may nest no deeper
 unfoldable pub deep_refusal : List Tok → Refusal
 deep_refusal ts = if begins_node ts then TooDeep (line ts) else refusal ts
 
--- Nodes, and the bodies of prototypes, in which nodes and bodies nest no deeper than the number,
--- themselves counted. The interface of a prototype stands as deep as the prototype.
+-- Nodes, and the bodies of prototypes. Nodes and bodies nest at most to the given depth, counting
+-- themselves. The interface of a prototype is as deep as the prototype.
 unfoldable mutual
   pub node_at : ℕ → Parser NodeText
   node_at zero = λ ts. Err (deep_refusal ts)

@@ -1,4 +1,4 @@
--- What the grammar reads from, and the steps that every rule is made of.
+-- The tokens that the grammar reads, and the steps that every rule is made of.
 use Rattle.std.specs.Prelude.{ℕ, ℤ, Bool, true, false, ◌&&◌, if◌then◌else◌, List, [], ◌∷◌, Option, Some, None, Result, Ok, Err}
 use Rattle.std.specs.Str.{bytes_eq}
 use Rattle.x3d_numerals.specs.Reading.{numeral}
@@ -59,7 +59,7 @@ p >>= f = λ ts. and_then (p ts) f
 abbrev pub pure : {A : Type 0} → A → Parser A
 pure a = λ ts. Ok (a, ts)
 
--- why no rule reads the next token
+-- the fault if no rule reads the next token
 unfoldable pub refusal : List Tok → Refusal
 refusal [] = UnexpectedEnd
 refusal (x ∷ ts) = Unexpected x.line
@@ -81,7 +81,7 @@ expect k = λ ts. if sees k ts then Ok (tt, next ts) else refuse ts
 unfoldable pub expect_word : List ℕ → Parser (Unit {0})
 expect_word w = λ ts. if sees_word w ts then Ok (tt, next ts) else refuse ts
 
--- the text of the next token, which is passed by later
+-- the text of the next token, which is consumed later
 abbrev pub copied : Parser (List ℕ)
 copied = λ ts. Ok (spelling ts, ts)
 
@@ -94,7 +94,7 @@ unfoldable pub component_name : Parser (List ℕ)
 component_name = λ ts. if sees t.Name ts && has_level (spelling ts) then Ok (spelling ts, next ts)
     else refuse ts
 
--- a string token, which has both its quotes
+-- the next token is a string, which has both its quotes
 unfoldable pub sees_string : List Tok → Bool
 sees_string ts = sees t.String ts && is_quoted (spelling ts)
 
@@ -110,7 +110,7 @@ abbrev pub number_by : Result ℤ NumeralFault → Parser ℤ
 number_by (Ok n) = λ ts. Ok (n, next ts)
 number_by (Err e) = refuse
 
--- a numeral's whole millionths
+-- the whole millionths of a numeral
 unfoldable pub number : Parser ℤ
 number = λ ts. if sees t.Numeral ts then number_by (numeral (spelling ts)) ts else refuse ts
 
@@ -130,7 +130,7 @@ type_by None = λ ts. Err (Unsupported (line ts))
 unfoldable pub field_type : Parser FieldType
 field_type = λ ts. if sees t.Name ts then type_by (field_type_named (spelling ts)) ts else refuse ts
 
--- ---- what a function that reads ensures: the parser's outcome, memory aside
+-- ---- what a function that reads ensures: the parser's outcome, unless memory runs out
 
 abbrev pub ReadsTokens : {A : Type 0} → Parsed A → Result A Refusal → List Tok → Type 0
 ReadsTokens outcome result new = Gives Memory (λ a. (a, new)) result outcome

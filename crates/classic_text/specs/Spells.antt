@@ -1,5 +1,5 @@
 -- Which tokens spell which tree, rule by rule (ISO/IEC 19776-2, grammar). Each relation takes the
--- tokens, and what is left of them behind what it speaks of.
+-- tokens, and the rest of them after the part that it describes.
 use Rattle.std.specs.Prelude.{◌≡◌, ◌≢◌, ◌⊎◌, ℕ, zero, suc, Bool, true, false, List, [], ◌∷◌, Option, Some, None, codes}
 use Rattle.x3d_values.specs.declared.field_type.Access.{Access}
 use Rattle.x3d_values.specs.declared.field_type.Access.TheVariants.{InputOnly, OutputOnly, InputOutput, InitializeOnly}
@@ -28,12 +28,12 @@ pub use Rattle.classic_text.specs.TokenRuns.{Is, IsSuch, NotAhead, NotWordAhead,
 
 -- ---- the head
 
--- one token that is this word
+-- one token, which is this word
 abbrev pub IsWord : List ℕ → List Tok → List Tok → Type 0
 IsWord w [] rest = ⊥
 IsWord w (x ∷ ts) rest = (x.text ≡ w) × (rest ≡ ts)
 
--- `PROFILE name`, or another word that begins something else
+-- `PROFILE name`; or no profile, and the next token is not that word
 abbrev pub IsProfile : Option (List ℕ) → List Tok → List Tok → Type 0
 IsProfile None ts rest = NotWordAhead (codes "PROFILE") ts × (rest ≡ ts)
 IsProfile (Some n) ts rest = (a : List Tok) × IsWord (codes "PROFILE") ts a × IsName n a rest
@@ -48,7 +48,7 @@ abbrev pub IsMeta : Meta → List Tok → List Tok → Type 0
 IsMeta m ts rest = (a : List Tok) × (b : List Tok) × IsWord (codes "META") ts a × IsString m.key a b
     × IsString m.content b rest
 
--- items up to where that word stands no more
+-- items until the next token isn't that word
 abbrev pub AreEach : {A : Type 0} → List ℕ → (A → List Tok → List Tok → Type 0) → List A → List Tok
     → List Tok → Type 0
 AreEach w Item [] ts rest = NotWordAhead w ts × (rest ≡ ts)
@@ -66,9 +66,9 @@ IsStored a = (a ≡ InputOutput) ⊎ (a ≡ InitializeOnly)
 
 -- ---- values and nodes
 
--- values, by what spells a node in them
+-- values; Inner says which tokens spell a node in them
 module _ (Inner : NodeText → List Tok → List Tok → Type 0) where
-  -- a list behind its bracket
+  -- a list after its opening bracket
   abbrev pub IsList : RawValue NodeText → List Tok → List Tok → Type 0
   IsList v.EmptyList ts rest = Is t.CloseBracket ts rest
   IsList (v.TruthList bs) ts rest = AreListed IsTruth bs ts rest
@@ -94,15 +94,16 @@ module _ (Inner : NodeText → List Tok → List Tok → Type 0) where
   IsGiven (given.Value x) ts rest = IsValue x ts rest
   IsGiven (given.Is n) ts rest = (a : List Tok) × Is t.Is ts a × IsName n a rest
 
-  -- What a declaration of a field of that access gives it, in a Script or in the interface of a
-  -- PROTO: in a Script `IS name`; without one a value exactly where the field holds one.
+  -- What follows the name in a declaration of a field of that access: `IS name`, only in a Script,
+  -- or else a value exactly if the field holds one. The flag says whether the declaration is in a
+  -- Script or in the interface of a PROTO.
   abbrev pub IsDeclared : Bool → Access → Given NodeText → List Tok → List Tok → Type 0
   IsDeclared script a given.Nothing ts rest = IsEvent a × NotAhead t.Is ts × (rest ≡ ts)
   IsDeclared script a (given.Value x) ts rest = IsStored a × IsValue x ts rest
   IsDeclared script a (given.Is n) ts rest = (b : List Tok) × (script ≡ true) × Is t.Is ts b
       × IsName n b rest
 
--- by which lines a tree may have for a token of a line
+-- At says which lines a tree may have for a token on a given line
 module _ (At : ℕ → ℕ → Type 0) where
   -- `ROUTE source TO target`
   abbrev pub IsRoute : RouteText → List Tok → List Tok → Type 0
@@ -110,7 +111,7 @@ module _ (At : ℕ → ℕ → Type 0) where
       (a : List Tok) × (b : List Tok) × (c : List Tok) × At (line ts) r.line × Is t.Route ts a
       × IsPlace r.source a b × Is t.To b c × IsPlace r.target c rest
 
-  -- an access, a type, a name, and what is given
+  -- an access, a type, a name, and what follows the name
   abbrev pub IsDeclaration : (NodeText → List Tok → List Tok → Type 0) → Bool → Declaration NodeText
       → List Tok → List Tok → Type 0
   IsDeclaration Inner script d ts rest =
@@ -118,7 +119,7 @@ module _ (At : ℕ → ℕ → Type 0) where
       × IsAccess d.access ts a × IsFieldType d.field_type a b × IsName d.name b c
       × IsDeclared Inner script d.access d.given c rest
 
-  -- what stands in a body, by what spells a node and a PROTO in it
+  -- items of a body; Inner and Proto say which tokens spell a node and a PROTO in them
   module _ (Inner : NodeText → List Tok → List Tok → Type 0) (Proto : ProtoText → List Tok
       → List Tok → Type 0) where
     -- a field's name, which is not EXTERNPROTO, and then its value or `IS name`
@@ -143,7 +144,7 @@ module _ (At : ℕ → ℕ → Type 0) where
       pub is : item ≡ held.Proto proto
       pub spelled : Proto proto ts rest
 
-    -- in a Script alone
+    -- only in a Script
     pub record IsDeclarationItem (node_type : List ℕ) (item : BodyItem)
         (ts rest : List Tok) : Type 0 where
       pub scripted : node_type ≡ codes "Script"
@@ -156,12 +157,12 @@ module _ (At : ℕ → ℕ → Type 0) where
         ⊎ (IsRouteItem item ts rest
         ⊎ (IsProtoItem item ts rest ⊎ IsDeclarationItem node_type item ts rest))
 
-    -- the braces of a node of this type and what stands in them
+    -- the braces of a node of this type and the items between them
     abbrev pub IsBody : List ℕ → List BodyItem → List Tok → List Tok → Type 0
     IsBody node_type items ts rest = (a : List Tok) × Is t.OpenBrace ts a
         × AreUntil t.CloseBrace (IsItem node_type) items a rest
 
-    -- a node; the four words begin statements that are not read (our choice)
+    -- a node; the four words begin statements that are not supported (our choice)
     pub record IsNodeStatement (statement : Statement) (ts rest : List Tok) : Type 0 where
       pub node : NodeText
       pub is : statement ≡ stands.Node node
@@ -185,7 +186,7 @@ module _ (At : ℕ → ℕ → Type 0) where
     IsStatement s ts rest = IsNodeStatement s ts rest
         ⊎ (IsRouteStatement s ts rest ⊎ IsProtoStatement s ts rest)
 
-    -- the braces of a PROTO and the statements in them
+    -- the braces of a PROTO and the statements between them
     abbrev pub IsProtoBody : List Statement → List Tok → List Tok → Type 0
     IsProtoBody ss ts rest = (a : List Tok) × Is t.OpenBrace ts a
         × AreUntil t.CloseBrace IsStatement ss a rest
@@ -210,7 +211,7 @@ module _ (At : ℕ → ℕ → Type 0) where
     pub word : Is t.Use ts behind
     pub named : IsName name behind rest
 
-  -- a node with a body, by what spells the body of a node of a type
+  -- a node with a body; Body says which tokens spell the body of a node of a type
   pub record IsFull (Body : List ℕ → List BodyItem → List Tok → List Tok
       → Type 0) (node : NodeText) (ts rest : List Tok) : Type 0 where
     pub at : ℕ
@@ -229,8 +230,8 @@ module _ (At : ℕ → ℕ → Type 0) where
       → List Tok → Type 0
   IsLayer Body node ts rest = IsUse node ts rest ⊎ IsFull Body node ts rest
 
-  -- Nodes, and bodies of PROTOs, in which nodes and bodies nest no deeper than the number,
-  -- themselves counted. The interface of a PROTO stands as deep as the PROTO.
+  -- Nodes, and bodies of PROTOs. Nodes and bodies nest at most to the given depth, counting
+  -- themselves. The interface of a PROTO is as deep as the PROTO.
   unfoldable mutual
     pub IsNode : ℕ → NodeText → List Tok → List Tok → Type 0
     IsNode zero node ts rest = ⊥
@@ -249,7 +250,7 @@ module _ (At : ℕ → ℕ → Type 0) where
   abbrev pub IsTopStatement : Statement → List Tok → List Tok → Type 0
   IsTopStatement s ts rest = IsStatement (IsNode max_depth) (IsProto max_depth) s ts rest
 
-  -- all of the tokens
+  -- statements that take all of the tokens
   abbrev pub AreStatements : List Statement → List Tok → Type 0
   AreStatements [] ts = ts ≡ []
   AreStatements (s ∷ ss) ts = (a : List Tok) × IsTopStatement s ts a × AreStatements ss a
@@ -276,6 +277,6 @@ module _ (At : ℕ → ℕ → Type 0) where
 abbrev pub Spells : List ℕ → Document → Type 0
 Spells text d = IsSpelled ◌≡◌ text d
 
--- The text spells the document, but for the lines in it.
+-- The text spells the document, ignoring lines.
 abbrev pub SpellsButLines : List ℕ → Document → Type 0
 SpellsButLines text d = IsSpelled (λ there here. Unit {0}) text d

@@ -1,4 +1,4 @@
-//! What the next token says of what follows.
+//! What the next token says about what follows.
 
 ghost use Rattle.std.specs.Prelude.{◌≡◌};
 ghost use Rattle.classic_text.specs.Grammar as spec;
@@ -14,7 +14,7 @@ fn begins_node(tokens: &Tokens<'_>) -> bool
     tokens.sees(Terminal::Use) || tokens.sees(Terminal::Def) || tokens.sees(Terminal::Name)
 }
 
-/// Where no node may stand any more.
+/// Returns the refusal if nodes may nest no deeper: `TooDeep` if a node begins here.
 #[tactic(auto, unfolding(crate::specs::Grammar::deep_refusal))]
 pub(crate) fn refuse_deep(tokens: &Tokens<'_>) -> Refusal
     ensures { result ≡ spec.deep_refusal tokens.now }

@@ -1,4 +1,4 @@
-//! The rules of the grammar in which nodes stand, each a function that reads from the tokens.
+//! The rules of the grammar with nodes. Each is a function that reads from the tokens.
 
 ghost use Rattle.std.specs.Prelude.{◌≡◌, false};
 ghost use Rattle.classic_rules.specs.Bounds.{takes_is};
@@ -18,7 +18,7 @@ use classic_tree::{BodyItem, Declaration, Given, NodeText, ProtoText, RawValue, 
 use std::alloc::Global;
 use x3d_values::{Access, Items, Text};
 
-/// A node in which nodes nest no deeper than `depth`, itself counted.
+/// Reads a node in which nodes nest at most `depth` deep, counting the node itself.
 #[cycle(nodes)]
 fn one_node(alloc: Global, tokens: &mut Tokens<'_>, depth: u32) -> Result<NodeText, Refusal>
     ensures { ReadsTokens (spec.node_at depth tokens.old) result tokens.new }
@@ -95,7 +95,7 @@ fn one_item(
     field(alloc, tokens, depth)
 }
 
-/// A declared field.
+/// Reads the declaration of a field.
 #[cycle(nodes)]
 #[tactic(auto, unfolding(crate::specs::Grammar::declaration))]
 fn declaration(
@@ -121,8 +121,8 @@ fn declaration(
     })
 }
 
-/// What stands behind the name of a declared field: `IS name` where it may stand, and a value
-/// where the field holds one.
+/// Reads what follows the name of a declared field: `IS name`, which an interface refuses, or else
+/// a value if the field holds one.
 #[cycle(nodes)]
 #[tactic(auto, unfolding(crate::specs::Grammar::declared))]
 fn declared(
@@ -168,7 +168,7 @@ fn declarations(
     Err(tokens.refuse())
 }
 
-/// A prototype in which nodes and bodies nest no deeper than `depth`.
+/// Reads a prototype in which nodes and bodies nest at most `depth` deep.
 #[cycle(nodes)]
 #[tactic(auto, unfolding(crate::specs::Grammar::proto_with))]
 fn one_proto(alloc: Global, tokens: &mut Tokens<'_>, depth: u32) -> Result<ProtoText, Refusal>
@@ -188,7 +188,7 @@ fn one_proto(alloc: Global, tokens: &mut Tokens<'_>, depth: u32) -> Result<Proto
     })
 }
 
-/// The body of a prototype whose first word stands on that line.
+/// Reads the body of a prototype whose first word is on that line.
 #[cycle(nodes)]
 fn proto_body(
     alloc: Global,
@@ -213,8 +213,8 @@ fn proto_body(
     Err(tokens.refuse())
 }
 
-/// A field of a node, which is given as a field that a Script declares with a value: `IS name` or
-/// a value.
+/// Reads a field of a node. What follows its name is `IS name` or a value, as for a field that a
+/// Script declares with a value.
 #[cycle(nodes)]
 #[tactic(auto, unfolding(crate::specs::Grammar::field))]
 fn field(alloc: Global, tokens: &mut Tokens<'_>, depth: u32) -> Result<BodyItem, Refusal>
@@ -257,7 +257,7 @@ fn value_of(
     }
 }
 
-/// A list behind its bracket.
+/// Reads a list after its opening bracket.
 #[cycle(nodes)]
 #[tactic(auto, unfolding(crate::specs::Grammar::list))]
 fn list_of(

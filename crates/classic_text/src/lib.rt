@@ -1,4 +1,4 @@
-//! ReadsTokens a text of the Classic VRML encoding (ISO/IEC 19776-2) as a tree.
+//! Reads a text of the Classic VRML encoding (ISO/IEC 19776-2) as a tree.
 #![tactic(auto)]
 
 mod ahead;

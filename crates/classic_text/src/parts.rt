@@ -1,4 +1,4 @@
-//! The parts of the grammar in which no node stands, each a function that reads from the tokens.
+//! The rules of the grammar without nodes. Each is a function that reads from the tokens.
 
 ghost use Rattle.std.specs.Prelude.{◌≡◌};
 ghost use Rattle.classic_rules.specs.Bounds.{takes_is};
@@ -42,7 +42,7 @@ pub(crate) fn route(alloc: Global, tokens: &mut Tokens<'_>) -> Result<RouteText,
     })
 }
 
-/// A run of numerals.
+/// Reads a run of numerals.
 pub(crate) fn numbers(alloc: Global, tokens: &mut Tokens<'_>) -> Result<Items<i64>, Refusal>
     ensures { ReadsTokens (spec.numbers tokens.old) result tokens.new }
 {
@@ -56,7 +56,7 @@ pub(crate) fn numbers(alloc: Global, tokens: &mut Tokens<'_>) -> Result<Items<i6
     Ok(found)
 }
 
-/// What a bracketed list without nodes holds.
+/// The items of a bracketed list without nodes.
 pub(crate) trait Listed: Drop {
     ghost parser: { Parser Self };
 
@@ -88,7 +88,7 @@ impl Listed for Text {
     }
 }
 
-/// The items up to the bracket that closes the list.
+/// Reads the items up to the bracket that closes the list.
 pub(crate) fn all_of<T: Listed>(alloc: Global, tokens: &mut Tokens<'_>) -> Result<Items<T>, Refusal>
     ensures { ReadsTokens (until CloseBracket T.Listed.parser tokens.old) result tokens.new }
 {
@@ -123,7 +123,7 @@ pub(crate) fn use_node(alloc: Global, tokens: &mut Tokens<'_>) -> Result<NodeTex
     Ok(NodeText::Use(line, tokens.name(alloc)?))
 }
 
-/// `IS name` in the declaration of a field of that owner.
+/// Reads `IS name` in a declaration, if the owner of the field allows it.
 #[tactic(auto, unfolding(crate::specs::Grammar::joined, crate::specs::Grammar::what_is))]
 pub(crate) fn joined(
     alloc: Global,

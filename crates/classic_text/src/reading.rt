@@ -45,7 +45,7 @@ impl From<LexFault> for ReadFault {
     }
 }
 
-/// A fault of the grammar in a text that ends in the line `last`.
+/// Returns the fault for a refusal of the grammar, in a text that ends on line `last`.
 fn of_grammar(last: u32, refusal: Refusal) -> ReadFault
     ensures { result ≡ of_grammar last refusal }
 {
@@ -59,7 +59,7 @@ fn of_grammar(last: u32, refusal: Refusal) -> ReadFault
     ReadFault { kind, line }
 }
 
-/// The tokens of a text, each in its place.
+/// Returns the tokens of a text, each in its place.
 fn tokens_of(alloc: Global, text: &[u8]) -> Result<Vec<Token>, LexFault>
     ensures exact { Gives tokens.memory (λ v. map (seen text.now) v.items) result
         (tokens.lexed text.now) }
@@ -83,13 +83,14 @@ fn document(alloc: Global, text: &[u8]) -> Result<Document, ReadFault>
     }
 }
 
-/// The document that the text spells.
+/// Returns the document that the text spells. Fails with the fault of the text that comes first
+/// (see `ReadFaultKind`), or with `Memory` if memory runs out.
 pub fn read(alloc: Global, text: &[u8]) -> Result<Document, ReadFault>
-    // The document or the first fault, memory aside.
+    // The document or the first fault, unless memory runs out.
     ensures exact { Gives memory (λ d. d) result (read_text text.now) }
-    // What is read is spelled so.
+    // The text spells the document that is read.
     ensures found { IfOk result (λ d. Spells text.now d) }
-    // What is spelled so is read, memory aside.
+    // A document that the text spells is read, unless memory runs out.
     ensures only { (d : Document) → Spells text.now d → Gives memory (λ e. e) result (Ok d) }
 {
     document(alloc, text)

@@ -20,7 +20,7 @@ use x3d_values::{Access, FieldType, Text, millionths};
 pub(crate) struct Tokens<'a> {
     text: &'a [u8],
     rest: &'a [Token],
-    /// What the grammar sees of the next token: looked at once for each.
+    /// The terminal of the next token, computed once per token.
     next: Terminal,
 }
 
@@ -36,7 +36,7 @@ impl<'a> Model for Tokens<'a> {
     ghost invariant = { IsReady };
 }
 
-/// What the grammar sees of the first of these tokens of a text.
+/// Returns the terminal of the first of these tokens of a text.
 #[tactic(auto, unfolding(crate::specs::Input::kind))]
 fn first_terminal(text: &[u8], tokens: &[Token]) -> Terminal
     requires { All (IsPlaced text.now) tokens.now }
@@ -57,7 +57,7 @@ impl<'a> Tokens<'a> {
         Tokens { text, rest, next }
     }
 
-    /// How many tokens are left.
+    /// Returns the number of tokens left.
     pub(crate) fn left(&self) -> usize
         ensures { result ≡ length self.now }
     {
@@ -74,7 +74,7 @@ impl<'a> Tokens<'a> {
         }
     }
 
-    /// The next token as it stands in the text.
+    /// Returns the bytes of the next token in the text.
     #[tactic(auto, unfolding(crate::specs::Input::spelling))]
     fn spelling(&self) -> &'a [u8]
         ensures value { result.now ≡ spec.spelling self.now }
@@ -92,7 +92,7 @@ impl<'a> Tokens<'a> {
         self.next
     }
 
-    /// The line of the next token, or 0 behind the last.
+    /// Returns the line of the next token, or 0 after the last.
     #[tactic(auto, unfolding(crate::specs::Terminal::line))]
     pub(crate) fn line(&self) -> u32
         ensures { result ≡ line self.now }
@@ -130,7 +130,7 @@ impl<'a> Tokens<'a> {
         same(self.peek(), kind)
     }
 
-    /// The next token is that word, reserved or not.
+    /// Reports whether the next token is that word, reserved or not.
     #[tactic(auto, unfolding(crate::specs::Input::sees_word))]
     pub(crate) fn sees_word(&self, word: &[u8]) -> bool
         ensures { result ≡ spec.sees_word word.now self.now }
@@ -162,7 +162,7 @@ impl<'a> Tokens<'a> {
         }
     }
 
-    /// The next token as text.
+    /// Returns the next token as text.
     #[tactic(auto, unfolding(crate::specs::Input::spelling))]
     fn word(&self) -> &'a str
         ensures { result.now ≡ spec.spelling self.now }
@@ -173,7 +173,7 @@ impl<'a> Tokens<'a> {
         }
     }
 
-    /// A word of access.
+    /// Reads a word of access.
     #[tactic(auto, unfolding(crate::specs::Input::access))]
     pub(crate) fn access(&mut self) -> Result<Access, Refusal>
         ensures { ReadsTokens (spec.access self.old) result self.new }
@@ -190,7 +190,7 @@ impl<'a> Tokens<'a> {
         }
     }
 
-    /// The type of a declared field.
+    /// Reads the type of a declared field.
     #[tactic(auto, unfolding(crate::specs::Input::field_type))]
     pub(crate) fn field_type(&mut self) -> Result<FieldType, Refusal>
         ensures { ReadsTokens (spec.field_type self.old) result self.new }
@@ -207,7 +207,7 @@ impl<'a> Tokens<'a> {
         }
     }
 
-    /// A copy of the next token.
+    /// Returns a copy of the next token.
     fn copy(&self, alloc: Global) -> Result<Text, Refusal>
         ensures { ReadsTokens (spec.copied self.now) result self.now }
     {
@@ -227,7 +227,7 @@ impl<'a> Tokens<'a> {
         }
     }
 
-    /// A name with a level, as `Navigation:2`.
+    /// Reads a name with a level, such as `Navigation:2`.
     #[tactic(auto, unfolding(crate::specs::Input::component_name))]
     pub(crate) fn component_name(&mut self, alloc: Global) -> Result<Text, Refusal>
         ensures { ReadsTokens (spec.component_name self.old) result self.new }
@@ -241,11 +241,11 @@ impl<'a> Tokens<'a> {
         }
     }
 
-    /// The next token is a string, which has both its quotes.
+    /// Reports whether the next token is a string. A string token has both its quotes.
     fn sees_string(&self) -> bool
         ensures { result ≡ spec.sees_string self.now }
     {
-        // What holds of each token is known where the field is used.
+        // For the prover: what holds of each token.
         let _ = &self.rest;
         self.sees(Terminal::String)
     }

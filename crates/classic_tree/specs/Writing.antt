@@ -1,4 +1,4 @@
--- The text of a tree (ISO/IEC 19776-2, grammar; which of the possible texts is our choice).
+-- The text of a tree (ISO/IEC 19776-2, grammar; the choice among possible texts is ours).
 use Rattle.std.specs.Prelude.{ℕ, ◌+◌, ℤ, List, [], ◌∷◌, ◌++◌, Option, Some, None, map, replicate, codes}
 use Rattle.std.specs.List.{flat_map, join_with_byte}
 use Rattle.x3d_numerals.specs.NumberText.{number_text}
@@ -23,7 +23,7 @@ use Rattle.classic_tree.specs.declared.tree.Document.{Document}
 
 -- ---- lines
 
--- what a part of a tree writes where its line has so many spaces before it
+-- the text of a part of a tree, given the number of spaces before its line
 abbrev pub Writes : Type 0
 Writes = ℕ → List ℕ
 
@@ -35,17 +35,17 @@ line_text text indent part = replicate indent 32 ++ text part indent ++ 10 ∷ [
 abbrev pub lines_text : {A : Type 0} → (A → Writes) → ℕ → List A → List ℕ
 lines_text text indent parts = flat_map (line_text text indent) parts
 
--- the end of the line, each part on a line of its own two spaces deeper, and the spaces of the
--- line that follows
+-- the end of the line, each part on a line of its own two spaces deeper, and the spaces of the next
+-- line
 abbrev pub deeper_text : {A : Type 0} → (A → Writes) → ℕ → List A → List ℕ
 deeper_text text indent parts = 10 ∷ lines_text text (indent + 2) parts ++ replicate indent 32
 
--- the same, and nothing where there is no part
+-- like deeper_text, but nothing if there are no parts
 abbrev pub block_text : {A : Type 0} → (A → Writes) → ℕ → List A → List ℕ
 block_text text indent [] = []
 block_text text indent (part ∷ parts) = deeper_text text indent (part ∷ parts)
 
--- ---- what holds no node
+-- ---- parts without nodes
 
 abbrev pub place_text : RouteEnd → List ℕ
 place_text place = place.node ++ 46 ∷ place.field
@@ -58,11 +58,11 @@ abbrev pub def_text : Option (List ℕ) → List ℕ
 def_text None = []
 def_text (Some name) = codes "DEF " ++ name ++ 32 ∷ []
 
--- numerals without brackets, with one space between each two
+-- numerals without brackets, with one space between two numerals
 abbrev pub run_text : List ℤ → List ℕ
 run_text numbers = join_with_byte 32 (map number_text numbers)
 
--- ---- what holds nodes, by the texts of the nodes in it
+-- ---- parts with nodes, given the texts of the nodes in them
 
 module _ {N : Type 0} (node_text : N → Writes) where
   abbrev pub value_text : RawValue N → Writes
@@ -77,7 +77,7 @@ module _ {N : Type 0} (node_text : N → Writes) where
   value_text (value.NumberList numbers) indent = list_text number_text numbers
   value_text (value.NodeList nodes) indent = 91 ∷ block_text node_text indent nodes ++ 93 ∷ []
 
-  -- what stands behind a name
+  -- what follows a name
   abbrev pub given_text : Given N → Writes
   given_text given.Nothing indent = []
   given_text (given.Value value) indent = 32 ∷ value_text value indent
@@ -88,8 +88,7 @@ module _ {N : Type 0} (node_text : N → Writes) where
       access_name declaration.access ++ 32 ∷ field_type_name declaration.field_type
       ++ 32 ∷ declaration.name ++ given_text declaration.given indent
 
--- ---- nodes, statements and prototypes: each step has, in the places of the parts inside, what
--- those write
+-- ---- nodes, statements and prototypes: each step takes the texts of the parts inside
 
 unfoldable pub item_step : BodyItem-F Writes Writes Writes Writes → Writes
 item_step (BodyItem-F.Field line name given) indent = name ++ given_text (λ text. text) given indent
@@ -108,7 +107,7 @@ statement_step (Statement-F.Node node) indent = node indent
 statement_step (Statement-F.Statement::Route route) indent = route_text route
 statement_step (Statement-F.Statement::Proto proto) indent = proto indent
 
--- the braces of an empty body stand on two lines
+-- the braces of an empty body are on two lines
 unfoldable pub proto_step : ProtoText-F Writes Writes Writes Writes → Writes
 proto_step proto indent =
     codes "PROTO " ++ proto.name
@@ -144,7 +143,7 @@ component_line component = codes "COMPONENT " ++ component ++ 10 ∷ []
 abbrev pub meta_line : Meta → List ℕ
 meta_line meta = codes "META " ++ string_text meta.key ++ 32 ∷ string_text meta.content ++ 10 ∷ []
 
--- the header statements, one a line, and the statements
+-- the header line, the header statements, one per line, and the statements
 unfoldable pub document_text : Document → List ℕ
 document_text document =
     header_line document.version ++ profile_line document.profile

@@ -1,4 +1,4 @@
-//! The head of a text: its header line and its header statements, one a line.
+//! The head of a text: its header line and its header statements, one per line.
 
 ghost use Rattle.std.specs.Prelude.{◌≡◌, ◌++◌, OnOk};
 ghost use Rattle.std.specs.List.{flat_map};
@@ -69,7 +69,7 @@ fn push_metas(metas: &[Meta], out: &mut Vec<u8>) -> Result<(), AllocError>
     Ok(())
 }
 
-/// The header line and the header statements.
+/// Appends the header line and the header statements.
 pub(crate) fn push_top(document: &Document, out: &mut Vec<u8>) -> Result<(), AllocError>
     ensures ok { OnOk result
         (out.new.items ≡ out.old.items

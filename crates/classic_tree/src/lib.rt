@@ -1,10 +1,10 @@
-//! The tree of a Classic text, and the text of such a tree.
+//! The tree of a Classic text, and the text written for a tree.
 //!
-//! The tree is what the grammar says (ISO/IEC 19776-2), before any type is known. `write` gives it
-//! one text of the many that stand for it.
+//! The tree follows the grammar (ISO/IEC 19776-2), before any type is known. `write` gives one of
+//! the many texts of a tree.
 //!
-//! `tree` is the tree, `writer` its text with `header` statements, the `parts` that hold no node,
-//! and the `spaces` before a line.
+//! `tree` has the tree, `writer` writes it, with `header` for the head, `parts` for the parts
+//! without nodes, and `spaces` for the indentation.
 #![tactic(auto)]
 
 mod header;

@@ -1,4 +1,4 @@
-//! The parts of a tree that hold no node.
+//! The parts of a tree without nodes.
 
 ghost use Rattle.std.specs.Prelude.{◌≡◌, ◌++◌, ◌∷◌, codes, OnOk};
 ghost use Rattle.x3d_lists.specs.Extends.{Extends};
@@ -29,7 +29,7 @@ pub(crate) fn push_route(route: &RouteText, out: &mut Vec<u8>) -> Result<(), All
     push_pieces(&[b" TO ", node.as_bytes(), b".", field.as_bytes()], out)
 }
 
-/// The access, the type and the name of a declared field.
+/// Appends the access, the type and the name of a declared field.
 pub(crate) fn push_declared(
     declaration: &Declaration<NodeText>,
     out: &mut Vec<u8>,
@@ -45,7 +45,7 @@ pub(crate) fn push_declared(
     out.extend_from_slice(declaration.name.as_bytes())
 }
 
-/// A node's DEF, its type and its opening brace.
+/// Appends a node's DEF, its type and its opening brace.
 pub(crate) fn push_head(
     name: &Option<Text>,
     node_type: &Text,

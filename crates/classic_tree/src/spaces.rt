@@ -1,4 +1,4 @@
-//! The spaces before a line.
+//! The indentation of a line.
 
 ghost use Rattle.std.specs.Prelude.{◌≡◌, ◌++◌, replicate, OnOk};
 ghost use Rattle.x3d_lists.specs.Extends.{Extends};

@@ -5,7 +5,7 @@ use classic_lex::Version;
 use std::alloc::{AllocError, Global};
 use x3d_values::{Access, Duplicate, FieldType, Items, Text};
 
-/// `node.field`, an end of a ROUTE.
+/// One end of a ROUTE, `node.field`.
 #[derive(Drop)]
 pub struct RouteEnd {
     pub node: Text,
@@ -20,9 +20,9 @@ pub struct RouteText {
     pub target: RouteEnd,
 }
 
-/// The value of a field as it is written; `N` is a node in it. Numerals are whole millionths,
-/// strings without their escapes. `Numbers` is a run of one numeral or more without brackets, and
-/// the lists but `EmptyList` have an item or more.
+/// The value of a field as it is written; `N` is the type of a node in it. Numerals are whole
+/// millionths, strings are without escapes. `Numbers` is a run of one or more numerals without
+/// brackets. Lists other than `EmptyList` have at least one item.
 #[derive(Drop)]
 pub enum RawValue<N> {
     Null,
@@ -37,7 +37,7 @@ pub enum RawValue<N> {
     NodeList(Items<N>),
 }
 
-/// What a field or a declaration is given.
+/// What follows the name of a field or of a declaration.
 #[derive(Drop)]
 pub enum Given<N> {
     /// A declaration without a value.
@@ -57,7 +57,7 @@ pub struct Declaration<N> {
     pub given: Given<N>,
 }
 
-/// What stands between the braces of a node.
+/// An item between the braces of a node.
 #[cycle(tree)]
 #[derive(Drop)]
 pub enum BodyItem {
@@ -77,7 +77,7 @@ pub enum Statement {
     Proto(ProtoText),
 }
 
-/// A node where it stands.
+/// A node in a text.
 #[cycle(tree)]
 #[derive(Drop)]
 pub enum NodeText {
@@ -87,7 +87,7 @@ pub enum NodeText {
     Full(u32, Option<Text>, Text, Items<BodyItem>),
 }
 
-/// A prototype's declaration.
+/// The declaration of a prototype.
 #[cycle(tree)]
 #[derive(Drop)]
 pub struct ProtoText {
@@ -117,7 +117,7 @@ impl Duplicate for Meta {
 pub struct Document {
     pub version: Version,
     pub profile: Option<Text>,
-    /// Each a name, a colon and a level, as `Navigation:2`.
+    /// Each is a name, a colon and a level, such as `Navigation:2`.
     pub components: Items<Text>,
     pub metas: Items<Meta>,
     pub statements: Items<Statement>,

@@ -14,7 +14,8 @@ use crate::tree::{
 use std::alloc::AllocError;
 use x3d_values::{Show, push_joined, push_list, push_pieces};
 
-/// Two more spaces. A line of more spaces than a `usize` counts does not fit in memory.
+/// Returns two more spaces of indentation. Fails past the range of `usize`, where the line would
+/// not fit in memory.
 fn deeper(indent: usize) -> Result<usize, AllocError>
     ensures { IfOk result (λ n. n ≡ indent + 2) }
 {
@@ -139,7 +140,7 @@ fn push_statement(statement: &Statement, indent: usize, out: &mut Vec<u8>) -> Re
     }
 }
 
-/// The items of a node, up to its closing brace.
+/// Appends the items of a node, up to its closing brace.
 #[cycle(push)]
 fn push_items(items: &[BodyItem], indent: usize, out: &mut Vec<u8>) -> Result<(), AllocError>
     ensures ok { OnOk result
@@ -154,7 +155,7 @@ fn push_items(items: &[BodyItem], indent: usize, out: &mut Vec<u8>) -> Result<()
     push_spaces(indent, out)
 }
 
-/// Each item on a line of its own.
+/// Appends each item on its own line.
 #[cycle(push)]
 fn push_item_lines(items: &[BodyItem], indent: usize, out: &mut Vec<u8>) -> Result<(), AllocError>
     ensures ok { OnOk result
@@ -169,7 +170,7 @@ fn push_item_lines(items: &[BodyItem], indent: usize, out: &mut Vec<u8>) -> Resu
     Ok(())
 }
 
-/// The nodes of a list, up to its closing bracket.
+/// Appends the nodes of a list, up to its closing bracket.
 #[cycle(push)]
 fn push_nodes(nodes: &[NodeText], indent: usize, out: &mut Vec<u8>) -> Result<(), AllocError>
     ensures ok { OnOk result
@@ -184,7 +185,7 @@ fn push_nodes(nodes: &[NodeText], indent: usize, out: &mut Vec<u8>) -> Result<()
     push_spaces(indent, out)
 }
 
-/// Each node on a line of its own.
+/// Appends each node on its own line.
 #[cycle(push)]
 fn push_node_lines(nodes: &[NodeText], indent: usize, out: &mut Vec<u8>) -> Result<(), AllocError>
     ensures ok { OnOk result
@@ -199,7 +200,7 @@ fn push_node_lines(nodes: &[NodeText], indent: usize, out: &mut Vec<u8>) -> Resu
     Ok(())
 }
 
-/// The declarations of a prototype, up to the closing bracket.
+/// Appends the declarations of a prototype, up to the closing bracket.
 #[cycle(push)]
 fn push_interface(
     declarations: &[Declaration<NodeText>],
@@ -219,7 +220,7 @@ fn push_interface(
     push_spaces(indent, out)
 }
 
-/// Each declaration on a line of its own.
+/// Appends each declaration on its own line.
 #[cycle(push)]
 fn push_declaration_lines(
     declarations: &[Declaration<NodeText>],
@@ -239,7 +240,7 @@ fn push_declaration_lines(
     Ok(())
 }
 
-/// The body of a prototype, from the bracket before it to its closing brace.
+/// Appends the body of a prototype, from the bracket before it to its closing brace.
 #[cycle(push)]
 fn push_body(body: &[Statement], indent: usize, out: &mut Vec<u8>) -> Result<(), AllocError>
     ensures ok { OnOk result
@@ -254,7 +255,7 @@ fn push_body(body: &[Statement], indent: usize, out: &mut Vec<u8>) -> Result<(),
     Ok(())
 }
 
-/// Each statement on a line of its own.
+/// Appends each statement on its own line.
 #[cycle(push)]
 fn push_statement_lines(
     statements: &[Statement],
@@ -282,7 +283,7 @@ fn push_document(document: &Document, out: &mut Vec<u8>) -> Result<(), AllocErro
     push_statement_lines(document.statements.as_slice(), 0, out)
 }
 
-/// Appends the text of the tree. On a refusal the buffer is as it was.
+/// Appends the text of the tree. Fails, with the buffer unchanged, if memory runs out.
 pub fn write(document: &Document, out: &mut Vec<u8>) -> Result<(), AllocError>
     ensures ok { OnOk result (out.new.items ≡ out.old.items ++ document_text document.now) }
     ensures err { OnErr result (out.new.items ≡ out.old.items) }
