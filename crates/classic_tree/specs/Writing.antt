@@ -1,4 +1,5 @@
--- The text of a tree (ISO/IEC 19776-2, grammar; the choice among possible texts is ours).
+-- The text of a tree (ISO/IEC 19776-2, grammar; which of the possible texts to write is our
+-- choice).
 use Rattle.std.specs.Prelude.{ℕ, ◌+◌, ℤ, List, [], ◌∷◌, ◌++◌, Option, Some, None, map, replicate, codes}
 use Rattle.std.specs.List.{flat_map, join_with_byte}
 use Rattle.x3d_numerals.specs.NumberText.{number_text}
