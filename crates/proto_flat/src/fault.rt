@@ -36,7 +36,8 @@ pub enum ExpandFaultKind {
     /// A PROTO whose body has no node.
     #[error("the prototype has no node")]
     EmptyBody,
-    /// An IS outside a body, an IS to a name that the interface lacks, or fields that don't match.
+    /// An IS outside a body, to a name that the interface lacks, or between fields that don't
+    /// match.
     #[error("the field can't be joined to the interface")]
     BadIs,
     /// A USE of a name that no node finished earlier has.
