@@ -1,4 +1,4 @@
--- Why a document has no flat form.
+-- Faults of expansion.
 use Rattle.std.specs.Prelude.{ℕ}
 use Rattle.proto_flat.specs.declared.fault.ExpandFault.{ExpandFault}
 use Rattle.proto_flat.specs.declared.fault.ExpandFaultKind.{ExpandFaultKind}
@@ -7,6 +7,6 @@ use Rattle.proto_flat.specs.declared.fault.ExpandFaultKind.TheVariants.{Memory}
 abbrev pub fault : ExpandFaultKind → ℕ → ExpandFault
 fault kind line = record { kind = kind; line = line }
 
--- memory was refused
+-- the fault if memory is refused
 abbrev pub memory : ExpandFault
 memory = fault Memory 0

@@ -3,7 +3,7 @@ use Rattle.std.specs.Prelude.{ℕ, List, codes}
 use Rattle.proto_flat.specs.declared.fault.ExpandFaultKind.{ExpandFaultKind}
 use Rattle.proto_flat.specs.declared.fault.ExpandFaultKind.TheVariants.{UnknownNode, UnknownField, ProtoTwice, ProtoItself, EmptyBody, BadIs, UseWithoutDef, FieldTwice, TooLarge, Memory}
 
--- the name of the fault, as it stands in the type
+-- the name of the variant
 abbrev pub fault_name : ExpandFaultKind → List ℕ
 fault_name UnknownNode = codes "UnknownNode"
 fault_name UnknownField = codes "UnknownField"

@@ -1,4 +1,4 @@
-//! Why a document can't be expanded.
+//! Faults of expansion: why a document can't be expanded.
 
 ghost use Rattle.std.specs.Prelude.{◌≡◌};
 ghost use Rattle.proto_flat.specs.FaultName.{fault_name};
@@ -9,42 +9,44 @@ use std::alloc::{AllocError, AllocFailed};
 use std::{error, fmt};
 use thiserror::Error;
 
-/// Why a document can't be expanded, and on which line.
+/// A fault of expansion, and the line where it was found.
 #[derive(Clone, Copy, Debug, PartialEq, Eq)]
 pub struct ExpandFault {
     pub kind: ExpandFaultKind,
-    /// From 1, or 0 where the fault has no place in the text.
+    /// The line number, counted from 1, or 0 if the fault has no place in the text.
     pub line: u32,
 }
 
-/// The faults of expansion. The first in the order of the work is answered: what is said of a
-/// prototype's declaration where it is declared, the others as nodes are put in, in the order of
-/// the text, an instance's values before its body. At one place the first of this list is answered.
+/// The kinds of faults of expansion. The first fault in the order of the work is reported. Faults
+/// of a prototype declaration are found at the declaration. The others are found as nodes are
+/// inserted, in the order of the text, with an instance's values before its body. If several faults
+/// are found at one place, the first of this list is reported.
 #[derive(Clone, Copy, Debug, PartialEq, Eq, Error)]
 pub enum ExpandFaultKind {
     #[error("the node type is unknown")]
     UnknownNode,
     #[error("the node has no such field")]
     UnknownField,
-    /// A PROTO that is named as a node type, or as a PROTO before it in the same scope.
+    /// A PROTO with the name of a node type, or of an earlier PROTO in the same scope.
     #[error("the name is taken")]
     ProtoTwice,
-    /// A node of the type that the PROTO around it declares.
+    /// A node whose type is the PROTO that contains it.
     #[error("the prototype holds an instance of itself")]
     ProtoItself,
     /// A PROTO whose body has no node.
     #[error("the prototype has no node")]
     EmptyBody,
-    /// An IS outside a body, to a name that the interface lacks, or between fields that don't fit.
+    /// An IS outside a body, to a name that the interface lacks, or between fields that don't
+    /// match.
     #[error("the field can't be joined to the interface")]
     BadIs,
-    /// A USE of a name that no finished node before it has.
+    /// A USE of a name that no node finished earlier has.
     #[error("no node before has this name")]
     UseWithoutDef,
-    /// A value for a field that has one already.
+    /// A second value for a field.
     #[error("the field is given twice")]
     FieldTwice,
-    /// More than 65,536 nodes, routes, or fields of one node, or more than 8,388,608 items in
+    /// More than 65,536 nodes, routes, or fields of one node; or more than 8,388,608 items in
     /// values or instances.
     #[error("the scene is too large")]
     TooLarge,
@@ -53,7 +55,7 @@ pub enum ExpandFaultKind {
 }
 
 impl ExpandFaultKind {
-    /// The name of the variant.
+    /// Returns the name of the variant.
     pub fn name(self) -> &'static str
         ensures { result.now ≡ fault_name self }
     {
@@ -71,7 +73,7 @@ impl ExpandFaultKind {
         }
     }
 
-    /// The fault of this kind on that line.
+    /// Returns the fault of this kind on line `line`.
     pub fn on_line(self, line: u32) -> ExpandFault
         ensures { result ≡ fault self line }
     {

@@ -1,40 +1,40 @@
-//! A document without names and prototypes: its nodes by number.
+//! A flat document: its nodes by number, without names and prototypes.
 
 use classic_lex::Version;
 use classic_tree::{Declaration, Meta, RawValue};
 use x3d_lists::{Items, Text};
 use x3d_values::NodeType;
 
-/// The version and the header statements of a text, which are kept for the text of the scene.
+/// The version and the header statements of a text, kept for writing the scene as text.
 #[derive(Drop)]
 pub struct Header {
     pub version: Version,
     pub profile: Option<Text>,
-    /// Each a name, a colon and a level, as `Navigation:2`.
+    /// A name, a colon and a level each, such as `Navigation:2`.
     pub components: Items<Text>,
     pub metas: Items<Meta>,
 }
 
-/// A field that a node gives a value. The nodes in it are numbers of nodes of the same `Flat`.
+/// A field to which a node gives a value. Nodes in the value are node numbers of the same `Flat`.
 #[derive(Drop)]
 pub struct FlatField {
     /// The line of the field's name.
     pub line: u32,
-    /// The field's number among the fields of its node's type; behind these come, from the number
-    /// of these on, the fields of a Script's interface.
+    /// The field's number among the fields of its node's type. The fields of a Script's interface
+    /// follow, numbered from the count of the type's fields on.
     pub number: u16,
     pub value: RawValue<u32>,
 }
 
-/// A node that was put in.
+/// A node of the flat document.
 #[derive(Drop)]
 pub struct FlatNode {
-    /// The line of its first word.
+    /// The line of the node's first word.
     pub line: u32,
-    /// The name that DEF gave it.
+    /// The name from DEF.
     pub name: Option<Text>,
     pub node_type: NodeType,
-    /// In the order of the text, no field twice.
+    /// The fields in the order of the text. No field appears twice.
     pub fields: Items<FlatField>,
     /// The declarations of a Script, in the order of the text.
     pub interface: Items<Declaration<u32>>,
@@ -43,13 +43,13 @@ pub struct FlatNode {
 /// An end of a route.
 #[derive(Drop)]
 pub enum FlatEnd {
-    /// A node, and the name of a field that it may have.
+    /// A node, and the name of a field that the node may have.
     At(u32, Text),
-    /// No DEF of that name stands before the ROUTE.
+    /// No DEF of that name appears before the ROUTE.
     NoNode,
     /// The interface of the instance has no field of that name.
     NoField,
-    /// The interface field is no output as a source, or no input as a destination.
+    /// The interface field isn't an output (for a source), or isn't an input (for a destination).
     WrongWay,
 }
 
@@ -62,13 +62,13 @@ pub struct FlatRoute {
     pub target: FlatEnd,
 }
 
-/// A whole document, expanded. Nodes are numbered in the order in which they close.
+/// A whole expanded document. Nodes are numbered in the order in which they close.
 #[derive(Drop)]
 pub struct Flat {
     pub header: Header,
     pub nodes: Items<FlatNode>,
     pub roots: Items<u32>,
-    /// The nodes of prototype bodies behind the first of each, in the order of their instances.
+    /// The nodes of prototype bodies after the first of each body, in the order of their instances.
     pub helpers: Items<u32>,
     pub routes: Items<FlatRoute>,
 }

@@ -1,5 +1,5 @@
-//! A flat document: its nodes by number, with names and prototypes resolved (ISO/IEC 19775-1,
-//! prototypes and run-time name scope), and why a document has none.
+//! Flat documents: nodes by number, with names and prototypes resolved (ISO/IEC 19775-1, prototypes
+//! and run-time name scope), and the faults for documents that can't be expanded.
 #![tactic(auto)]
 
 mod fault;

@@ -16,7 +16,7 @@ use Rattle.react_core.specs.Stored.{numbers_of, points_of, vectors_of}
 
 -- ---- part of the way between two values
 
--- the number at `part` of `whole` of the way from one number to another, rounded down
+-- the number at `part / whole` of the way from one number to another, rounded down
 unfoldable pub part_way : ℕ → ℕ → ℤ → ℤ → ℤ
 part_way part whole from to = from +ℤ int_div_euclid ((to -ℤ from) *ℤ pos part) (pos whole)
 
@@ -38,11 +38,11 @@ vector_way place from to =
 
 -- ---- where a fraction lies
 
--- at an item, which is no part of the way from it to itself
+-- exactly at an item
 abbrev pub at_item : ℕ → Between
 at_item item = record { from = item; to = item; part = 0; whole = 1 }
 
--- on the way from an item to the next one, as far as the fraction lies between their keys
+-- between an item and the next one, at the part of the way that the fraction has between their keys
 abbrev pub after_item : ℕ → ℤ → ℤ → ℤ → Between
 after_item item key next fraction =
     record {
@@ -55,12 +55,12 @@ after_item item key next fraction =
 abbrev pub key_at : List ℤ → ℕ → ℤ
 key_at keys item = slice_index_or keys item (pos 0)
 
--- the place of the last key that isn't above the fraction
+-- the index of the last key that isn't above the fraction
 abbrev pub last_reached : List ℤ → ℤ → ℕ
 last_reached keys fraction = reached keys fraction - 1
 
--- at or below the first key, at or above the last one, or else after the last key that isn't above
--- the fraction
+-- at the first item if the fraction isn't above the first key, at the last item if it isn't below
+-- the last key, or else after the last key that isn't above the fraction
 abbrev pub place_among : List ℤ → ℤ → Between
 place_among keys fraction =
     if int_le fraction (key_at keys 0) then at_item 0
@@ -70,7 +70,7 @@ place_among keys fraction =
     (key_at keys (last_reached keys fraction + 1))
     fraction)
 
--- nowhere without keys, or where a key is below the one before it
+-- none if there are no keys, or if a key is below the previous one
 unfoldable pub place_of : List ℤ → ℤ → Option Between
 place_of keys fraction = if have_steps keys then Some (place_among keys fraction) else None
 
@@ -96,9 +96,9 @@ point_between keys values fraction = between point_way keys values fraction
 abbrev pub vector_between : List ℤ → List Vec3 → ℤ → Option Vec3
 vector_between keys values fraction = between vector_way keys values fraction
 
--- ---- equally many values for each key
+-- ---- the same number of values for each key
 
--- the vectors of an item, of which each has that many
+-- the vectors of an item, if each item has `many` vectors
 abbrev pub group : List Vec3 → ℕ → ℕ → List Vec3
 group values many item = slice_range values (item * many) (item * many + many)
 
@@ -109,7 +109,7 @@ abbrev pub groups_way : List Vec3 → ℕ → Between → List Vec3
 groups_way values many place =
     vectors_way place (group values many place.from) (group values many place.to)
 
--- at least one vector for each key
+-- each key has the same number of vectors, at least one
 abbrev pub are_grouped : List ℤ → List Vec3 → Bool
 are_grouped keys values = not (length values == 0) && (length values % length keys == 0)
 
@@ -121,7 +121,7 @@ vectors_between keys values fraction =
 
 -- ---- interpolators
 
--- what an interpolator of these keys and values answers to a fraction
+-- the value that an interpolator with these keys and values sends for a fraction
 abbrev pub interpolated : NodeType → List ℤ → Value → ℤ → Option Value
 interpolated ScalarInterpolator keys values fraction =
     option_map SFFloat

@@ -1,4 +1,4 @@
--- The numbers of the fields that take part in reactions are those of their names.
+-- The numbers of the fields that take part in reactions belong to the fields' names.
 use Rattle.std.specs.Prelude.{◌≡◌, ℕ, List, Some, codes}
 use Rattle.x3d_values.specs.declared.node_type.NodeType.{NodeType}
 use Rattle.x3d_values.specs.declared.node_type.NodeType.TheVariants.{BooleanFilter, BooleanToggle, BooleanTrigger, IntegerTrigger, TimeTrigger}

@@ -1,5 +1,5 @@
--- What a node does when an event comes in (ISO/IEC 19775-1, the node types of each component;
--- depth, order and what is marked are our choice).
+-- What a node does when an event arrives (ISO/IEC 19775-1, the node types of each component; depth,
+-- order and what is marked are our choice).
 use Rattle.std.specs.Prelude.{ℕ, ℤ, Bool, true, false, not, ◌==◌, List, [], ◌∷◌, Option, Some, None, map, if◌then◌else◌}
 use Rattle.std.specs.Option.{option_map, option_and_then}
 use denote.Enum.Bare.{sameb}
@@ -26,28 +26,28 @@ pub record Reaction : Type 0 where
 abbrev pub reply : ℕ → Value → SentEvent
 reply field value = record { field = field; value = value }
 
--- it keeps its fields and sends nothing
+-- the node keeps its fields and sends nothing
 abbrev pub nothing : Fields → Reaction
 nothing fields = record { fields = fields; replies = [] }
 
--- it keeps its fields and sends these
+-- the node keeps these fields and sends these events
 abbrev pub sends : Fields → List SentEvent → Reaction
 sends fields replies = record { fields = fields; replies = replies }
 
--- any node, an inputOutput field: sets it, sends it
+-- any node, an inputOutput field: sets the field, sends it
 abbrev pub keeps : Fields → ℕ → Value → Reaction
 keeps fields field value = sends (with_value fields field value) (reply field value ∷ [])
 
--- what is done with a value; nothing without one
+-- what is done with a value; nothing if there is none
 abbrev pub with_some : {X : Type 0} → Fields → Option X → (X → Reaction) → Reaction
 with_some fields None does = nothing fields
 with_some fields (Some x) does = does x
 
--- what is done at the input of that number; nothing at another
+-- what is done at the input `wanted`; nothing at any other input
 abbrev pub at_input : Fields → ℕ → ℕ → Reaction → Reaction
 at_input fields input wanted reaction = if input == wanted then reaction else nothing fields
 
--- a field that the node keeps, read as a value of its type
+-- the value of a field, read as a value of a type
 abbrev pub stored : {X : Type 0} → (Value → Option X) → Fields → ℕ → Option X
 stored as_type fields field = option_and_then as_type (field_value fields field)
 
@@ -153,7 +153,7 @@ answer IntegerTrigger fields input value time = integer_trigger fields input val
 answer TimeTrigger fields input value time = time_trigger fields input value time
 answer _ fields input value time = nothing fields
 
--- a TimeSensor has rules of its own, which aren't here
+-- the rules of a TimeSensor aren't given here
 abbrev pub is_time_sensor : NodeType → Bool
 is_time_sensor node_type = sameb the_type node_type TimeSensor
 

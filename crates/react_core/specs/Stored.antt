@@ -41,7 +41,7 @@ abbrev pub vectors_of : Value → Option (List Vec3)
 vectors_of (MFVec3f vectors) = Some vectors
 vectors_of _ = None
 
--- the value, where it is neither a string nor a list
+-- the value, if it is neither a string nor a list
 abbrev pub plain_of : Value → Option Value
 plain_of (SFBool truth) = Some (SFBool truth)
 plain_of (SFInt32 number) = Some (SFInt32 number)
@@ -53,6 +53,6 @@ plain_of (SFColor color) = Some (SFColor color)
 plain_of (SFNode node) = Some (SFNode node)
 plain_of _ = None
 
--- it is neither a string nor a list
+-- the value is neither a string nor a list
 abbrev pub is_plain : Value → Bool
 is_plain value = is_some (plain_of value)

@@ -11,7 +11,8 @@ fn names_nodes(value: &Value) -> bool
     matches!(value, Value::SFNode(_) | Value::MFNode(_))
 }
 
-/// Whether the event sets a field: an inputOutput field of the value's type, and no node field.
+/// Reports whether the event sets a field: an inputOutput field of the value's type that isn't a
+/// node field.
 pub fn is_kept(node_type: NodeType, input: u16, value: &Value) -> bool
     ensures { result ≡ is_kept node_type input value.now }
 {

@@ -1,4 +1,4 @@
-//! Copies of values, without memory where a value needs none.
+//! Copies of values, without allocation if the value needs none.
 
 ghost use Rattle.std.specs.Prelude.{◌≡◌, IsTrue, IfOk, IsOk};
 ghost use Rattle.react_core.specs.Stored.{is_plain, plain_of};
@@ -6,7 +6,7 @@ ghost use Rattle.react_core.specs.Stored.{is_plain, plain_of};
 use std::alloc::{AllocError, Global};
 use x3d_values::{Value, clone_value};
 
-/// The copy of a value that is neither a string nor a list.
+/// Returns the copy of a value that is neither a string nor a list.
 fn plain_copy(value: &Value) -> Option<Value>
     ensures { result ≡ plain_of value.now }
 {
@@ -32,7 +32,8 @@ fn plain_copy(value: &Value) -> Option<Value>
     }
 }
 
-/// A copy that equals the value. Only a string or a list takes memory.
+/// Returns a copy that equals the value. Only strings and lists take memory; fails if that memory
+/// is refused.
 pub fn copy_of(alloc: Global, value: &Value) -> Result<Value, AllocError>
     ensures copy { IfOk result (λ copy. copy ≡ value.now) }
     ensures no_memory { IsTrue (is_plain value.now) → IsOk result }

@@ -1,4 +1,4 @@
-//! Values between those of keys.
+//! Interpolation between the values of keys.
 
 ghost use Rattle.std.specs.Prelude.{◌≡◌, ◌≢◌, ◌<◌, ◌≤◌, ◌+◌, ◌*◌, length, map, slice_get, IfOk, IsOk};
 ghost use Rattle.std.specs.List.{zip};
@@ -12,9 +12,13 @@ use crate::stored::{numbers_of, points_of, vectors_of};
 use std::alloc::{AllocError, Global};
 use x3d_values::{Items, NodeType, Value, Vec2, Vec3};
 
-/// What an interpolator of these keys and values answers to a fraction; nothing where there are no
-/// keys, where a key is below the one before it, where the count of values isn't that of the keys
-/// (or a multiple of it, for a CoordinateInterpolator), and for a node that doesn't interpolate.
+/// Returns the value that an interpolator with these keys and values sends for a fraction. Keys and
+/// fraction are in millionths.
+///
+/// Returns `None` if there are no keys, if a key is below the previous one, if the number of values
+/// isn't that of the keys (or a multiple of it, for a CoordinateInterpolator), or if the node
+/// doesn't interpolate. Only a CoordinateInterpolator takes memory; fails if that memory is
+/// refused.
 pub fn interpolate(
     alloc: Global,
     node_type: NodeType,
@@ -45,7 +49,7 @@ fn item<T: Copy>(values: &[T], at: usize) -> Option<T>
     values.get(at).copied()
 }
 
-/// What has a value part of the way between two others.
+/// A type with values part of the way between two others.
 trait OnTheWay: Copy {
     ghost way: { Between → Self → Self → Self };
 
@@ -79,7 +83,7 @@ impl OnTheWay for Vec3 {
     }
 }
 
-/// The value at a fraction, where there is one for each key.
+/// Returns the value at a fraction, if there is one value for each key.
 #[tactic(auto, using(crate::proofs::Ways::passed), unfolding(crate::specs::Interpolation::between))]
 fn between<T: OnTheWay>(keys: &[i64], values: &[T], fraction: i64) -> Option<T>
     ensures { result ≡ between T.way keys.now values.now fraction }
@@ -93,7 +97,7 @@ fn between<T: OnTheWay>(keys: &[i64], values: &[T], fraction: i64) -> Option<T>
     Some(T::on_the_way(place, from, to))
 }
 
-/// The vectors that far on the way between two lists.
+/// Returns the vectors at `place` on the way between two lists.
 fn vectors_way(
     alloc: Global,
     place: Between,
@@ -110,7 +114,7 @@ fn vectors_way(
         .collect(alloc)
 }
 
-/// The vectors of an item, of which each has that many.
+/// Returns the vectors of item `item`, if each item has `many` vectors.
 fn group(values: &[Vec3], many: usize, item: usize) -> &[Vec3]
     requires { item * many + many ≤ length values.now }
     ensures { result.now ≡ group values.now many item }
@@ -118,7 +122,7 @@ fn group(values: &[Vec3], many: usize, item: usize) -> &[Vec3]
     &values[item * many..item * many + many]
 }
 
-/// The vectors at a fraction, where there are equally many for each key, and at least one.
+/// Returns the vectors at a fraction, if each key has the same number of vectors, at least one.
 #[tactic(auto, unfolding(crate::specs::Interpolation::vectors_between))]
 fn vectors_between(
     alloc: Global,
@@ -141,7 +145,8 @@ fn vectors_between(
     Ok(Some(Items::from_vec(vectors)))
 }
 
-/// What an interpolator of single values answers; a CoordinateInterpolator answers by lists.
+/// Returns the value that an interpolator of single values sends. A CoordinateInterpolator has
+/// lists of values instead.
 fn interpolate_one(
     node_type: NodeType,
     keys: &[i64],

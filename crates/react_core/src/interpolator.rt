@@ -19,7 +19,7 @@ fn stored_keys(fields: &Fields) -> Option<&Items<i64>>
     numbers_of(fields.value(KEY)?)
 }
 
-/// The value to which a fraction brings an interpolator.
+/// Returns the value of an interpolator for the fraction in `value`.
 fn interpolator_value(
     alloc: Global,
     node_type: NodeType,
@@ -43,7 +43,8 @@ fn interpolator_value(
     Ok(changed)
 }
 
-/// What an interpolator sends.
+/// Puts what an interpolator sends at an event into the outbox. Only a CoordinateInterpolator takes
+/// memory; fails if that memory is refused, and then sends nothing.
 pub fn interpolator(
     alloc: Global,
     node_type: NodeType,

@@ -3,14 +3,14 @@
 ghost use Rattle.std.specs.Prelude.{◌≡◌, ◌-◌, ◌<◌, length, true, IfSome};
 ghost use Rattle.react_core.specs.Keys.{are_rising, rise_from, reached, step_of, have_steps, IsKeyAt};
 
-/// The place of the last key that a fraction has reached, or the first place where it has reached
-/// none; none where there are no keys, or where a key is below the one before it.
+/// Returns the index of the last key that isn't above the fraction, or 0 if all keys are above it.
+/// Returns `None` if there are no keys, or if a key is below the previous one.
 ///
-/// That the keys rise is tested key by key, and the place is then found by binary search.
+/// Checks key by key that the keys rise, and then finds the index by binary search.
 #[tactic(auto, unfolding(crate::specs::Keys::step_of))]
 pub fn step_index(keys: &[i64], fraction: i64) -> Option<usize>
     ensures value { result ≡ step_of keys.now fraction }
-    // It is the greatest place whose key isn't above the fraction.
+    // The greatest index whose key isn't above the fraction.
     ensures greatest { IfSome result (IsKeyAt keys.now fraction) }
 {
     if !have_steps(keys) {
@@ -19,14 +19,14 @@ pub fn step_index(keys: &[i64], fraction: i64) -> Option<usize>
     Some(reached(keys, fraction).saturating_sub(1))
 }
 
-/// Whether there are keys, and none is below the one before it. It reads each key once.
+/// Reports whether there are keys, and no key is below the previous one. Reads each key once.
 pub fn have_steps(keys: &[i64]) -> bool
     ensures { result ≡ have_steps keys.now }
 {
     !keys.is_empty() && are_rising(keys)
 }
 
-/// Whether no key is below `low` or below the one before it.
+/// Reports whether no key is below `low` or below the previous one.
 fn rise_from(mut low: i64, keys: &[i64]) -> bool
     ensures { result ≡ rise_from low keys.now }
 {
@@ -39,7 +39,7 @@ fn rise_from(mut low: i64, keys: &[i64]) -> bool
     true
 }
 
-/// Whether no key is below the one before it. It reads each key once.
+/// Reports whether no key is below the previous one. Reads each key once.
 fn are_rising(keys: &[i64]) -> bool
     ensures { result ≡ are_rising keys.now }
 {
@@ -49,7 +49,7 @@ fn are_rising(keys: &[i64]) -> bool
     }
 }
 
-/// How many keys a fraction has reached, by binary search.
+/// Returns the number of keys that aren't above the fraction, by binary search.
 fn reached(keys: &[i64], fraction: i64) -> usize
     requires { are_rising keys.now ≡ true }
     ensures count { result ≡ reached keys.now fraction }

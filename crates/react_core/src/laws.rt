@@ -1,9 +1,9 @@
-//! What holds of the numbers of fields.
+//! Laws of the field numbers.
 
 ghost use Rattle.x3d_values.specs.declared.node_type.NodeType.TheVariants.{ScalarInterpolator, PositionInterpolator, PositionInterpolator2D, CoordinateInterpolator, BooleanSequencer, IntegerSequencer};
 ghost use Rattle.react_core.specs.Numbers.{Interpolates, Sequences, Filters, Triggers};
 
-/// The numbers that reactions use are those of the fields' names in the table of fields.
+/// The field numbers that reactions use belong to the fields' names in the table of fields.
 pub fn numbers_law()
     ensures scalar { Interpolates ScalarInterpolator }
     ensures position { Interpolates PositionInterpolator }

@@ -1,10 +1,10 @@
-//! What nodes do when events come in: fields are set and sent on, interpolators and sequencers
-//! answer from their keys, and the event utilities pass truth values and times on.
+//! What nodes do when events arrive. Fields are set and sent on, interpolators and sequencers
+//! respond from their keys, and the event utilities pass on truth values and times.
 //!
 //! | Module | Has |
 //! |---|---|
 //! | `reaction` | `react`: what any node does at an event |
-//! | `interpolation`, `interpolator` | what lies between the values of keys, and who sends it |
+//! | `interpolation`, `interpolator` | values between those of keys, and the nodes that send them |
 //! | `sequence` | the positions of sequencers |
 //! | `utilities` | the event utilities |
 //! | `keys`, `place`, `part` | where a fraction lies among keys, and part of the way there |

@@ -1,5 +1,5 @@
-//! The numbers of the fields that take part in reactions, which are their places in the table of
-//! fields. `numbers_law` ties each to its name.
+//! The numbers of the fields that take part in reactions: their places in the table of fields.
+//! `numbers_law` ties each number to the field's name.
 
 /// `key` of an interpolator or a sequencer.
 pub const KEY: u16 = 1;

@@ -6,7 +6,7 @@ ghost use Rattle.x3d_values.specs.declared.value.Value.TheVariants.{SFBool};
 use arrayvec::ArrayVec;
 use x3d_values::Value;
 
-/// The most events that a node sends at once: those of a TimeSensor that starts.
+/// The largest number of events that a node sends at once: a starting TimeSensor sends that many.
 pub const MAX_REPLIES: usize = 5;
 
 /// An event that a node sends by one of its outputs.
@@ -17,7 +17,7 @@ pub struct SentEvent {
     pub value: Value,
 }
 
-/// What stands in an unused place of an outbox.
+/// The content of an unused place of an outbox.
 impl Default for SentEvent {
     ghost is_default = { λ reply. reply ≡ record { field = 0; value = SFBool false } };
 

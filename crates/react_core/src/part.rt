@@ -3,7 +3,7 @@
 ghost use Rattle.std.specs.Prelude.{◌≡◌, ◌<◌, ◌≤◌, ◌/◌, ◌^◌, pos, negsuc, ◌+ℤ◌, ◌≤ℤ◌};
 ghost use Rattle.react_core.specs.Interpolation.{part_way};
 
-/// The number `way` above `from`, which isn't above `to`.
+/// Returns `from + way`, which isn't above `to`.
 fn moved_up(from: i64, to: i64, way: u64) -> i64
     requires { (from +ℤ pos way) ≤ℤ to }
     ensures { result ≡ from +ℤ pos way }
@@ -11,7 +11,7 @@ fn moved_up(from: i64, to: i64, way: u64) -> i64
     (from as i128 + way as i128) as i64
 }
 
-/// The number `way + 1` below `from`, which isn't below `to`.
+/// Returns `from - way - 1`, which isn't below `to`.
 fn moved_down(from: i64, to: i64, way: u64) -> i64
     requires { to ≤ℤ (from +ℤ negsuc way) }
     ensures { result ≡ from +ℤ negsuc way }
@@ -19,8 +19,8 @@ fn moved_down(from: i64, to: i64, way: u64) -> i64
     (from as i128 - way as i128 - 1) as i64
 }
 
-/// A quotient of 64 bits. A number that has no more itself is divided as one of 64 bits, which the
-/// processor does in one instruction.
+/// Returns `number / whole`, which fits into 64 bits. If `number` fits too, the division is one of
+/// 64 bits, which is a single instruction.
 fn divided(number: u128, whole: u64) -> u64
     requires is_whole { 0 < whole }
     requires fits { number / whole < 2 ^ 64 }
@@ -32,7 +32,7 @@ fn divided(number: u128, whole: u64) -> u64
     (number / whole as u128) as u64
 }
 
-/// The number at `part` of `whole` of the way from one number to another, rounded down.
+/// Returns the number at `part / whole` of the way from one number to another, rounded down.
 #[tactic(auto, unfolding(crate::specs::Interpolation::part_way))]
 pub fn part_way(part: u64, whole: u64, from: i64, to: i64) -> i64
     requires is_part { part ≤ whole }

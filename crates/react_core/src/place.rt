@@ -1,4 +1,4 @@
-//! Where a fraction lies among keys, and what lies there between values.
+//! Where a fraction lies among keys, and the values there.
 
 ghost use Rattle.std.specs.Prelude.{◌≡◌, ◌<◌, ◌≤◌, length, IfSome};
 ghost use Rattle.react_core.specs.Interpolation.{place_of, point_way, vector_way};
@@ -27,7 +27,8 @@ fn at_item(item: usize) -> Between
     }
 }
 
-/// Where the fraction lies; nowhere without keys, or where a key is below the one before it.
+/// Returns where the fraction lies among the keys. Returns `None` if there are no keys, or if a key
+/// is below the previous one.
 #[tactic(auto, unfolding(crate::specs::Interpolation::place_of, crate::specs::Keys::step_of))]
 pub fn place_of(keys: &[i64], fraction: i64) -> Option<Between>
     ensures value { result ≡ place_of keys.now fraction }
@@ -52,7 +53,7 @@ pub fn place_of(keys: &[i64], fraction: i64) -> Option<Between>
     })
 }
 
-/// The point that far on the way, each component by itself.
+/// Returns the point at `place` on the way, each component by itself.
 pub fn point_way(place: Between, from: Vec2, to: Vec2) -> Vec2
     requires is_part { place.part ≤ place.whole }
     requires is_whole { 0 < place.whole }
@@ -65,7 +66,7 @@ pub fn point_way(place: Between, from: Vec2, to: Vec2) -> Vec2
     }
 }
 
-/// The vector that far on the way, each component by itself.
+/// Returns the vector at `place` on the way, each component by itself.
 pub fn vector_way(place: Between, from: Vec3, to: Vec3) -> Vec3
     requires is_part { place.part ≤ place.whole }
     requires is_whole { 0 < place.whole }

@@ -1,4 +1,4 @@
-//! What a node does when an event comes in.
+//! What a node does when an event arrives.
 
 ghost use Rattle.std.specs.Prelude.{◌≡◌, ◌≢◌, [], false, IsTrue, IsOk, OnOk, OnErr};
 ghost use Rattle.x3d_values.specs.declared.node_type.NodeType.TheVariants.{CoordinateInterpolator};
@@ -15,11 +15,12 @@ use crate::utilities::{boolean_trigger, filter, integer_trigger, time_trigger, t
 use std::alloc::{AllocError, Global};
 use x3d_values::{Fields, NodeType, Value};
 
-/// Does what a node of that type does when an event comes in, at a time in microseconds: changes
-/// its fields, and puts what it sends into the outbox.
+/// Does what a node of type `node_type` does when an event arrives at input `input`: changes its
+/// fields, and puts what it sends into the outbox. `time` is in microseconds.
 ///
-/// A TimeSensor and an input or a value that the node doesn't take do nothing here; of a
-/// TouchSensor and a PlaneSensor only the fields are set and sent.
+/// Does nothing for a TimeSensor, and for an input or a value that the node doesn't take. For a
+/// TouchSensor and a PlaneSensor only sets and sends fields. Fails if memory is refused; then
+/// nothing has changed and nothing is sent.
 #[tactic(auto, unfolding(crate::specs::Reaction::reaction))]
 pub fn react(
     alloc: Global,
@@ -31,18 +32,18 @@ pub fn react(
     out: &mut Outbox,
 ) -> Result<(), AllocError>
     requires empty { out.old.items ≡ [] }
-    // On success the fields and what is sent are those of the definition.
+    // On success the fields and the events sent are those of the definition.
     ensures fields { OnOk result
         (fields.new ≡ (reaction node_type fields.old input value.now time).fields) }
     ensures replies { OnOk result
         (out.new.items ≡ (reaction node_type fields.old input value.now time).replies) }
-    // Where memory is refused nothing was changed, and nothing is sent.
+    // If memory is refused, nothing has changed and nothing is sent.
     ensures refused_fields { OnErr result (fields.new ≡ fields.old) }
     ensures refused_replies { OnErr result (out.new.items ≡ []) }
-    // Only strings and lists take memory, and so does what a CoordinateInterpolator sends.
+    // Only strings, lists and the events of a CoordinateInterpolator take memory.
     ensures no_memory { IsTrue (is_plain value.now) → node_type ≢ CoordinateInterpolator
         → IsOk result }
-    // All leaves by outputs of the node.
+    // All events leave by outputs of the node.
     ensures outputs { IsTrue (leave_by_outputs node_type out.new.items) }
 {
     if node_type == NodeType::TimeSensor {
@@ -82,7 +83,7 @@ fn keep(
     Ok(())
 }
 
-/// What a node does at an event that sets no field.
+/// Does what a node does at an event that sets no field.
 fn answer(
     alloc: Global,
     node_type: NodeType,
@@ -120,7 +121,7 @@ fn is_interpolator(node_type: NodeType) -> bool
     )
 }
 
-/// What a node does at an event that sets no field and needs no memory.
+/// Does what a node does at an event that sets no field and takes no memory.
 fn act(
     node_type: NodeType,
     fields: &mut Fields,

@@ -13,7 +13,7 @@ use crate::outbox::{Outbox, SentEvent};
 use crate::stored::{integers_of, number_of, numbers_of, truth_of, truths_of};
 use x3d_values::{Fields, Items, Position, Value};
 
-/// A place of a sequencer, from 0, with the value there.
+/// An index among the values of a sequencer, from 0, with the value there.
 #[derive(Drop)]
 pub struct Keyed {
     pub at: u32,
@@ -60,7 +60,7 @@ fn on_true(value: &Value, at: usize) -> Option<usize>
     if truth { Some(at) } else { None }
 }
 
-/// Where an event puts a sequencer of these keys.
+/// Returns the index to which an event moves a sequencer with these keys.
 #[tactic(auto, using(crate::proofs::Ways::passed))]
 fn stepped(keys: &[i64], position: Position, input: u16, value: &Value) -> Option<usize>
     requires { 0 < length keys.now }
@@ -79,7 +79,7 @@ fn stepped(keys: &[i64], position: Position, input: u16, value: &Value) -> Optio
     }
 }
 
-/// The place to which an event leads a sequencer with that many values.
+/// Returns the index to which an event moves a sequencer with `count` values.
 #[tactic(auto, unfolding(crate::specs::Sequence::place_after))]
 fn place_after(fields: &Fields, input: u16, value: &Value, count: usize) -> Option<usize>
     ensures value { result ≡ place_after fields.now input value.now count }
@@ -92,7 +92,9 @@ fn place_after(fields: &Fields, input: u16, value: &Value, count: usize) -> Opti
     stepped(keys, fields.position, input, value)
 }
 
-/// Where an event leads a BooleanSequencer.
+/// Returns the index to which an event moves a BooleanSequencer, with the value there. Returns
+/// `None` if the event doesn't move it, if its keys don't rise, or if it hasn't one value for each
+/// key.
 pub fn boolean_step(fields: &Fields, input: u16, value: &Value) -> Option<Keyed>
     ensures { result ≡ option_and_then (step_after fields.now input value.now)
         (option_map (map SFBool) (stored truths_of fields.now KEY_VALUE)) }
@@ -100,7 +102,7 @@ pub fn boolean_step(fields: &Fields, input: u16, value: &Value) -> Option<Keyed>
     truth_at(fields, input, value, truths_of(fields.value(KEY_VALUE)?)?)
 }
 
-/// Where an event leads an IntegerSequencer.
+/// Like `boolean_step`, for an IntegerSequencer.
 pub fn integer_step(fields: &Fields, input: u16, value: &Value) -> Option<Keyed>
     ensures { result ≡ option_and_then (step_after fields.now input value.now)
         (option_map (map SFInt32) (stored integers_of fields.now KEY_VALUE)) }
@@ -132,7 +134,7 @@ fn integer_at(fields: &Fields, input: u16, value: &Value, values: &Items<i32>) -
     })
 }
 
-/// Sets a sequencer's position, and sends the value there.
+/// Sets a sequencer's position and sends the value there, if there is a step.
 pub fn step_to(step: Option<Keyed>, fields: &mut Fields, out: &mut Outbox)
     requires empty { out.old.items ≡ [] }
     ensures fields { fields.new ≡ (with_some fields.old step (steps_to fields.old)).fields }

@@ -6,6 +6,7 @@ ghost use Rattle.react_core.specs.Stored.{truth_of, integer_of, number_of, time_
 
 use x3d_values::{Items, Value, Vec2, Vec3};
 
+/// Returns the truth value of an SFBool.
 pub fn truth_of(value: &Value) -> Option<bool>
     ensures { result ≡ truth_of value.now }
 {
@@ -15,6 +16,7 @@ pub fn truth_of(value: &Value) -> Option<bool>
     }
 }
 
+/// Returns the number of an SFInt32.
 pub fn integer_of(value: &Value) -> Option<i32>
     ensures { result ≡ integer_of value.now }
 {
@@ -24,6 +26,7 @@ pub fn integer_of(value: &Value) -> Option<i32>
     }
 }
 
+/// Returns the number of an SFFloat, in millionths.
 pub fn number_of(value: &Value) -> Option<i64>
     ensures { result ≡ number_of value.now }
 {
@@ -33,6 +36,7 @@ pub fn number_of(value: &Value) -> Option<i64>
     }
 }
 
+/// Returns the time of an SFTime, in microseconds.
 pub fn time_of(value: &Value) -> Option<i64>
     ensures { result ≡ time_of value.now }
 {
@@ -42,6 +46,7 @@ pub fn time_of(value: &Value) -> Option<i64>
     }
 }
 
+/// Returns the truth values of an MFBool.
 pub fn truths_of(value: &Value) -> Option<&Items<bool>>
     ensures { option_copied result ≡ truths_of value.now }
 {
@@ -51,6 +56,7 @@ pub fn truths_of(value: &Value) -> Option<&Items<bool>>
     }
 }
 
+/// Returns the numbers of an MFInt32.
 pub fn integers_of(value: &Value) -> Option<&Items<i32>>
     ensures { option_copied result ≡ integers_of value.now }
 {
@@ -60,6 +66,7 @@ pub fn integers_of(value: &Value) -> Option<&Items<i32>>
     }
 }
 
+/// Returns the numbers of an MFFloat, in millionths.
 pub fn numbers_of(value: &Value) -> Option<&Items<i64>>
     ensures { option_copied result ≡ numbers_of value.now }
 {
@@ -69,6 +76,7 @@ pub fn numbers_of(value: &Value) -> Option<&Items<i64>>
     }
 }
 
+/// Returns the points of an MFVec2f.
 pub fn points_of(value: &Value) -> Option<&Items<Vec2>>
     ensures { option_copied result ≡ points_of value.now }
 {
@@ -78,6 +86,7 @@ pub fn points_of(value: &Value) -> Option<&Items<Vec2>>
     }
 }
 
+/// Returns the vectors of an MFVec3f.
 pub fn vectors_of(value: &Value) -> Option<&Items<Vec3>>
     ensures { option_copied result ≡ vectors_of value.now }
 {

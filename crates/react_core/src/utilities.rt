@@ -12,7 +12,7 @@ use crate::outbox::{Outbox, SentEvent};
 use crate::stored::{integer_of, time_of, truth_of};
 use x3d_values::{Fields, Value};
 
-/// What a BooleanFilter sends.
+/// Puts what a BooleanFilter sends at an event into the outbox.
 pub fn filter(fields: &Fields, input: u16, value: &Value, out: &mut Outbox)
     requires empty { out.old.items ≡ [] }
     ensures { out.new.items ≡ (filter fields.now input value.now).replies }
@@ -45,7 +45,7 @@ fn stored_integer(fields: &Fields, field: u16) -> Option<i32>
     integer_of(fields.value(field)?)
 }
 
-/// What a BooleanToggle keeps and sends.
+/// Does what a BooleanToggle does at an event: flips and sends `toggle` at a TRUE.
 pub fn toggle(fields: &mut Fields, input: u16, value: &Value, out: &mut Outbox)
     requires empty { out.old.items ≡ [] }
     ensures fields { fields.new ≡ (toggle fields.old input value.now).fields }
@@ -64,7 +64,7 @@ pub fn toggle(fields: &mut Fields, input: u16, value: &Value, out: &mut Outbox)
     });
 }
 
-/// What a BooleanTrigger sends.
+/// Puts what a BooleanTrigger sends at an event into the outbox.
 pub fn boolean_trigger(fields: &Fields, input: u16, value: &Value, out: &mut Outbox)
     requires empty { out.old.items ≡ [] }
     ensures { out.new.items ≡ (boolean_trigger fields.now input value.now).replies }
@@ -80,7 +80,7 @@ pub fn boolean_trigger(fields: &Fields, input: u16, value: &Value, out: &mut Out
     }
 }
 
-/// What an IntegerTrigger sends.
+/// Puts what an IntegerTrigger sends at an event into the outbox.
 pub fn integer_trigger(fields: &Fields, input: u16, value: &Value, out: &mut Outbox)
     requires empty { out.old.items ≡ [] }
     ensures { out.new.items ≡ (integer_trigger fields.now input value.now).replies }
@@ -100,7 +100,7 @@ pub fn integer_trigger(fields: &Fields, input: u16, value: &Value, out: &mut Out
     });
 }
 
-/// What a TimeTrigger sends.
+/// Puts what a TimeTrigger sends at an event at time `time`, in microseconds, into the outbox.
 pub fn time_trigger(fields: &Fields, input: u16, value: &Value, time: i64, out: &mut Outbox)
     requires empty { out.old.items ≡ [] }
     ensures { out.new.items ≡ (time_trigger fields.now input value.now time).replies }

@@ -1,4 +1,4 @@
--- What the ends of a document's route name in its scene (ISO/IEC 19775-1, ROUTE).
+-- What the ends of a document's route refer to in its scene (ISO/IEC 19775-1, ROUTE).
 use Rattle.std.specs.Prelude.{◌^◌, ◌<◌, ℕ, Bool, List, Option, Some, None, Result, Ok, Err, map, length, nat_lt, if◌then◌else◌}
 use Rattle.std.specs.Option.{option_and_then}
 use denote.Enum.Bare.{sameb}
@@ -19,7 +19,7 @@ use Rattle.route_core.specs.declared.ends.SceneField.{SceneField}
 use Rattle.route_core.specs.declared.fault.RouteFaultKind.{RouteFaultKind}
 use Rattle.route_core.specs.declared.fault.RouteFaultKind.TheVariants.{NoSuchNode, NoSuchField, NotOutput, NotInput, TypesDiffer, NodeEvent}
 
--- the number in the scene of a node of the document, where the scene has it
+-- the number in the scene of a node of the document, if the scene has the node
 abbrev pub node_of : SceneView → ℕ → Option ℕ
 node_of scene node =
     option_and_then (λ n. if nat_lt n (length scene.nodes) then Some n else None)
@@ -29,7 +29,7 @@ abbrev pub field_at : ℕ → FieldRow → SceneField
 field_at node row =
     record { end = record { node = node; field = row.number }; field_type = row.field_type }
 
--- the field, where it may be used so; `fault` says that it may not
+-- the field, if its access allows the use; otherwise `fault`
 abbrev pub usable : (Access → Bool) → RouteFaultKind → ℕ → Option FieldRow
     → Result SceneField RouteFaultKind
 usable allowed fault node None = Err NoSuchField
@@ -58,7 +58,7 @@ target_of scene NoNode = Err NoSuchNode
 target_of scene NoField = Err NoSuchField
 target_of scene WrongWay = Err NotInput
 
--- a route joins equal types, and none that holds nodes
+-- a route joins fields of equal types that hold no nodes
 abbrev pub joined : SceneField → SceneField → Result Route RouteFaultKind
 joined source target =
     if sameb types.the_type source.field_type target.field_type
@@ -67,7 +67,7 @@ joined source target =
     else Ok (record { source = source.end; target = target.end }))
     else Err TypesDiffer
 
--- the source's fault, the target's, or what both make
+-- the source's fault, the target's, or a fault of both together
 abbrev pub joined_ends : Result SceneField RouteFaultKind → Result SceneField RouteFaultKind
     → Result Route RouteFaultKind
 joined_ends (Err fault) target = Err fault
@@ -77,7 +77,7 @@ joined_ends (Ok source) (Ok target) = joined source target
 abbrev pub route_of : SceneView → FlatRoute → Result Route RouteFaultKind
 route_of scene r = joined_ends (source_of scene r.source) (target_of scene r.target)
 
--- how many fields each node of the scene has
+-- the number of fields of each node of the scene
 abbrev pub field_counts : SceneView → List ℕ
 field_counts scene = map (λ s. length (rows_of s)) (shapes_of scene)
 

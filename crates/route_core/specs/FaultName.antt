@@ -3,7 +3,7 @@ use Rattle.std.specs.Prelude.{ℕ, List, codes}
 use Rattle.route_core.specs.declared.fault.RouteFaultKind.{RouteFaultKind}
 use Rattle.route_core.specs.declared.fault.RouteFaultKind.TheVariants.{NoSuchNode, NoSuchField, NotOutput, NotInput, TypesDiffer, NodeEvent, TooMany, Memory}
 
--- the name of the fault, as it stands in the type
+-- the name of the variant
 abbrev pub fault_name : RouteFaultKind → List ℕ
 fault_name NoSuchNode = codes "NoSuchNode"
 fault_name NoSuchField = codes "NoSuchField"

@@ -10,10 +10,10 @@ same_end a b = (a.node == b.node) && (a.field == b.field)
 abbrev pub same_route : Route → Route → Bool
 same_route a b = same_end a.source b.source && same_end a.target b.target
 
--- the route behind the others, unless it is among them
+-- appends the route, unless it is among the earlier ones
 abbrev pub added : List Route → Route → List Route
 added routes r = if list_any (same_route r) routes then routes else routes ++ r ∷ []
 
--- each route where it stands first
+-- the first of each group of equal routes, in order
 abbrev pub firsts : List Route → List Route
 firsts routes = fold added [] routes

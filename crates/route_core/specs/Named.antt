@@ -1,4 +1,4 @@
--- What the tables of fields by name hold. None of this is part of the definition.
+-- The content of the tables of fields by name. It isn't part of the definition.
 use Rattle.std.specs.Prelude.{◌≡◌, ℕ, List, drop, Option, Some, None, if◌then◌else◌}
 use Rattle.std.specs.Str.{bytes_eq}
 use Rattle.std.specs.BTreeMap.{get_by}
@@ -10,7 +10,7 @@ use Rattle.scene_core.specs.Scene.{SceneView, rows_at}
 use Rattle.route_core.specs.declared.named.RowTable.{RowTable}
 use Rattle.route_core.specs.declared.named.RowTables.{RowTables}
 
--- the fields of names
+-- fields by name
 abbrev pub Rows : Type 0
 Rows = List ℕ → Option FieldRow
 
@@ -24,12 +24,12 @@ no_rows name = None
 abbrev pub with_row : List ℕ → FieldRow → Rows → Rows
 with_row given row rows name = if bytes_eq name given then Some row else rows name
 
--- the entry of that number, if there is one, before those of the same name
+-- sets the entry for its name, if there is one; it replaces an entry of the same name
 abbrev pub with_entry : ℕ → Option FieldRowView → Rows → Rows
 with_entry n None rows = rows
 with_entry n (Some e) rows = with_row e.name (numbered n e) rows
 
--- those from number n on
+-- the fields from number n on
 abbrev pub rows_from : ℕ → List FieldRowView → Rows
 rows_from n entries name = row_named n name (drop n entries)
 
@@ -37,7 +37,7 @@ rows_from n entries name = row_named n name (drop n entries)
 unfoldable pub table_at : RowTables → ℕ → Option RowTable
 table_at tables node = get_by (nat_cmp node) tables.tables
 
--- a node that has a table has its fields there
+-- the table of a node, if there is one, has the node's fields
 unfoldable pub AreTables : SceneView → RowTables → Type 0
 AreTables scene tables =
     (node : ℕ) (table : RowTable) → table_at tables node ≡ Some table

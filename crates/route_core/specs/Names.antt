@@ -1,5 +1,5 @@
--- Fields of a node by the names that routes give them, among those of its type and those that a
--- Script declares; fields of rotations aren't kept, so a rotation counts as not there (our choice).
+-- Fields of a node by the names that routes give them: fields of its type, and fields that a Script
+-- declares. Rotations aren't kept, so a field of a rotation counts as missing (our choice).
 use Rattle.std.specs.Prelude.{ℕ, List, Option, None, Some, if◌then◌else◌}
 use Rattle.std.specs.Option.{option_and_then}
 use denote.Enum.Bare.{sameb}
@@ -10,19 +10,19 @@ use Rattle.x3d_values.specs.Access.{is_exposed}
 use Rattle.x3d_values.specs.Aliases.{source_by, target_by}
 use Rattle.x3d_values.specs.Tables.{FieldRowView, row_named}
 
--- the row, unless it is a rotation's
+-- the field, unless it is a rotation
 abbrev pub no_rotation : FieldRow → Option FieldRow
 no_rotation row = if sameb types.the_type row.field_type SFRotation then None else Some row
 
--- the row, if it is an inputOutput field's
+-- the field, if it is inputOutput
 abbrev pub if_exposed : FieldRow → Option FieldRow
 if_exposed row = if is_exposed row.access then Some row else None
 
--- the field of that name
+-- the field with that name
 abbrev pub exact : List FieldRowView → List ℕ → Option FieldRow
 exact rows name = option_and_then no_rotation (row_named 0 name rows)
 
--- the inputOutput field of that name
+-- the inputOutput field with that name
 abbrev pub exposed : List FieldRowView → List ℕ → Option FieldRow
 exposed rows name = option_and_then if_exposed (exact rows name)
 

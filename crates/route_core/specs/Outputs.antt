@@ -17,11 +17,11 @@ places_of source routes = places_from 0 source routes
 
 -- ---- outputs by number: the fields of the first node, then those of the next
 
--- the node has such a field, where `counts` says how many fields each node has
+-- the node has that field; `counts` has the number of fields of each node
 abbrev pub IsField : List ℕ → End → Type 0
 IsField counts e = e.field < slice_index counts e.node
 
--- the number of each node's first field, and behind these how many fields there are
+-- the number of each node's first field, followed by the number of all fields
 pub record AreFirsts (counts firsts : List ℕ) : Type 0 where
   pub one_more : length firsts ≡ length counts + 1
   pub sums : (n : ℕ) → n ≤ length counts → slice_index firsts n ≡ sum (take n counts)
@@ -30,7 +30,7 @@ pub record AreFirsts (counts firsts : List ℕ) : Type 0 where
 abbrev pub place_in : List ℕ → End → ℕ
 place_in firsts e = slice_index firsts e.node + e.field
 
--- the same, where the node has such a field
+-- like `place_in`, if the node has that field
 abbrev pub number_of : List ℕ → End → Option ℕ
 number_of firsts e =
     if nat_lt e.field (slice_index firsts (e.node + 1) - slice_index firsts e.node)
@@ -39,7 +39,7 @@ number_of firsts e =
 
 -- ---- the table
 
--- the part of the table that begins at a start and ends at the next
+-- the part of the table from one start to the next
 abbrev pub part_at : List ℕ → List ℕ → ℕ → List ℕ
 part_at starts numbers k = slice_range numbers (slice_index starts k) (slice_index starts (k + 1))
 
@@ -50,7 +50,7 @@ pub record IsGroup (starts numbers : List ℕ) (k : ℕ) (group : List ℕ) : Ty
   pub within : slice_index starts (k + 1) ≤ length numbers
   pub holds : part_at starts numbers k ≡ group
 
--- the table holds the numbers of each output's routes, and no route has another source
+-- the table holds the numbers of each output's routes; no route has any other source
 pub record AreGrouped (routes : List Route) (firsts starts numbers : List ℕ) : Type 0 where
   pub few : length routes ≤ 65536
   pub outside : (e : End) → number_of firsts e ≡ None → places_of e routes ≡ []

@@ -11,28 +11,28 @@ use Rattle.route_core.specs.declared.fault.RouteFault.{RouteFault}
 use Rattle.route_core.specs.declared.fault.RouteFaultKind.{RouteFaultKind}
 use Rattle.route_core.specs.declared.fault.RouteFaultKind.TheVariants.{TooMany, Memory}
 
--- memory was refused
+-- the fault if memory is refused
 abbrev pub memory : RouteFault
 memory = record { kind = Memory; line = 0 }
 
--- a fault stands on the line of its ROUTE
+-- a fault has the line of its ROUTE
 abbrev pub at_line : ℕ → Result Route RouteFaultKind → Result Route RouteFault
 at_line line (Ok route) = Ok route
 at_line line (Err kind) = Err (record { kind = kind; line = line })
 
--- the route stands before the others, its fault in their place
+-- puts the route before the others; the first fault is the result
 abbrev pub before_others : Result Route RouteFault → Result (List Route) RouteFault
     → Result (List Route) RouteFault
 before_others (Err fault) others = Err fault
 before_others (Ok route) (Err fault) = Err fault
 before_others (Ok route) (Ok others) = Ok (route ∷ others)
 
--- each route in the order of the text, or the first fault
+-- all routes in the order of the text, or the first fault
 abbrev pub each_of : SceneView → List FlatRoute → Result (List Route) RouteFault
 each_of scene [] = Ok []
 each_of scene (r ∷ rs) = before_others (at_line r.line (route_of scene r)) (each_of scene rs)
 
--- a scene has no more routes (our choice); an expanded document has no more
+-- the limit of a scene's routes (our choice), which an expanded document keeps
 abbrev pub limited : List Route → Result (List Route) RouteFault
 limited routes =
     if nat_lt MOST_ROUTES (length routes)
@@ -43,6 +43,6 @@ abbrev pub firsts_of : Result (List Route) RouteFault → Result (List Route) Ro
 firsts_of (Err fault) = Err fault
 firsts_of (Ok routes) = limited (firsts routes)
 
--- the routes of the document, each where it stands first
+-- the routes of the document, without repeats
 abbrev pub resolved : Flat → SceneView → Result (List Route) RouteFault
 resolved flat scene = firsts_of (each_of scene flat.routes)

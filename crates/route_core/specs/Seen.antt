@@ -1,4 +1,4 @@
--- Routes by their numbers, in an order.
+-- An order of routes, by their numbers.
 use Rattle.std.specs.Prelude.{ℕ, ◌≡◌, List}
 use Rattle.std.specs.List.{list_any}
 use Rattle.std.specs.Ordering.{nat_cmp, ordering_then}

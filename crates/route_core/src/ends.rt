@@ -1,4 +1,4 @@
-//! What the ends of a document's route name in its scene.
+//! What the ends of a document's route refer to in its scene.
 
 ghost use Rattle.std.specs.Prelude.{◌≡◌, ◌^◌, ◌<◌, IfOk, IfSome};
 ghost use Rattle.route_core.specs.Ends as spec;
@@ -18,7 +18,8 @@ pub(crate) struct SceneField {
     pub(crate) field_type: FieldType,
 }
 
-/// The route of the scene, or its source's fault, its target's, or that of both.
+/// Returns the route in the scene. Fails with the source's fault, the target's, or that of both
+/// together.
 pub(crate) fn route_of(
     scene: &Scene,
     tables: &RowTables<'_>,
@@ -33,7 +34,7 @@ pub(crate) fn route_of(
     joined(source, target)
 }
 
-/// The number in the scene of a node of the document; none where the scene hasn't the node.
+/// Returns the number in the scene of a node of the document, if the scene has the node.
 fn node_of(scene: &Scene, node: u32) -> Option<u32>
     ensures exact { result ≡ spec.node_of scene.now node }
     ensures numbered { IfSome result (λ n. n < 2 ^ 32) }
@@ -100,7 +101,7 @@ fn input_named(
     Err(RouteFaultKind::NotInput)
 }
 
-/// The output that a source names.
+/// Returns the output that a source names.
 fn source_of(
     scene: &Scene,
     tables: &RowTables<'_>,
@@ -118,7 +119,7 @@ fn source_of(
     }
 }
 
-/// The input that a destination names.
+/// Returns the input that a destination names.
 fn target_of(
     scene: &Scene,
     tables: &RowTables<'_>,
@@ -135,7 +136,7 @@ fn target_of(
     }
 }
 
-/// The route of these ends: they have one type, and hold no nodes.
+/// Joins two ends that have the same type and hold no nodes.
 fn joined(source: SceneField, target: SceneField) -> Result<Route, RouteFaultKind>
     ensures { result ≡ spec.joined source target }
 {

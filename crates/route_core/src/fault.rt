@@ -1,4 +1,4 @@
-//! Why a document's routes are no routes of its scene.
+//! Faults of routes: why a document's ROUTE can't become a route of its scene.
 
 ghost use Rattle.std.specs.Prelude.{◌≡◌};
 ghost use Rattle.route_core.specs.FaultName.{fault_name};
@@ -9,16 +9,16 @@ use std::alloc::AllocError;
 use std::{error, fmt};
 use thiserror::Error;
 
-/// Why a route is none of the scene, and on which line its ROUTE stands.
+/// A fault of a route, and the line of its ROUTE.
 #[derive(Clone, Copy, Debug, PartialEq, Eq)]
 pub struct RouteFault {
     pub kind: RouteFaultKind,
-    /// From 1, or 0 where the fault has no place in the text.
+    /// The line number, counted from 1, or 0 if the fault has no place in the text.
     pub line: u32,
 }
 
-/// The faults of routes. Of the first faulty route its source's is answered, then its target's,
-/// then one of both; TooMany only where no route is faulty.
+/// The kinds of faults of routes. The first faulty route is reported: first a fault of its source,
+/// then of its target, then of both together. TooMany is only reported if no route is faulty.
 #[derive(Clone, Copy, Debug, PartialEq, Eq, Error)]
 pub enum RouteFaultKind {
     #[error("no node of this name stands before the ROUTE")]
@@ -36,7 +36,7 @@ pub enum RouteFaultKind {
     /// Nodes aren't sent.
     #[error("the fields hold nodes")]
     NodeEvent,
-    /// More than 65,536 routes, repeated ones left out. Nothing in the text is its place.
+    /// More than 65,536 routes, not counting repeats. The fault has no place in the text.
     #[error("there are too many routes")]
     TooMany,
     #[error("memory was refused")]
@@ -44,7 +44,7 @@ pub enum RouteFaultKind {
 }
 
 impl RouteFaultKind {
-    /// The name of the variant.
+    /// Returns the name of the variant.
     pub fn name(self) -> &'static str
         ensures { result.now ≡ fault_name self }
     {

@@ -1,4 +1,4 @@
-//! Each route where it stands first.
+//! Routes without repeats.
 
 ghost use Rattle.std.specs.Prelude.{◌≡◌, IfOk, OnOk};
 ghost use Rattle.route_core.specs.Firsts.{added, firsts};
@@ -9,8 +9,7 @@ use std::alloc::{AllocError, Global};
 use std::collections::BTreeSet;
 use x3d_lists::Items;
 
-/// A route by its numbers, which have an order: found in a tree, no choice of them costs more than
-/// another.
+/// A route as ordered numbers. A tree finds them at a cost that no choice of routes can raise.
 type RouteKey = (u32, u16, u32, u16);
 
 fn key_of(route: Route) -> RouteKey
@@ -24,7 +23,7 @@ fn key_of(route: Route) -> RouteKey
     )
 }
 
-/// A route behind the others, unless it is among them.
+/// Appends a route, unless it is among the earlier ones.
 fn add(
     route: Route,
     seen: &mut BTreeSet<RouteKey>,
@@ -40,7 +39,7 @@ fn add(
     Ok(())
 }
 
-/// Each route where it stands first.
+/// Returns the routes without repeats, each at its first place. Fails if memory is refused.
 pub fn without_repeats(alloc: Global, routes: &[Route]) -> Result<Items<Route>, AllocError>
     ensures { IfOk result (λ all. all ≡ firsts routes.now) }
 {

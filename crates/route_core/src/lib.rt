@@ -1,9 +1,13 @@
 //! Routes: which outputs of a scene lead to which inputs (ISO/IEC 19775-1, ROUTE).
 //!
-//! `routes` has the routes of a scene. They are made by `resolving` of what their `ends` name, by
-//! the `names` of fields (by the tables of `named` where a node declares many), and found by
-//! `outputs`, the numbers of fields among those of all nodes, in a table of `grouped` numbers;
-//! `firsts` leaves out what stood before, and `fault` says why there are none.
+//! | Module | Has |
+//! |---|---|
+//! | `routes` | the routes of a scene, and those from an output |
+//! | `resolving`, `ends` | the routes of a document in its scene, and what their ends refer to |
+//! | `names`, `named` | fields by name, and tables for nodes that declare many fields |
+//! | `outputs`, `grouped` | fields numbered across all nodes, and tables of grouped numbers |
+//! | `firsts` | routes without repeats |
+//! | `fault` | why a route is refused |
 #![tactic(auto)]
 
 mod ends;

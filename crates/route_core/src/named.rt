@@ -1,4 +1,4 @@
-//! Fields by their names, in tables where a node declares many.
+//! Fields by name, in tables for nodes that declare many.
 
 ghost use Rattle.std.specs.Prelude.{◌≡◌, ◌<◌, IfOk, option_map, slice_get};
 ghost use Rattle.x3d_values.specs.Tables.{numbered, row_named};
@@ -13,7 +13,7 @@ use std::alloc::{AllocError, AllocFailed, Global};
 use std::collections::BTreeMap;
 use x3d_values::FieldRow;
 
-/// The fields of a node that declares no more are found faster by a search than by a table.
+/// The number of declared fields up to which a search is faster than a table.
 const FEW: usize = 8;
 
 /// The first field of each name of a node.
@@ -22,7 +22,7 @@ pub struct RowTable<'a> {
     pub rows: BTreeMap<&'a str, FieldRow>,
 }
 
-/// The tables of those nodes of a scene that declare many fields, by the nodes' numbers.
+/// The tables of those nodes that declare many fields, by node number.
 #[derive(Drop)]
 pub struct RowTables<'a> {
     pub tables: BTreeMap<u32, RowTable<'a>>,
@@ -67,7 +67,7 @@ impl<'a> RowTable<'a> {
         Ok(())
     }
 
-    /// The field of that number comes before the others of its name.
+    /// Inserts the field with number `number`, replacing later ones of the same name.
     fn put(
         &mut self,
         scene: &'a Scene,
@@ -84,7 +84,7 @@ impl<'a> RowTable<'a> {
     }
 }
 
-/// The table of all fields of a node, put in from the last to the first.
+/// Returns the table of all fields of a node, inserted from the last to the first.
 fn table_of<'a>(alloc: Global, scene: &'a Scene, node: u32) -> Result<RowTable<'a>, AllocError>
     ensures { IfOk result (λ table. rows_in table ≡ rows_from 0 (rows_at scene.now node)) }
 {
@@ -113,7 +113,7 @@ impl<'a> RowTables<'a> {
         self.tables.get(&node)
     }
 
-    /// The node of that number has this table.
+    /// Sets the table of node `node`.
     fn insert(&mut self, node: u32, table: RowTable<'a>) -> Result<(), AllocError>
         ensures { (scene : SceneView) → AreTables scene self.old
             → rows_in table.entry ≡ rows_from 0 (rows_at scene node)
@@ -123,7 +123,7 @@ impl<'a> RowTables<'a> {
         Ok(())
     }
 
-    /// The node of that number has a table, if it declares many fields.
+    /// Adds a table for node `node`, if the node declares many fields.
     fn add(&mut self, alloc: Global, scene: &'a Scene, node: u32) -> Result<(), AllocError>
         ensures { AreTables scene.now self.old → IfOk result (λ _. AreTables scene.now self.new) }
     {
@@ -135,7 +135,7 @@ impl<'a> RowTables<'a> {
     }
 }
 
-/// The tables of the nodes of a scene.
+/// Returns the tables of the nodes of a scene.
 pub(crate) fn tables_of<'a>(alloc: Global, scene: &'a Scene) -> Result<RowTables<'a>, AllocError>
     ensures { IfOk result (λ tables. AreTables scene.now tables) }
 {
@@ -146,7 +146,7 @@ pub(crate) fn tables_of<'a>(alloc: Global, scene: &'a Scene) -> Result<RowTables
     Ok(tables)
 }
 
-/// The first field of that name of a node of the scene that has these tables.
+/// Returns the first field with the name of a node, by its table if there is one.
 pub(crate) fn field_named(
     scene: &Scene,
     tables: &RowTables<'_>,

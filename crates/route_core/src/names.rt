@@ -10,8 +10,8 @@ use crate::named::{RowTables, field_named};
 use scene_core::Scene;
 use x3d_values::{FieldRow, FieldType};
 
-/// The field that a route's source names: its own name, or that of an inputOutput field before
-/// `_changed`. A rotation counts as not there.
+/// Returns the field that a route's source names: by the field's own name, or by the name of an
+/// inputOutput field followed by `_changed`. Rotations count as missing.
 #[tactic(auto, unfolding(crate::specs::Names::source_field))]
 pub(crate) fn source_field(
     scene: &Scene,
@@ -28,8 +28,8 @@ pub(crate) fn source_field(
     changed_alias(scene, tables, node, name)
 }
 
-/// The field that a route's destination names: its own name, or that of an inputOutput field
-/// behind `set_`. A rotation counts as not there.
+/// Returns the field that a route's destination names: by the field's own name, or by `set_`
+/// followed by the name of an inputOutput field. Rotations count as missing.
 #[tactic(auto, unfolding(crate::specs::Names::target_field))]
 pub(crate) fn target_field(
     scene: &Scene,
@@ -46,7 +46,7 @@ pub(crate) fn target_field(
     set_alias(scene, tables, node, name)
 }
 
-/// The field of that name; a rotation counts as not there.
+/// Returns the field with the name. Rotations count as missing.
 fn exact(scene: &Scene, tables: &RowTables<'_>, node: u32, name: &str) -> Option<FieldRow>
     requires { AreTables scene.now tables.now }
     ensures { result ≡ spec.exact (rows_at scene.now node) name.now }
@@ -58,7 +58,7 @@ fn exact(scene: &Scene, tables: &RowTables<'_>, node: u32, name: &str) -> Option
     Some(row)
 }
 
-/// The inputOutput field of that name.
+/// Returns the inputOutput field with the name.
 fn exposed(scene: &Scene, tables: &RowTables<'_>, node: u32, name: &str) -> Option<FieldRow>
     requires { AreTables scene.now tables.now }
     ensures { result ≡ spec.exposed (rows_at scene.now node) name.now }
@@ -70,7 +70,7 @@ fn exposed(scene: &Scene, tables: &RowTables<'_>, node: u32, name: &str) -> Opti
     None
 }
 
-/// The inputOutput field of the name behind `set_`.
+/// Returns the inputOutput field whose name follows `set_`.
 fn set_alias(scene: &Scene, tables: &RowTables<'_>, node: u32, name: &str) -> Option<FieldRow>
     requires { AreTables scene.now tables.now }
     ensures { result ≡ set_alias (spec.exposed (rows_at scene.now node)) name.now }
@@ -79,7 +79,7 @@ fn set_alias(scene: &Scene, tables: &RowTables<'_>, node: u32, name: &str) -> Op
     exposed(scene, tables, node, name)
 }
 
-/// The inputOutput field of the name before `_changed`.
+/// Returns the inputOutput field whose name precedes `_changed`.
 fn changed_alias(scene: &Scene, tables: &RowTables<'_>, node: u32, name: &str) -> Option<FieldRow>
     requires { AreTables scene.now tables.now }
     ensures { result ≡ changed_alias (spec.exposed (rows_at scene.now node)) name.now }

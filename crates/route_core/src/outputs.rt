@@ -1,4 +1,4 @@
-//! The fields of all nodes by number: those of the first node, then those of the next.
+//! The fields of all nodes by number: first those of the first node, then those of the next.
 
 ghost use Rattle.std.specs.Prelude.{◌≡◌, ◌^◌, ◌≤◌, ◌<◌, IfOk, All, length, map, sum};
 ghost use Rattle.route_core.specs.Outputs.{AreFirsts, IsField, number_of, place_in};
@@ -6,7 +6,8 @@ ghost use Rattle.route_core.specs.Outputs.{AreFirsts, IsField, number_of, place_
 use scene_core::{End, Route};
 use std::alloc::{AllocError, Global};
 
-/// The number of each node's first field, and behind these how many fields there are.
+/// Returns the number of each node's first field, followed by the number of all fields. Fails if
+/// memory is refused.
 pub fn firsts_of(alloc: Global, field_counts: &[u32]) -> Result<Vec<usize>, AllocError>
     requires few { All (λ count. count ≤ 65536) field_counts.now }
     requires nodes { length field_counts.now ≤ 2 ^ 32 }
@@ -22,7 +23,7 @@ pub fn firsts_of(alloc: Global, field_counts: &[u32]) -> Result<Vec<usize>, Allo
     Ok(firsts)
 }
 
-/// The number of that field of that node; none where the node hasn't such a field.
+/// Returns the number of a field among the fields of all nodes, if the node has that field.
 pub fn number_of(firsts: &[usize], end: End) -> Option<usize>
     ensures { result ≡ number_of firsts.now end }
 {
@@ -35,7 +36,7 @@ pub fn number_of(firsts: &[usize], end: End) -> Option<usize>
     None
 }
 
-/// The numbers of the sources of the routes.
+/// Returns the numbers of the routes' sources.
 pub(crate) fn sources_of(
     alloc: Global,
     field_counts: &[u32],

@@ -1,4 +1,4 @@
-//! From the routes of a document to those of its scene.
+//! Resolves the routes of a document in its scene.
 
 ghost use Rattle.std.specs.Prelude.{◌≡◌, ◌^◌, ◌≤◌, IfOk, All, length, take};
 ghost use Rattle.x3d_lists.specs.Answers.{Gives};
@@ -16,13 +16,13 @@ use scene_core::{Route, Scene};
 use std::alloc::{AllocError, Global};
 use x3d_lists::Items;
 
-/// More routes are refused. An expanded document has no more.
+/// The largest number of routes in a scene. An expanded document has no more.
 pub const MOST_ROUTES: usize = 65_536;
 
-/// More nodes have no numbers of 32 bits.
+/// The largest number of nodes: node numbers have 32 bits.
 pub(crate) const MOST_NODES: usize = 1 << 32;
 
-/// Each route in the order of the text, or the first fault.
+/// Returns all routes in the order of the text, or the first fault.
 pub(crate) fn each_of(
     alloc: Global,
     scene: &Scene,
@@ -37,7 +37,7 @@ pub(crate) fn each_of(
     all
 }
 
-/// The same, with the tables of the scene.
+/// Like `each_of`, with the tables of the scene.
 fn each_by(
     alloc: Global,
     scene: &Scene,
@@ -55,7 +55,7 @@ fn each_by(
     Ok(all)
 }
 
-/// Each route where it stands first, unless these are too many.
+/// Returns the routes without repeats, unless there are too many.
 pub(crate) fn distinct_routes(alloc: Global, each: &[Route]) -> Result<Items<Route>, RouteFault>
     ensures exact { Gives memory (λ all. all) result (limited (firsts each.now)) }
     ensures are { IfOk result (λ all. all ≡ firsts each.now) }
@@ -72,8 +72,8 @@ pub(crate) fn distinct_routes(alloc: Global, each: &[Route]) -> Result<Items<Rou
     Ok(routes)
 }
 
-/// How many fields each node of the scene has: of the first 2^32 nodes, which is of all nodes of a
-/// scene that was built.
+/// Returns the number of fields of each node, for the first 2^32 nodes. A scene that was built has
+/// no more nodes. Fails if memory is refused.
 pub fn field_counts(alloc: Global, scene: &Scene) -> Result<Vec<u32>, AllocError>
     ensures are { IfOk result (λ counts. counts.items ≡ take (2 ^ 32) (field_counts scene.now)) }
     ensures few { IfOk result (λ counts. All (λ count. count ≤ 65536) counts.items) }

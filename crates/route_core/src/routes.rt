@@ -43,8 +43,11 @@ impl Routes {
     ghost use Rattle.route_core.specs.Outputs.{places_of, IsField};
     ghost use Rattle.route_core.specs.Resolved.{memory, resolved};
 
-    /// The routes of an expanded document in its scene: in the order of the text, without repeats;
-    /// more than 65,536 are refused.
+    /// Resolves the routes of an expanded document in its scene: in the order of the text, without
+    /// repeats.
+    ///
+    /// Fails with the fault of the first faulty route, with `TooMany` if there are more than 65,536
+    /// routes, and with `Memory` if memory is refused.
     pub fn resolve(alloc: Global, flat: &Flat, scene: &Scene) -> Result<Routes, RouteFault>
         ensures { Gives memory (λ routes. routes) result (resolved flat.now scene.now) }
     {
@@ -54,7 +57,7 @@ impl Routes {
         Ok(Routes::new(alloc, routes, counts.as_slice())?)
     }
 
-    /// The routes of a scene whose nodes have that many fields each.
+    /// Makes the routes of a scene whose nodes have `field_counts` fields each.
     pub(crate) fn new(
         alloc: Global,
         routes: Items<Route>,
@@ -78,14 +81,14 @@ impl Routes {
         })
     }
 
-    /// All of them, in the order of the text.
+    /// Returns all routes, in the order of the text.
     pub fn as_slice(&self) -> &[Route]
         ensures { result.now ≡ self.now }
     {
         self.routes.as_slice()
     }
 
-    /// How many there are: at most 65,536.
+    /// Returns the number of routes: at most 65,536.
     pub fn len(&self) -> usize
         ensures count { result ≡ length self.now }
         ensures few { result ≤ 65536 }
@@ -93,7 +96,7 @@ impl Routes {
         self.routes.len()
     }
 
-    /// The route of that number, in the order of the text.
+    /// Returns a route by its number in the order of the text. The number must be below `len`.
     pub fn route(&self, number: u32) -> Route
         requires { number < length self.now }
         ensures { slice_get self.now number ≡ Some result }
@@ -101,7 +104,7 @@ impl Routes {
         self.routes.as_slice()[number as usize]
     }
 
-    /// The numbers of the routes with that source, rising.
+    /// Returns the numbers of the routes from output `source`, rising.
     pub fn from_output(&self, source: End) -> &[u32]
         ensures { result.now ≡ places_of source self.now }
     {
@@ -112,7 +115,7 @@ impl Routes {
     }
 }
 
-/// The part of the table that begins where `starts` says.
+/// Returns the part of the table for an output.
 fn part<'a>(starts: &[u32], numbers: &'a [u32], output: usize) -> &'a [u32]
     requires started { output + 1 < length starts.now }
     requires rising { slice_index starts.now output ≤ slice_index starts.now (output + 1) }

@@ -17,7 +17,7 @@ use Rattle.scene_core.specs.Shape.{declared_by}
 use Rattle.scene_core.specs.Typed.{values_of, all_children}
 use Rattle.scene_core.specs.Wide.{any_wide}
 
--- a node; it keeps its name where that is its label
+-- a node, which keeps its name if the name is its label
 abbrev pub node_of : List FlatNode → List ℕ → (List ℕ → Bool) → FlatNode
     → Result SceneNode SceneFault
 node_of nodes numbers is_label node =
@@ -29,7 +29,7 @@ node_of nodes numbers is_label node =
       values = values;
     })
 
--- the next node behind those made so far, whose count is its number
+-- appends the next node, whose number is the count of the earlier nodes
 abbrev pub with_node : List FlatNode → List ℕ → (List ℕ → Bool) → Option FlatNode → List SceneNode
     → Result (List SceneNode) SceneFault
 with_node nodes numbers alone None made = Ok made
@@ -45,7 +45,7 @@ nodes_by nodes s alone =
 abbrev pub nodes_of : List FlatNode → Numbering → Result (List SceneNode) SceneFault
 nodes_of nodes s = nodes_by nodes s (is_alone (names_of nodes s.order))
 
--- chains first, then places, sensors and fields
+-- chains are checked first, then places, sensors and fields
 unfoldable pub limits : List SceneNode → List ℕ → Result (Unit {0}) SceneFault
 limits nodes roots =
     if too_deep nodes
@@ -55,11 +55,11 @@ limits nodes roots =
     then Err (fault TooMany 0)
     else Ok tt)
 
--- a scene keeps to them
+-- a scene keeps the limits
 abbrev pub IsLimited : List SceneNode → List ℕ → Type 0
 IsLimited nodes roots = limits nodes roots ≡ Ok tt
 
--- what nodes are called in the scene
+-- the numbers that nodes have in the scene
 abbrev pub called : List ℕ → List ℕ → List ℕ
 called numbers ns = map (λ n. slice_index_or numbers n 0) ns
 

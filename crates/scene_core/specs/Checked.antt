@@ -1,4 +1,4 @@
--- The scene of a document in parts, for the functions that make it: nothing here is to be believed.
+-- Parts of the definition of a scene, for the functions that make it. They define nothing new.
 use Rattle.std.specs.Prelude.{ℕ, List, Result, Ok}
 use Rattle.proto_flat.specs.declared.flat.Flat.{Flat}
 use Rattle.scene_core.specs.declared.fault.SceneFault.{SceneFault}
@@ -8,14 +8,14 @@ use Rattle.scene_core.specs.Building.{limits, nodes_of}
 use Rattle.scene_core.specs.Faults.{◌>>=◌}
 use Rattle.scene_core.specs.Typed.{all_children}
 
--- roots and helpers are child nodes, and nothing is beyond a limit
+-- roots and helpers are child nodes, and no limit is exceeded
 abbrev pub check : Flat → List SceneNode → List ℕ → Result (Unit {0}) SceneFault
 check flat nodes roots =
     all_children flat.nodes flat.roots >>= λ _.
     all_children flat.nodes flat.helpers >>= λ _.
     limits nodes roots
 
--- the nodes of a scene whose roots are called so, where that is so
+-- the nodes of a scene with these roots, if the checks pass
 abbrev pub checked_nodes : Flat → Numbering → List ℕ → Result (List SceneNode) SceneFault
 checked_nodes flat s roots =
     nodes_of flat.nodes s >>= λ nodes.

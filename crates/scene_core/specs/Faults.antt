@@ -1,10 +1,10 @@
--- Why a document is no scene, and steps that may fail.
+-- Faults of a scene, and steps that may fail.
 use Rattle.std.specs.Prelude.{ℕ, List, [], ◌∷◌, ◌++◌, codes, Result, Ok, Err}
 use Rattle.scene_core.specs.declared.fault.SceneFault.{SceneFault}
 use Rattle.scene_core.specs.declared.fault.SceneFaultKind.{SceneFaultKind}
 use Rattle.scene_core.specs.declared.fault.SceneFaultKind.TheVariants.{WrongType, ValueRange, RotationUnsupported, NotInitial, BadChild, TooDeep, TooMany, Memory}
 
--- the name of the fault, as it stands in the type
+-- the name of the variant
 abbrev pub fault_name : SceneFaultKind → List ℕ
 fault_name WrongType = codes "WrongType"
 fault_name ValueRange = codes "ValueRange"
@@ -18,7 +18,7 @@ fault_name Memory = codes "Memory"
 abbrev pub fault : SceneFaultKind → ℕ → SceneFault
 fault kind line = record { kind = kind; line = line }
 
--- the answer where memory was refused
+-- the fault if memory is refused
 abbrev pub memory : SceneFault
 memory = fault Memory 0
 
@@ -28,12 +28,12 @@ abbrev pub ◌>>=◌ : {A B : Type 0} → Result A SceneFault → (A → Result 
 Ok a >>= f = f a
 Err e >>= f = Err e
 
--- each item in turn, with what was made so far; the first fault is the answer
+-- applies the step to each item in turn; returns the first fault
 abbrev pub through : {A X : Type 0} → (A → X → Result X SceneFault) → List A → X
     → Result X SceneFault
 through step [] made = Ok made
 through step (item ∷ items) made = step item made >>= λ more. through step items more
 
--- the item behind those made so far, or its fault
+-- appends an item, or returns the item's fault
 abbrev pub with_item : {A : Type 0} → List A → Result A SceneFault → Result (List A) SceneFault
 with_item made item = item >>= λ x. Ok (made ++ x ∷ [])

@@ -1,6 +1,6 @@
--- The names that nodes keep (our choice): DEF names that are the labels of their nodes. So are
--- those that one node alone has, and that aren't `N` with digits; and so is `N` with the number of
--- the node itself, whoever else has it.
+-- The names that nodes keep (our choice). A node keeps its DEF name if the name is its label. A DEF
+-- name is the node's label if exactly one node has it and it isn't `N` with digits. `N` with the
+-- number of the node itself is also its label, even if other nodes have that name.
 use Rattle.std.specs.Prelude.{ℕ, Bool, false, not, ◌&&◌, ◌||◌, ◌==◌, length, nat_le, List, [], ◌∷◌, Option, Some, None, slice_get, is_none, if◌then◌else◌}
 use Rattle.std.specs.List.{filter_map, count_by, list_all}
 use Rattle.std.specs.Option.{option_and_then}
@@ -15,7 +15,7 @@ use Rattle.scene_core.specs.Scene.{label_or}
 abbrev pub name_at : List FlatNode → ℕ → Option (List ℕ)
 name_at nodes n = option_and_then (λ (node : FlatNode). node.name) (slice_get nodes n)
 
--- the names that the nodes of a scene have
+-- the names of the nodes of a scene
 abbrev pub names_of : List FlatNode → List ℕ → List (List ℕ)
 names_of nodes order = filter_map (name_at nodes) order
 
@@ -25,20 +25,20 @@ is_digit c = nat_le 48 c && nat_le c 57
 abbrev pub are_digits : List ℕ → Bool
 are_digits text = not (length text == 0) && list_all is_digit text
 
--- `N` and one digit or more
+-- `N` and one or more digits
 abbrev pub is_numbered : List ℕ → Bool
 is_numbered [] = false
 is_numbered (c ∷ rest) = if c == 78 then are_digits rest else false
 
--- one node alone has the name
+-- exactly one node has the name
 abbrev pub is_alone : List (List ℕ) → List ℕ → Bool
 is_alone names name = count_by (λ other. bytes_eq other name) names == 1
 
--- what the node of that number is called without a name of its own
+-- the name is the label that the node with that number has without a name of its own
 abbrev pub is_own_number : ℕ → List ℕ → Bool
 is_own_number number name = bytes_eq name (label_or number None)
 
--- the DEF name is the label of the node of that number
+-- the DEF name is the label of the node with that number
 abbrev pub is_label : (List ℕ → Bool) → ℕ → List ℕ → Bool
 is_label alone number name = (alone name && not (is_numbered name)) || is_own_number number name
 
@@ -47,7 +47,7 @@ abbrev pub label_by : (List ℕ → Bool) → Option (List ℕ) → Option (List
 label_by is_label (Some name) = if is_label name then Some name else None
 label_by is_label None = None
 
--- ---- what is known of names after some of them: whether one was alone
+-- ---- what is known after some of the names: for each name seen, whether it appeared only once
 
 abbrev pub Known : Type 0
 Known = List ℕ → Option Bool

@@ -1,6 +1,6 @@
--- Which number each node has in a scene (our choice of order): from the roots in order, each node's
--- node fields in table order, children first, a node is numbered from 0 when it closes at its first
--- appearance; then the helpers likewise.
+-- The number of each node in a scene (the order is our choice). Nodes are numbered from 0 in the
+-- order in which they close at their first appearance: from the roots in order, through each node's
+-- node fields in table order, children first. The helpers follow in the same way.
 use Rattle.std.specs.Prelude.{ℕ, zero, suc, ◌+◌, ◌++◌, Bool, true, false, not, List, [], ◌∷◌, length, replicate, slice_index_or, slice_set, if◌then◌else◌}
 use Rattle.std.specs.List.{fold}
 use Rattle.proto_flat.specs.declared.flat.FlatNode.{FlatNode}
@@ -18,8 +18,8 @@ appear s n = record s { opened = slice_set s.opened n true }
 abbrev pub close : Numbering → ℕ → Numbering
 close s n = record s { numbers = slice_set s.numbers n (length s.order); order = s.order ++ n ∷ [] }
 
--- a node at an appearance: at its first the nodes inside come before it. Each step inward opens a
--- node, so as much fuel as there are nodes is never used up.
+-- a node at an appearance: at its first, the nodes inside come before it. Each step inward opens a
+-- node, so as much fuel as there are nodes never runs out.
 unfoldable pub visit : ℕ → List FlatNode → Numbering → ℕ → Numbering
 visit zero nodes s n = s
 visit (suc fuel) nodes s n =

@@ -1,5 +1,5 @@
 -- Places and sensors (the limits of their numbers are our choice). A place is a root, or a child of
--- a place by a list `children`: one node has as many places as there are paths to it.
+-- a place by a list `children`. A node has as many places as there are paths to it.
 use Rattle.std.specs.Prelude.{ℕ, ◌+◌, ◌++◌, ◌==◌, zero, suc, Bool, true, false, ◌||◌, nat_lt, min, List, [], ◌∷◌, length, map, Option, Some, None, codes, slice_get, slice_index_or, if◌then◌else◌}
 use Rattle.std.specs.List.{list_any, fold, sum_by}
 use Rattle.std.specs.Option.{option_and_then, option_map_or}
@@ -18,7 +18,7 @@ children_at node (Some row) = nodes_in (option_and_then (λ v. v) (slice_get nod
 abbrev pub own_children : SceneNode → List ℕ
 own_children node = children_at node (row_named 0 (codes "children") (rows node.node_type))
 
--- of each node, how many places there are from one place of it down, itself included, that many
+-- for each node, the number of places from one place of it down, itself included, at most that many
 -- levels deep
 unfoldable pub places_below : List SceneNode → ℕ → List ℕ
 places_below nodes zero = map (λ _. 0) nodes
@@ -26,14 +26,14 @@ places_below nodes (suc d) =
     map (λ node. 1 + sum_by (λ n. slice_index_or (places_below nodes d) n 0) (own_children node))
     nodes
 
--- the places of a scene whose chains are no longer than that
+-- the number of places of a scene whose chains are no longer than `depth`
 abbrev pub places : ℕ → List SceneNode → List ℕ → ℕ
 places depth nodes roots = sum_by (λ n. slice_index_or (places_below nodes depth) n 0) roots
 
 abbrev pub max_places : ℕ
 max_places = 65536
 
--- counts go no further than to where there are too many
+-- counts stop where there are too many
 abbrev pub enough : ℕ
 enough = 65537
 
@@ -56,7 +56,7 @@ abbrev pub is_sensor : List SceneNode → ℕ → Bool
 is_sensor nodes n =
     option_map_or (λ (node : SceneNode). is_pointing node.node_type) (slice_get nodes n) false
 
--- the node behind the sensors so far, if it is a sensor that is not among them
+-- appends the node, if it is a sensor that isn't among the earlier ones
 abbrev pub with_sensor : List SceneNode → List ℕ → ℕ → List ℕ
 with_sensor nodes sensors n =
     if is_sensor nodes n

@@ -35,7 +35,7 @@ shape_of n = shape_by n.node_type n.declared
 abbrev pub shapes_of : SceneView → List Shape
 shapes_of s = map shape_of s.nodes
 
--- the number in the scene of a node of the expanded document, where the scene has the node
+-- the number in the scene of a node of the expanded document, if the scene has the node
 abbrev pub number_of : SceneView → ℕ → Option ℕ
 number_of s node = if slice_index_or s.opened node false then slice_get s.numbers node else None
 
@@ -45,7 +45,7 @@ value_at s node field =
     option_and_then (λ (n : SceneNode). option_and_then (λ v. v) (slice_get n.values field))
     (slice_get s.nodes node)
 
--- ---- what is asked of a scene
+-- ---- queries of a scene
 
 abbrev pub type_at : SceneView → ℕ → Option NodeType
 type_at s node = slice_get (types_of s) node
@@ -53,17 +53,17 @@ type_at s node = slice_get (types_of s) node
 abbrev pub shape_at : SceneView → ℕ → Option Shape
 shape_at s node = slice_get (shapes_of s) node
 
--- the fields of a node, none where there is no such node
+-- the fields of a node, or none if there is no such node
 abbrev pub rows_at : SceneView → ℕ → List FieldRowView
 rows_at s node = option_map_or rows_of (shape_at s node) []
 
--- the plain name of a field: by the table of fields, or as a Script declares it
+-- the plain name of a field: from the table of fields, or as a Script declares it
 abbrev pub field_name : SceneView → End → List ℕ
 field_name s end =
     unwrap_or
     (option_map (λ (e : FieldRowView). e.name) (slice_get (rows_at s end.node) end.field)) []
 
--- those of them that the node declares
+-- the fields that the node declares
 abbrev pub declared_at : SceneView → ℕ → List DeclaredField
 declared_at s node =
     option_map_or (λ (n : SceneNode). numbered_fields n.node_type n.declared)
@@ -83,7 +83,7 @@ children_of s node =
     children_in s node
     (option_and_then (λ t. row_named 0 (codes "children") (rows t)) (type_at s node))
 
--- a node without a label of its own is called `N` and its number
+-- the label of a node; without a name of its own, `N` and its number
 abbrev pub label_or : ℕ → Option (List ℕ) → List ℕ
 label_or node (Some name) = name
 label_or node None = codes "N" ++ decimal node
@@ -92,7 +92,7 @@ unfoldable pub label_of : SceneView → ℕ → List ℕ
 label_of s node =
     label_or node (option_and_then (λ (n : SceneNode). n.label) (slice_get s.nodes node))
 
--- the DEF name of a node, where it is its label
+-- the DEF name of a node, if the name is its label
 abbrev pub name_at : SceneView → ℕ → Option (List ℕ)
 name_at s node = option_and_then (λ (n : SceneNode). n.label) (slice_get s.nodes node)
 

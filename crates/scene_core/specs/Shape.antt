@@ -1,5 +1,5 @@
--- The fields of nodes: those of a type, and behind them those that a Script declares (ISO/IEC
--- 19775-1, Script).
+-- The fields of nodes: those of a type, followed by those that a Script declares (ISO/IEC 19775-1,
+-- Script).
 use Rattle.std.specs.Prelude.{ℕ, ◌-◌, ◌++◌, Bool, ◌&&◌, not, List, Option, Some, None, length, map, take, if◌then◌else◌}
 use denote.Enum.Bare.{sameb}
 use Rattle.x3d_values.specs.contracts.field_type.FieldType as types
@@ -15,7 +15,7 @@ use Rattle.classic_tree.specs.declared.tree.Declaration.{Declaration}
 use Rattle.scene_core.specs.declared.row.DeclaredField.{DeclaredField}
 use Rattle.scene_core.specs.declared.row.NodeField.{NodeField}
 
--- which fields a node has: those of its type, and behind them those that a Script declares
+-- the fields of a node: those of its type, followed by those that a Script declares
 pub record Shape : Type 0 where
   pub node_type : NodeType
   pub declared : List FieldRowView
@@ -28,12 +28,12 @@ rows_of s = rows s.node_type ++ s.declared
 abbrev pub is_rotation : FieldType → Bool
 is_rotation field_type = sameb types.the_type field_type SFRotation
 
--- a field that a scene may give a value holds the empty value of its type where none is given
+-- a declared field that a scene may give a value to holds the empty value of its type by default
 abbrev pub declared_default : Access → FieldType → Option FieldDefault
 declared_default access field_type =
     if is_initial access && not (is_rotation field_type) then Some Empty else None
 
--- its node fields take any node
+-- declared node fields take any node
 abbrev pub declared_entry : DeclaredField → FieldRowView
 declared_entry d = record {
   name = d.name;
@@ -57,7 +57,7 @@ max_fields = 65536
 abbrev pub most_declared : NodeType → ℕ
 most_declared t = max_fields - length (rows t)
 
--- those of the declared fields that have numbers
+-- the declared fields that have numbers
 abbrev pub numbered_fields : {A : Type 0} → NodeType → List A → List A
 numbered_fields t declared = take (most_declared t) declared
 
@@ -65,7 +65,7 @@ abbrev pub shape_by : NodeType → List DeclaredField → Shape
 shape_by t declared =
     record { node_type = t; declared = map declared_entry (numbered_fields t declared) }
 
--- ---- a row of the program
+-- ---- a field as the code has it
 
 abbrev pub row_entry : NodeField → FieldRowView
 row_entry r = record {

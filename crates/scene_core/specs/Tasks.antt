@@ -1,4 +1,4 @@
--- What the tasks of a work stack come to: the last is done first.
+-- The result of the tasks on a work stack. The last task is done first.
 use Rattle.std.specs.Prelude.{ℕ, ◌+◌, Bool, true, false, List, [], ◌∷◌, length, reverse}
 use Rattle.std.specs.List.{fold}
 use Rattle.proto_flat.specs.declared.flat.FlatNode.{FlatNode}
@@ -8,7 +8,7 @@ use Rattle.scene_core.specs.declared.numbering.NumberTask.TheVariants.{Visit, Cl
 use Rattle.scene_core.specs.Numbers.{visit, close}
 use Rattle.scene_core.specs.Parts.{parts_of}
 
--- a task by the definition of the numbers
+-- a task, by the definition of the numbers
 abbrev pub do_task : List FlatNode → Numbering → NumberTask → Numbering
 do_task nodes s (Visit n) = visit (length nodes + 1) nodes s n
 do_task nodes s (Close n) = close s n
@@ -17,13 +17,13 @@ do_task nodes s (Close n) = close s n
 unfoldable pub finish : List FlatNode → Numbering → List NumberTask → Numbering
 finish nodes s tasks = fold (do_task nodes) s (reverse tasks)
 
--- how many of the nodes have not appeared
+-- the number of nodes that have not appeared
 unfoldable pub unopened : List Bool → ℕ
 unopened [] = 0
 unopened (true ∷ rest) = unopened rest
 unopened (false ∷ rest) = unopened rest + 1
 
--- how many tasks can still come of the nodes from that number on that have not appeared
+-- the number of tasks that the nodes from that number on that have not appeared can still add
 unfoldable pub to_come : List FlatNode → ℕ → List Bool → ℕ
 to_come nodes n [] = 0
 to_come nodes n (true ∷ rest) = to_come nodes (n + 1) rest

@@ -1,4 +1,4 @@
--- The values that the fields of a node have before any event (ISO/IEC 19775-1, field semantics).
+-- The values of a node's fields before any event (ISO/IEC 19775-1, field semantics).
 use Rattle.std.specs.Prelude.{ℕ, ◌+◌, ◌++◌, pos, length, Bool, true, false, not, ◌||◌, nat_eq, int_lt, List, [], ◌∷◌, codes, Option, Some, None, Result, Ok, Err, slice_get, if◌then◌else◌}
 use Rattle.std.specs.Option.{option_and_then}
 use Rattle.std.specs.List.{list_all}
@@ -29,7 +29,7 @@ use Rattle.scene_core.specs.Faults.{fault, memory, ◌>>=◌}
 use Rattle.scene_core.specs.Parts.{given, inner_nodes}
 use Rattle.scene_core.specs.Shape.{declaration_entry, is_rotation, numbered_fields}
 
--- a fault of a value, in the line of its field
+-- a fault of a value, on the line of its field
 abbrev pub fault_at : ℕ → ValueFault → SceneFault
 fault_at line value_fault.WrongType = fault WrongType line
 fault_at line value_fault.ValueRange = fault ValueRange line
@@ -40,7 +40,7 @@ abbrev pub at_line : {A : Type 0} → ℕ → Result A ValueFault → Result A S
 at_line line (Ok a) = Ok a
 at_line line (Err e) = Err (fault_at line e)
 
--- a rotation is checked and dropped; any angle will do for `orientation`, which nothing uses
+-- a rotation is checked and dropped; any angle is allowed for `orientation`, which nothing uses
 abbrev pub dropped_rotation : FieldRowView → FlatField → Result (Option Value) SceneFault
 dropped_rotation e f =
     at_line f.line (checked_rotation f.value (pointwise nat_eq e.name (codes "orientation")))
@@ -49,13 +49,13 @@ dropped_rotation e f =
 abbrev pub is_negative : Vec3 → Bool
 is_negative size = int_lt size.x (pos 0) || int_lt size.y (pos 0) || int_lt size.z (pos 0)
 
--- the ranges of single fields: a cycle takes time, and a Box has no negative size
+-- the ranges of single fields: a cycle is longer than 0, and a Box has no negative size
 abbrev pub in_range : List ℕ → Value → Bool
 in_range name (SFTime t) = not (pointwise nat_eq name (codes "cycleInterval")) || int_lt (pos 0) t
 in_range name (SFVec3f size) = not (pointwise nat_eq name (codes "size")) || not (is_negative size)
 in_range name _ = true
 
--- a field of that kind takes the node, if there is one
+-- the node exists, and a field of that kind takes it
 abbrev pub takes : Option NodeKind → Option FlatNode → Bool
 takes (Some kind) (Some node) = sameb kinds.the_type (kind_of node.node_type) kind
 takes None (Some node) = true
@@ -64,8 +64,8 @@ takes kind None = false
 abbrev pub all_taken : Option NodeKind → List FlatNode → List ℕ → Bool
 all_taken kind nodes inner = list_all (λ n. takes kind (slice_get nodes n)) inner
 
--- a value of its type goes into a field of that access and kind, unless another fault keeps it from
--- there: that with the lowest number is answered
+-- a typed value goes into a field of that access and kind, unless a fault prevents it; the first
+-- fault in the order of the list is reported
 abbrev pub accepted : List FlatNode → Access → Option NodeKind → FlatField → Value
     → Result (Option Value) SceneFault
 accepted nodes access kind f value =
@@ -75,7 +75,7 @@ accepted nodes access kind f value =
     then Ok (Some value)
     else Err (fault BadChild f.line))
 
--- the same of a field of a node type, some of which have ranges of their own
+-- like `accepted`, for a field of a node type, some of which have ranges of their own
 abbrev pub accepted_in_range : List FlatNode → FieldRowView → FlatField → Value
     → Result (Option Value) SceneFault
 accepted_in_range nodes e f value =
@@ -96,13 +96,13 @@ given_value nodes numbers e f =
 abbrev pub default_of : FieldRowView → Option Value
 default_of e = option_and_then (default_value e.field_type) e.default
 
--- what a field of that row holds: the value given, or the default; none where it holds no value
+-- what a field holds: the given value, or the default; none if the field holds no value
 unfoldable pub field_value : List FlatNode → List ℕ → FieldRowView → Option FlatField
     → Result (Option Value) SceneFault
 field_value nodes numbers e (Some f) = given_value nodes numbers e f
 field_value nodes numbers e None = Ok (default_of e)
 
--- the values of these rows, the first of which has that number, behind those made so far
+-- appends the values of these rows, numbered from `number` on
 abbrev pub values_from : List FlatNode → List ℕ → List FlatField → ℕ → List FieldRowView
     → List (Option Value) → Result (List (Option Value)) SceneFault
 values_from nodes numbers fields number [] made = Ok made
@@ -110,7 +110,7 @@ values_from nodes numbers fields number (e ∷ es) made =
     field_value nodes numbers e (given fields number) >>= λ value.
     values_from nodes numbers fields (number + 1) es (made ++ value ∷ [])
 
--- ---- the fields that a Script declares: no rotation, any node, and no range but that of the type
+-- ---- fields that a Script declares: no rotation, any node, and no range but that of the type
 
 abbrev pub no_rotation : FlatField → Result (Option Value) SceneFault
 no_rotation f =
@@ -123,7 +123,7 @@ declared_given nodes numbers d f =
     then no_rotation f
     else (typed_value numbers d.field_type f >>= accepted nodes d.access None f)
 
--- nothing is given
+-- the field is given no value
 abbrev pub declared_empty : Declaration ℕ → Result (Option Value) SceneFault
 declared_empty d =
     if is_rotation d.field_type
@@ -135,7 +135,7 @@ unfoldable pub declared_value : List FlatNode → List ℕ → Declaration ℕ �
 declared_value nodes numbers d (Some f) = declared_given nodes numbers d f
 declared_value nodes numbers d None = declared_empty d
 
--- the values of these, the first of which has that number, behind those made so far
+-- appends the values of these declared fields, numbered from `number` on
 abbrev pub declared_from : List FlatNode → List ℕ → List FlatField → ℕ → List (Declaration ℕ)
     → List (Option Value) → Result (List (Option Value)) SceneFault
 declared_from nodes numbers fields number [] made = Ok made
@@ -163,7 +163,7 @@ child nodes n =
     then Ok tt
     else Err (fault BadChild (line_of (slice_get nodes n)))
 
--- all of them are, or the first that is not is the fault
+-- all are child nodes; the first that isn't one is the fault
 abbrev pub all_children : List FlatNode → List ℕ → Result (Unit {0}) SceneFault
 all_children nodes [] = Ok tt
 all_children nodes (n ∷ ns) = child nodes n >>= λ _. all_children nodes ns

@@ -1,8 +1,8 @@
-//! What lists hold under the numbers of nodes.
+//! Access to lists by node number.
 
 ghost use Rattle.std.specs.Prelude.{◌≡◌, false, slice_index_or};
 
-/// Whether the flag of that number is set; none is where there is no such number.
+/// Returns the flag at index `n`, or false if there is none.
 pub(crate) fn flag_at(flags: &[bool], n: u32) -> bool
     ensures { result ≡ slice_index_or flags.now n false }
 {
@@ -12,7 +12,7 @@ pub(crate) fn flag_at(flags: &[bool], n: u32) -> bool
     }
 }
 
-/// The number under that number, 0 where there is none.
+/// Returns the number at index `n`, or 0 if there is none.
 pub(crate) fn number_at(numbers: &[u32], n: u32) -> u32
     ensures { result ≡ slice_index_or numbers.now n 0 }
 {

@@ -1,4 +1,4 @@
-//! Lists that grow by items that may be faults.
+//! Lists whose next item may be a fault.
 
 ghost use Rattle.x3d_lists.specs.Answers.{Gives};
 ghost use Rattle.scene_core.specs.Faults.{memory, with_item};
@@ -6,7 +6,7 @@ ghost use Rattle.scene_core.specs.Faults.{memory, with_item};
 use crate::fault::SceneFault;
 use x3d_lists::Items;
 
-/// The item behind those made so far, or its fault.
+/// Appends an item to `made`, or returns the item's fault.
 pub(crate) fn with_item<T: Drop>(
     mut made: Items<T>,
     item: Result<T, SceneFault>,

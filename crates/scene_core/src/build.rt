@@ -22,7 +22,7 @@ use proto_flat::{Flat, FlatNode, Header};
 use std::alloc::{AllocError, Global};
 use x3d_lists::{Duplicate, Items};
 
-/// What a scene has beside its nodes and their numbers.
+/// The parts of a scene other than its nodes and their numbers.
 #[derive(Drop)]
 pub struct Surroundings {
     pub header: Header,
@@ -30,7 +30,7 @@ pub struct Surroundings {
     pub helpers: Items<u32>,
 }
 
-/// The header of a document, and what its roots and helpers are called in the scene.
+/// Returns the header of a document, and the numbers of its roots and helpers in the scene.
 pub(crate) fn frame_of(
     alloc: Global,
     flat: &Flat,
@@ -59,7 +59,7 @@ pub(crate) fn frame_of(
     })
 }
 
-/// The nodes, where roots and helpers are child nodes and nothing is beyond a limit.
+/// Returns the nodes, if roots and helpers are child nodes and no limit is exceeded.
 pub(crate) fn checked_nodes(
     alloc: Global,
     flat: &Flat,
@@ -78,7 +78,7 @@ pub(crate) fn checked_nodes(
     }
 }
 
-/// Roots and helpers are child nodes, and nothing is beyond a limit.
+/// Checks that roots and helpers are child nodes, and that no limit is exceeded.
 fn check(alloc: Global, flat: &Flat, nodes: &[SceneNode], roots: &[u32]) -> Result<(), SceneFault>
     ensures { Gives memory (λ u. u) result (check flat.now nodes.now roots.now) }
 {
@@ -87,7 +87,7 @@ fn check(alloc: Global, flat: &Flat, nodes: &[SceneNode], roots: &[u32]) -> Resu
     check_limits(alloc, nodes, roots)
 }
 
-/// The nodes in the order of their numbers.
+/// Returns the nodes in the order of their numbers.
 fn nodes_of(
     alloc: Global,
     nodes: &[FlatNode],
@@ -101,7 +101,7 @@ fn nodes_of(
     made
 }
 
-/// No chain is too long, and there are not too many places, sensors and fields.
+/// Checks that no chain is too long, and that there aren't too many places, sensors and fields.
 #[tactic(auto, unfolding(crate::specs::Building::limits))]
 fn check_limits(alloc: Global, nodes: &[SceneNode], roots: &[u32]) -> Result<(), SceneFault>
     ensures { Gives memory (λ u. u) result (spec.limits nodes.now roots.now) }
@@ -121,7 +121,7 @@ fn check_limits(alloc: Global, nodes: &[SceneNode], roots: &[u32]) -> Result<(),
     Ok(())
 }
 
-/// What nodes are called in the scene.
+/// Returns the numbers that nodes have in the scene.
 fn called(alloc: Global, numbers: &[u32], nodes: &[u32]) -> Result<Items<u32>, AllocError>
     ensures { IfOk result (λ all. all ≡ spec.called numbers.now nodes.now) }
 {
@@ -150,7 +150,7 @@ fn header_copy(alloc: Global, header: &Header) -> Result<Header, AllocError>
     })
 }
 
-/// The node of that number.
+/// Returns the node with number `number`.
 fn node_of(
     alloc: Global,
     known: Known<'_>,
@@ -180,7 +180,7 @@ fn node_of(
     })
 }
 
-/// The next node behind those made so far.
+/// Appends the next node to `made`.
 fn with_node(
     alloc: Global,
     known: Known<'_>,

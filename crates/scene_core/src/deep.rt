@@ -1,4 +1,4 @@
-//! Chains of nodes, each in a node field of the one before.
+//! Chains of nodes, where each node is in a node field of the previous one.
 
 ghost use Rattle.std.specs.Prelude.{◌≡◌, IfOk, map, nat_lt};
 ghost use Rattle.std.specs.List.{list_any};
@@ -10,10 +10,10 @@ use crate::scene::SceneNode;
 use std::alloc::{AllocError, Global};
 use x3d_values::{MAX_DEPTH, Value};
 
-/// The height of a node whose chains are too long, and so many passes find all heights.
+/// The height of a node from which a chain is too long. That many passes find all heights.
 const MOST_HEIGHT: u32 = MAX_DEPTH + 1;
 
-/// Whether a chain is too long.
+/// Reports whether any chain is too long.
 pub(crate) fn is_too_deep(alloc: Global, nodes: &[SceneNode]) -> Result<bool, AllocError>
     ensures { IfOk result (λ deep. deep ≡ spec.too_deep nodes.now) }
 {
@@ -27,7 +27,7 @@ fn is_any_over(heights: &[u32]) -> bool
     heights.iter().any(|height| MAX_DEPTH < *height)
 }
 
-/// The nodes in a field.
+/// Returns the nodes in a field.
 fn linked(value: &Option<Value>) -> &[u32]
     ensures { result.now ≡ spec.linked value.now }
 {
@@ -37,7 +37,7 @@ fn linked(value: &Option<Value>) -> &[u32]
     }
 }
 
-/// The greatest of a height and those of the nodes in a field.
+/// Returns the greatest of a height and the heights of the nodes in a field.
 fn raised(heights: &[u32], height: u32, value: &Option<Value>) -> u32
     ensures { result ≡ spec.raised heights.now height value.now }
 {
@@ -48,7 +48,7 @@ fn raised(heights: &[u32], height: u32, value: &Option<Value>) -> u32
     greatest
 }
 
-/// The height of a node by those of the nodes in its fields.
+/// Returns the height of a node, by the heights of the nodes in its fields.
 fn height(heights: &[u32], node: &SceneNode) -> u32
     ensures { result ≡ spec.height heights.now node.now }
 {
@@ -59,7 +59,7 @@ fn height(heights: &[u32], node: &SceneNode) -> u32
     greatest.saturating_add(1).min(MOST_HEIGHT)
 }
 
-/// All heights by others.
+/// Returns the heights of all nodes, by previous heights.
 fn one_higher(alloc: Global, nodes: &[SceneNode], heights: &[u32]) -> Result<Vec<u32>, AllocError>
     ensures { IfOk result (λ higher. higher.items ≡ map (spec.height heights.now) nodes.now) }
 {
@@ -69,7 +69,7 @@ fn one_higher(alloc: Global, nodes: &[SceneNode], heights: &[u32]) -> Result<Vec
         .collect(alloc)
 }
 
-/// Heights in the order of the nodes: right where nodes stand behind those in their fields.
+/// Returns heights in one pass. They are right if each node comes after those in its fields.
 fn heights_in_order(alloc: Global, nodes: &[SceneNode]) -> Result<Vec<u32>, AllocError> {
     let mut heights = Vec::with_capacity(alloc, nodes.len())?;
     for node in nodes {
@@ -78,8 +78,8 @@ fn heights_in_order(alloc: Global, nodes: &[SceneNode]) -> Result<Vec<u32>, Allo
     Ok(heights)
 }
 
-/// Of each node, how many nodes the longest chain has that begins there, or `MOST_HEIGHT` where
-/// that is less.
+/// Returns the height of each node: the length in nodes of the longest chain from it, at most
+/// `MOST_HEIGHT`.
 fn heights_of(alloc: Global, nodes: &[SceneNode]) -> Result<Vec<u32>, AllocError>
     ensures { IfOk result
         (λ heights. map (nat_lt max_depth) heights.items ≡ spec.deeper_than nodes.now max_depth) }

@@ -1,4 +1,4 @@
-//! Why a document is no scene.
+//! Faults of a scene: why a scene can't be made from a document.
 
 ghost use Rattle.std.specs.Prelude.{◌≡◌};
 ghost use Rattle.scene_core.specs.Faults.{fault_name, fault, memory};
@@ -8,18 +8,18 @@ use std::alloc::{AllocError, AllocFailed};
 use std::{error, fmt};
 use thiserror::Error;
 
-/// Why a document is no scene, and on which line.
+/// A fault of a scene, and the line where it was found.
 #[derive(Clone, Copy, Debug, PartialEq, Eq)]
 pub struct SceneFault {
     pub kind: SceneFaultKind,
-    /// From 1, or 0 where the fault has no place in the text.
+    /// The line number, counted from 1, or 0 if the fault has no place in the text.
     pub line: u32,
 }
 
-/// The faults of a scene: those of fields by the numbers of their nodes and by their own, at one
-/// field the first in this order; then roots and helpers; then TooDeep, and then TooMany. TooDeep
-/// is a chain of more than 64 nodes, TooMany more than 65,536 places, 64 sensors in one list or
-/// 65,536 fields of one node.
+/// The kinds of faults of a scene. The first fault found is reported: faults of fields first, by
+/// node number and then field number, and at one field in the order of this list; then those of
+/// roots and helpers; then TooDeep, and then TooMany. TooDeep is a chain of more than 64 nodes.
+/// TooMany is more than 65,536 places, 64 sensors in one list, or 65,536 fields of one node.
 #[derive(Clone, Copy, Debug, PartialEq, Eq, Error)]
 pub enum SceneFaultKind {
     #[error("the value has not the form of its field's type")]
@@ -41,7 +41,7 @@ pub enum SceneFaultKind {
 }
 
 impl SceneFaultKind {
-    /// The name of the variant.
+    /// Returns the name of the variant.
     pub fn name(self) -> &'static str
         ensures { result.now ≡ fault_name self }
     {
@@ -58,7 +58,7 @@ impl SceneFaultKind {
     }
 }
 
-/// The fault of that kind on that line.
+/// Returns the fault of kind `kind` on line `line`.
 pub(crate) fn fault(kind: SceneFaultKind, line: u32) -> SceneFault
     ensures { result ≡ fault kind line }
 {

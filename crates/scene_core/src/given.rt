@@ -1,4 +1,4 @@
-//! What a node gives to its fields.
+//! The values that a node gives to its fields.
 
 ghost use Rattle.std.specs.Prelude.{◌≡◌, ◌+◌, ◌<◌, ◌==◌, ℕ, IfOk, None, Some, cond, get_or, length};
 ghost use Rattle.std.specs.Option.{option_copied, option_or};
@@ -7,14 +7,14 @@ ghost use Rattle.scene_core.specs.Parts as spec;
 use proto_flat::FlatField;
 use std::alloc::{AllocError, Global};
 
-/// What a node gives to the field of that number.
+/// Returns what a node gives to the field with number `number`.
 pub(crate) fn given(fields: &[FlatField], number: usize) -> Option<&FlatField>
     ensures { option_copied result ≡ spec.given fields.now number }
 {
     fields.iter().find(|field| field.number as usize == number)
 }
 
-/// Puts the field in its place, unless one is there.
+/// Puts the field into its place in the table, unless the place is taken.
 #[tactic(auto, using(crate::proofs::GivenFields::placing))]
 fn put_field<'a>(table: &mut Vec<Option<&'a FlatField>>, number: usize, field: &'a FlatField)
     ensures all { length table.new.items ≡ length table.old.items }
@@ -31,7 +31,7 @@ fn put_field<'a>(table: &mut Vec<Option<&'a FlatField>>, number: usize, field: &
     }
 }
 
-/// What a node gives to each of `count` fields, the first of which has that number.
+/// Returns what a node gives to each of `count` fields, numbered from `number` on.
 pub(crate) fn all_given<'a>(
     alloc: Global,
     fields: &'a [FlatField],

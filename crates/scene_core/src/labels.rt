@@ -15,13 +15,13 @@ use std::alloc::{AllocError, AllocFailed, Global};
 use std::collections::BTreeMap;
 use x3d_lists::{Duplicate, Text};
 
-/// Of each name whether one node alone has it.
+/// For each name, whether exactly one node has it.
 #[derive(Drop)]
 pub struct Marks<'a> {
     pub alone: BTreeMap<&'a str, bool>,
 }
 
-/// Which names one node alone has, among the nodes of these numbers.
+/// Returns which names belong to exactly one of the nodes in `order`.
 pub(crate) fn marked<'a>(
     alloc: Global,
     nodes: &'a [FlatNode],
@@ -41,7 +41,7 @@ pub(crate) fn marked<'a>(
     Ok(marks)
 }
 
-/// The name that the node of that number keeps.
+/// Returns the name that the node with number `number` keeps.
 pub(crate) fn label_of(
     alloc: Global,
     marks: &Marks<'_>,
@@ -61,7 +61,7 @@ pub(crate) fn label_of(
     Ok(Some(name.duplicate(alloc)?))
 }
 
-/// Whether a DEF name is the label of the node of that number.
+/// Reports whether a DEF name is the label of the node with number `number`.
 fn is_label(marks: &Marks<'_>, number: usize, name: &Text) -> bool
     ensures { result
         ≡ spec.is_label (λ n. spec.known_alone (known_of marks.now n)) number name.now }
@@ -70,8 +70,8 @@ fn is_label(marks: &Marks<'_>, number: usize, name: &Text) -> bool
     (alone && !is_numbered(name.as_bytes())) || is_own_number(number, name.as_bytes())
 }
 
-/// Appends what a node of that number is called that keeps this name; on a refusal perhaps a part
-/// of it.
+/// Appends the label of node `node`, which keeps the name `name` if there is one. If memory is
+/// refused, a part of the label may have been appended.
 pub(crate) fn push_label(
     name: Option<&Text>,
     node: u32,
@@ -113,7 +113,7 @@ fn no_marks<'a>(alloc: Global) -> Marks<'a>
     }
 }
 
-/// Puts down whether one node alone has the name; what was known of it before.
+/// Records whether exactly one node has the name. Returns the previous record.
 #[tactic(auto, unfolding(crate::specs::Labels::known_of))]
 fn mark_as<'a>(
     marks: &mut Marks<'a>,
@@ -128,7 +128,7 @@ fn mark_as<'a>(
     Ok(before)
 }
 
-/// One more node has the name. Most names are new: they are looked up once.
+/// Records one more node with the name. Most names are new, and need only one look-up.
 #[tactic(auto, using(crate::proofs::NameLemmas::marks))]
 fn mark<'a>(marks: &mut Marks<'a>, name: &'a Text) -> Result<(), AllocFailed<(&'a str, bool)>>
     ensures { IfOk result
@@ -165,14 +165,14 @@ fn all_digits(text: &[u8]) -> bool
     text.iter().all(|c| is_digit(*c))
 }
 
-/// Whether a text is one digit or more.
+/// Reports whether a text consists of one or more digits.
 fn are_digits(text: &[u8]) -> bool
     ensures { result ≡ spec.are_digits text.now }
 {
     !text.is_empty() && all_digits(text)
 }
 
-/// Whether a text is an `N` before one digit or more.
+/// Reports whether a text is an `N` followed by one or more digits.
 fn is_numbered(name: &[u8]) -> bool
     ensures { result ≡ spec.is_numbered name.now }
 {
@@ -188,7 +188,7 @@ fn is_numbered(name: &[u8]) -> bool
     }
 }
 
-/// Whether a text is an `N` before that number.
+/// Reports whether a text is an `N` followed by the number `number`.
 fn is_own_number(number: usize, name: &[u8]) -> bool
     ensures { result ≡ spec.is_own_number number name.now }
 {

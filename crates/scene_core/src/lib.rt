@@ -1,11 +1,17 @@
 //! A scene: nodes by number with typed values (ISO/IEC 19775-1, scene graph).
 //!
-//! `scene` has the scene and what is asked of it. It is made by `numbering` (which number a node
-//! has) of the `parts` of nodes, by `values` (the values of fields), `labels` (the names that nodes
-//! keep) and `build`, which puts these together; `deep`, `places` and `wide` have its limits,
-//! `sensor_lists` the pointing sensors in its lists, `state` what nodes keep before any event,
-//! `fault` why there is no scene, `at` what lists hold by number, and `behind` puts what may be a
-//! fault behind what was made so far.
+//! | Module | Has |
+//! |---|---|
+//! | `scene` | the scene and its queries |
+//! | `numbering`, `parts` | the number of each node, by the nodes in its fields |
+//! | `values`, `given`, `row` | the values of fields, what a node gives them, and a node's fields |
+//! | `labels` | the names that nodes keep |
+//! | `build` | all parts of a scene together |
+//! | `deep`, `places`, `wide` | the limits of a scene |
+//! | `sensor_lists` | the pointing sensors in the lists of a scene |
+//! | `state` | what nodes keep before any event |
+//! | `fault` | why a scene can't be made |
+//! | `at`, `behind` | access to lists by number, and lists whose next item may be a fault |
 #![tactic(auto)]
 
 mod at;

@@ -10,8 +10,8 @@ use proto_flat::FlatNode;
 use std::alloc::{AllocError, Global};
 use x3d_lists::Items;
 
-/// Which nodes have appeared, the nodes that have numbers in the order of these, and the number of
-/// each node, 0 where it has none.
+/// Which nodes have appeared, the numbered nodes in the order of their numbers, and the number of
+/// each node, or 0 if it has none.
 #[derive(Drop)]
 pub struct Numbering {
     pub opened: Items<bool>,
@@ -19,12 +19,12 @@ pub struct Numbering {
     pub numbers: Items<u32>,
 }
 
-/// Something that is still to be done.
+/// A task that is still to be done.
 #[derive(Clone, Copy)]
 pub enum NumberTask {
-    /// A node appears.
+    /// Visit a node that appears.
     Visit(u32),
-    /// All nodes in a node have numbers.
+    /// Number a node, now that all nodes in it have numbers.
     Close(u32),
 }
 
@@ -49,7 +49,8 @@ impl Numbering {
         }
     }
 
-    /// Numbers have 32 bits; what is beyond them is answered as memory that is refused.
+    /// Gives the node the next number. Numbers have 32 bits; beyond them, fails as if memory were
+    /// refused.
     fn close(&mut self, node: u32) -> Result<(), AllocError>
         ensures { OnOk result (self.new ≡ spec.close self.old node) }
     {
@@ -64,7 +65,7 @@ impl Numbering {
     }
 }
 
-/// The numbers of the nodes of a document.
+/// Returns the numbers of the nodes of a document.
 pub(crate) fn numbered(
     alloc: Global,
     nodes: &[FlatNode],
@@ -115,7 +116,7 @@ fn push_visits(tasks: &mut Vec<NumberTask>, nodes: &[u32]) -> Result<(), AllocEr
     Ok(())
 }
 
-/// The nodes in the fields of a node, none where there is no such node.
+/// Returns the nodes in the fields of a node, or none if there is no such node.
 #[tactic(auto, unfolding(crate::specs::Parts::parts_of))]
 fn parts_of(alloc: Global, nodes: &[FlatNode], node: u32) -> Result<Vec<u32>, AllocError>
     ensures { IfOk result (λ parts. parts.items ≡ parts_of nodes.now node) }

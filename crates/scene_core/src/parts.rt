@@ -1,4 +1,4 @@
-//! The nodes that stand in the node fields of a node.
+//! The nodes in the node fields of a node.
 
 ghost use Rattle.std.specs.Prelude.{◌≡◌, ◌+◌, ◌<◌, ◌++◌, ◌^◌, OnOk, length, map};
 ghost use Rattle.std.specs.Option.{option_copied};
@@ -13,7 +13,7 @@ use proto_flat::{FlatField, FlatNode};
 use std::alloc::{AllocError, Global};
 use x3d_values::{Field, FieldType, fields_of};
 
-/// The nodes in a value.
+/// Returns the nodes in a value.
 pub(crate) fn inner_nodes(value: &RawValue<u32>) -> &[u32]
     ensures { result.now ≡ spec.inner_nodes value.now }
 {
@@ -24,8 +24,8 @@ pub(crate) fn inner_nodes(value: &RawValue<u32>) -> &[u32]
     }
 }
 
-/// Appends the nodes in the node fields of a node: those of its type in table order, then those
-/// that it declares.
+/// Appends the nodes in the node fields of a node: first the fields of its type in table order,
+/// then the fields that it declares.
 pub(crate) fn push_parts(
     alloc: Global,
     node: &FlatNode,
@@ -40,7 +40,7 @@ pub(crate) fn push_parts(
     push_declared_parts(alloc, fields, rows.len(), interface, out)
 }
 
-/// Appends the nodes in a field of that type that was given this.
+/// Appends the nodes in a field of type `field_type` to which a node gives `field`.
 fn push_given(
     field_type: FieldType,
     field: Option<&FlatField>,

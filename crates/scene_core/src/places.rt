@@ -1,4 +1,4 @@
-//! Places and sensors.
+//! The limits of places and sensors.
 
 ghost use Rattle.std.specs.Prelude.{◌≡◌, ℕ, codes, ◌+◌, ◌<◌, ◌≤◌, ◌==◌, true, false, min, map, length, IfOk, nat_lt, slice_index_or};
 ghost use Rattle.std.specs.List.{list_any, sum_by};
@@ -13,15 +13,15 @@ use arrayvec::ArrayVec;
 use std::alloc::{AllocError, Global};
 use x3d_values::{FieldRow, MAX_DEPTH, NodeType, Value, field_at};
 
-/// The most places that a scene may have. Counts stop at one more.
+/// The largest number of places in a scene. Counts stop at one more, `ENOUGH`.
 const MAX_PLACES: u32 = 65_536;
 
 const ENOUGH: u32 = 65_537;
 
-/// The most sensors that a list may have.
+/// The largest number of sensors in a list.
 const MAX_SENSORS: usize = 64;
 
-/// The list `children` of a grouping node.
+/// Returns the list `children` of a grouping node.
 pub(crate) fn own_children(node: &SceneNode) -> &[u32]
     ensures { result.now ≡ spec.own_children node.now }
 {
@@ -34,7 +34,7 @@ pub(crate) fn own_children(node: &SceneNode) -> &[u32]
     }
 }
 
-/// The field `children` of a grouping node.
+/// Returns the field `children` of a grouping node.
 fn children_row(node_type: NodeType) -> Option<FieldRow>
     ensures { result ≡ row_named 0 (codes "children") (rows node_type) }
 {
@@ -46,7 +46,7 @@ fn children_row(node_type: NodeType) -> Option<FieldRow>
     }
 }
 
-/// Whether there are too many places, where no chain is too long.
+/// Reports whether there are too many places, if no chain is too long.
 pub(crate) fn has_too_many_places(
     alloc: Global,
     nodes: &[SceneNode],
@@ -60,21 +60,21 @@ pub(crate) fn has_too_many_places(
     Ok(MAX_PLACES < together(counts.as_slice(), roots))
 }
 
-/// Whether the list of the roots or a list of children has too many sensors.
+/// Reports whether the list of the roots or any list of children has too many sensors.
 pub(crate) fn is_any_crowded(nodes: &[SceneNode], roots: &[u32]) -> bool
     ensures { result ≡ spec.any_crowded nodes.now roots.now }
 {
     is_crowded(nodes, roots) || has_crowded(nodes)
 }
 
-/// The smaller of the sum and `ENOUGH`.
+/// Returns the sum, at most `ENOUGH`.
 fn plus(a: u32, b: u32) -> u32
     ensures { result ≡ min (a + b) ENOUGH }
 {
     a.saturating_add(b).min(ENOUGH)
 }
 
-/// The counts of these nodes together, or `ENOUGH` where that is less.
+/// Returns the sum of the counts of these nodes, at most `ENOUGH`.
 fn together(counts: &[u32], nodes: &[u32]) -> u32
     ensures { result ≡ min (sum_by (λ n. slice_index_or counts.now n 0) nodes.now) ENOUGH }
 {
@@ -85,14 +85,14 @@ fn together(counts: &[u32], nodes: &[u32]) -> u32
     sum
 }
 
-/// The places from a place of the node down.
+/// Returns the number of places from one place of the node down.
 fn counted(counts: &[u32], node: &SceneNode) -> u32
     ensures { result ≡ spec.counted counts.now node.now }
 {
     plus(1, together(counts, own_children(node)))
 }
 
-/// The places one level deeper.
+/// Returns the counts one level deeper.
 fn one_deeper(alloc: Global, nodes: &[SceneNode], counts: &[u32]) -> Result<Vec<u32>, AllocError>
     ensures { IfOk result (λ more. more.items ≡ map (spec.counted counts.now) nodes.now) }
 {
@@ -102,7 +102,7 @@ fn one_deeper(alloc: Global, nodes: &[SceneNode], counts: &[u32]) -> Result<Vec<
         .collect(alloc)
 }
 
-/// Places in the order of the nodes: right where nodes stand behind their children.
+/// Returns counts in one pass. They are right if each node comes after its children.
 fn counts_in_order(alloc: Global, nodes: &[SceneNode]) -> Result<Vec<u32>, AllocError>
     ensures { IfOk result (λ counts. length counts.items ≡ length nodes.now) }
 {
@@ -113,7 +113,7 @@ fn counts_in_order(alloc: Global, nodes: &[SceneNode]) -> Result<Vec<u32>, Alloc
     Ok(counts)
 }
 
-/// Of each node, the places from one place of it down, or `ENOUGH` where that is less.
+/// Returns for each node the number of places from one place of it down, at most `ENOUGH`.
 fn counts_of(alloc: Global, nodes: &[SceneNode]) -> Result<Vec<u32>, AllocError>
     requires { too_deep nodes.now ≡ false }
     ensures { IfOk result
@@ -131,8 +131,8 @@ fn counts_of(alloc: Global, nodes: &[SceneNode]) -> Result<Vec<u32>, AllocError>
     Ok(counts)
 }
 
-/// Whether nodes of this type are pointing device sensors (ISO/IEC 19775-1, pointing device sensor
-/// component).
+/// Reports whether nodes of this type are pointing device sensors (ISO/IEC 19775-1, pointing device
+/// sensor component).
 pub fn is_pointing(node_type: NodeType) -> bool
     ensures { result ≡ spec.is_pointing node_type }
 {
@@ -142,7 +142,7 @@ pub fn is_pointing(node_type: NodeType) -> bool
     }
 }
 
-/// Whether the node of that number is a pointing sensor.
+/// Reports whether the node with number `n` is a pointing sensor.
 pub(crate) fn is_sensor(nodes: &[SceneNode], n: u32) -> bool
     ensures { result ≡ spec.is_sensor nodes.now n }
 {
@@ -158,7 +158,8 @@ fn is_in(sensors: &[u32], n: u32) -> bool
     sensors.iter().any(|sensor| *sensor == n)
 }
 
-/// Puts a sensor behind those so far, unless it is among them; false where it has no room.
+/// Adds a node to the sensors if it is a sensor that isn't among them. Returns false if there is no
+/// room.
 fn add_sensor(nodes: &[SceneNode], sensors: &mut ArrayVec<u32, MAX_SENSORS>, n: u32) -> bool
     requires { length sensors.old.items ≤ 64 }
     ensures few { length sensors.new.items ≤ 64 }
@@ -179,7 +180,7 @@ fn add_sensor(nodes: &[SceneNode], sensors: &mut ArrayVec<u32, MAX_SENSORS>, n: 
     }
 }
 
-/// Whether a list has too many sensors, each counted once.
+/// Reports whether a list has too many sensors, each counted once.
 fn is_crowded(nodes: &[SceneNode], list: &[u32]) -> bool
     ensures { result ≡ spec.is_crowded nodes.now list.now }
 {

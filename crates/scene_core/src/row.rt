@@ -1,4 +1,4 @@
-//! The fields of nodes: those of a type, and behind them those that a Script declares.
+//! The fields of nodes: those of a type, followed by those that a Script declares.
 
 ghost use Rattle.std.specs.Prelude.{◌≡◌, ◌+◌, ◌≤◌, ◌++◌, ◌∷◌, [], IfOk, OnOk, length, map, slice_get};
 ghost use Rattle.std.specs.Option.{option_map};
@@ -13,7 +13,7 @@ use x3d_values::{
     Access, Field, FieldDefault, FieldRow, FieldType, NodeKind, NodeType, field_of, fields_of,
 };
 
-/// More fields of a node have no numbers of 16 bits. A node of a scene has no more.
+/// The largest number of fields of a node. Field numbers have 16 bits.
 pub(crate) const MOST_FIELDS: usize = 65_536;
 
 /// A field that a Script declares (ISO/IEC 19775-1, Script).
@@ -30,9 +30,9 @@ pub struct NodeField<'a> {
     pub name: &'a str,
     pub access: Access,
     pub field_type: FieldType,
-    /// What the field holds where a scene gives nothing; none where it holds no value.
+    /// What the field holds if a scene gives no value. `None` if the field holds no value.
     pub default: Option<FieldDefault>,
-    /// Which nodes a field of a node type takes, where it doesn't take any.
+    /// The kind of nodes that a node field takes. `None` if it takes any node.
     pub kind: Option<NodeKind>,
 }
 
@@ -70,7 +70,7 @@ fn declared_row(field: &DeclaredField) -> NodeField<'_>
     }
 }
 
-/// Those of the declared fields of a node that have numbers.
+/// Returns the declared fields of a node that have numbers.
 pub(crate) fn numbered_fields<A>(node_type: NodeType, declared: &[A]) -> &[A]
     ensures { result.now ≡ spec.numbered_fields node_type declared.now }
 {
@@ -78,7 +78,7 @@ pub(crate) fn numbered_fields<A>(node_type: NodeType, declared: &[A]) -> &[A]
     &declared[..most.min(declared.len())]
 }
 
-/// The field of that number of a node that declares these.
+/// Returns the field with number `number` of a node with these declared fields.
 #[tactic(auto, using(crate::proofs::RowLemmas::by_number))]
 pub(crate) fn row_by(
     node_type: NodeType,
@@ -99,7 +99,7 @@ pub(crate) fn row_by(
     Some(declared_row(field))
 }
 
-/// How many fields a node has that declares these.
+/// Returns the number of fields of a node with these declared fields.
 #[tactic(auto, using(crate::proofs::RowLemmas::by_number))]
 pub(crate) fn count_by(node_type: NodeType, declared: &[DeclaredField]) -> u32
     ensures is { result ≡ length (rows_of (shape_by node_type declared.now)) }
@@ -108,7 +108,7 @@ pub(crate) fn count_by(node_type: NodeType, declared: &[DeclaredField]) -> u32
     (fields_of(node_type).len() + numbered_fields(node_type, declared).len()) as u32
 }
 
-/// The first of these declared fields that has the name, where they are numbered from `first` on.
+/// Returns the first of these declared fields with the name. They are numbered from `first` on.
 #[tactic(auto, using(crate::proofs::RowLemmas::by_name))]
 fn declared_named(first: usize, declared: &[DeclaredField], name: &str) -> Option<FieldRow>
     requires { first + length declared.now ≤ 65536 }
@@ -134,7 +134,7 @@ fn numbered_row(field: &DeclaredField, number: u16) -> FieldRow
     }
 }
 
-/// The first field of that name of a node that declares these.
+/// Returns the first field with the name of a node with these declared fields.
 #[tactic(auto, using(crate::proofs::RowLemmas::by_name))]
 pub(crate) fn named_by(
     node_type: NodeType,
@@ -166,7 +166,7 @@ fn push_declared(
     })
 }
 
-/// The declarations of a Script as fields.
+/// Returns the declarations of a Script as fields.
 pub(crate) fn declared_fields(
     alloc: Global,
     interface: &[Declaration<u32>],

@@ -1,4 +1,4 @@
-//! A scene and what is asked of it.
+//! A scene and its queries.
 
 ghost use Rattle.std.specs.Prelude.{◌≡◌, ◌+◌, ◌<◌, ◌≤◌, Some, IfErr, IfOk, length, slice_get, ◌++◌, OnOk, OnErr};
 ghost use Rattle.std.specs.Option.{option_copied, option_map};
@@ -40,17 +40,17 @@ pub struct Route {
     pub target: End,
 }
 
-/// A node as it stands before any event.
+/// A node before any event.
 #[derive(Drop)]
 pub struct SceneNode {
     pub node_type: NodeType,
-    /// Its DEF name, where no other node has it and it isn't an `N` before digits.
+    /// The node's DEF name, if the name is its label: no other node has the name and it isn't an
+    /// `N` followed by digits, or it is `N` and the node's number.
     pub label: Option<Text>,
-    /// The fields that a Script declares behind those of its type, in the order of the text.
+    /// The fields that a Script declares, in the order of the text. They follow those of its type.
     pub declared: Items<DeclaredField>,
-    /// The values of its inputOutput and initializeOnly fields by the fields' numbers, and nothing
-    /// at the numbers of other fields and of rotations. Nodes in them are numbers of nodes of the
-    /// scene.
+    /// The values of inputOutput and initializeOnly fields, by field number. Other fields and
+    /// rotations have no value. Nodes in values are node numbers of the scene.
     pub values: Items<Option<Value>>,
 }
 
@@ -103,13 +103,14 @@ impl Scene {
     ghost use Rattle.x3d_values.specs.declared.node_type.NodeType.{NodeType};
     ghost use Rattle.x3d_values.specs.Tables.{row_named, rows};
 
+    /// Returns the number of nodes.
     pub fn node_count(&self) -> usize
         ensures { result ≡ length self.now.nodes }
     {
         self.nodes.len()
     }
 
-    /// The type of the node of that number.
+    /// Returns the type of a node, which must exist.
     pub fn node_type(&self, node: u32) -> NodeType
         requires { node < length self.now.nodes }
         ensures { slice_get (types_of self.now) node ≡ Some result }
@@ -117,7 +118,7 @@ impl Scene {
         self.nodes.as_slice()[node as usize].node_type
     }
 
-    /// The type of the node of that number, if there is one.
+    /// Returns the type of a node, if the node exists.
     pub fn type_at(&self, node: u32) -> Option<NodeType>
         ensures { result ≡ type_at self.now node }
     {
@@ -128,7 +129,8 @@ impl Scene {
         }
     }
 
-    /// How many nodes there are, as node numbers count them. No memory holds a scene of 2^32 nodes.
+    /// Returns the number of nodes in the 32 bits of a node number. Fails if there are 2^32 nodes
+    /// or more, which no memory holds.
     pub fn count(&self) -> Result<u32, AllocError>
         ensures ok { IfOk result (λ count. count ≡ length self.now.nodes) }
         ensures many { IfErr result (λ _. 4294967296 ≤ length self.now.nodes) }
@@ -139,8 +141,8 @@ impl Scene {
         Ok(count)
     }
 
-    /// How many fields the node of that number has: those of its type, and behind them those that
-    /// a Script declares. 0 where there is no such node.
+    /// Returns the number of fields of a node: those of its type, and those that a Script declares.
+    /// Returns 0 if the node doesn't exist.
     #[tactic(auto, using(crate::proofs::ShapeLemmas::shapes))]
     pub fn field_count(&self, node: u32) -> u32
         ensures is { result ≡ length (rows_at self.now node) }
@@ -152,7 +154,7 @@ impl Scene {
         }
     }
 
-    /// The field of that number of a node; none where there is no such field.
+    /// Returns the field with number `number` of a node. Returns `None` if there is no such field.
     #[tactic(auto, using(crate::proofs::ShapeLemmas::shapes))]
     pub fn row(&self, node: u32, number: u16) -> Option<NodeField<'_>>
         ensures { option_map row_entry result ≡ slice_get (rows_at self.now node) number }
@@ -163,8 +165,8 @@ impl Scene {
         row_by(node.node_type, node.declared.as_slice(), number)
     }
 
-    /// The plain name of a field: by the table of fields, or as a Script declares it. Empty where
-    /// there is no such field.
+    /// Returns the plain name of a field: from the table of fields, or as a Script declares it.
+    /// Returns an empty name if there is no such field.
     pub fn field_name(&self, end: End) -> &str
         ensures { result.now ≡ field_name self.now end }
     {
@@ -174,7 +176,8 @@ impl Scene {
         }
     }
 
-    /// The first field of that name of a node; none where there is no such field.
+    /// Returns the first field with the name `name` of a node. Returns `None` if there is no such
+    /// field.
     #[tactic(auto, using(crate::proofs::ShapeLemmas::shapes))]
     pub fn field_named(&self, node: u32, name: &str) -> Option<FieldRow>
         ensures { result ≡ row_named 0 name.now (rows_at self.now node) }
@@ -185,7 +188,8 @@ impl Scene {
         named_by(node.node_type, node.declared.as_slice(), name)
     }
 
-    /// The fields that a node declares behind those of its type, in the order of the text.
+    /// Returns the fields that a node declares, in the order of the text. They follow the fields of
+    /// its type. Returns none if the node doesn't exist.
     #[tactic(auto, using(crate::proofs::ShapeLemmas::shapes))]
     pub fn declared(&self, node: u32) -> &[DeclaredField]
         ensures are { result.now ≡ declared_at self.now node }
@@ -198,7 +202,7 @@ impl Scene {
         }
     }
 
-    /// The opening value of a field of a node; none where it holds no value.
+    /// Returns the opening value of a field. Returns `None` if the field holds no value.
     pub fn value(&self, node: u32, field: u16) -> Option<&Value>
         ensures { option_copied result ≡ value_at self.now node field }
     {
@@ -211,27 +215,29 @@ impl Scene {
         }
     }
 
+    /// Returns the node numbers of the roots.
     pub fn roots(&self) -> &[u32]
         ensures { result.now ≡ self.now.roots }
     {
         self.roots.as_slice()
     }
 
-    /// The nodes of prototype bodies behind the first of each.
+    /// Returns the nodes of prototype bodies after the first of each body.
     pub fn helpers(&self) -> &[u32]
         ensures { result.now ≡ self.now.helpers }
     {
         self.helpers.as_slice()
     }
 
-    /// The header of the text that the scene was read from.
+    /// Returns the header of the text that the scene was read from.
     pub fn header(&self) -> &Header
         ensures { result.now ≡ self.now.header }
     {
         &self.header
     }
 
-    /// The number in the scene of a node of the expanded document; none where the scene hasn't it.
+    /// Returns the number in the scene of a node of the expanded document. Returns `None` if the
+    /// scene hasn't the node.
     pub fn number(&self, node: u32) -> Option<u32>
         ensures { result ≡ number_of self.now node }
     {
@@ -241,8 +247,8 @@ impl Scene {
         self.numbers.get(node as usize).copied()
     }
 
-    /// The name of a node that no other node has: its DEF name, where it is alone, or else `N` and
-    /// its number.
+    /// Appends the label of a node, which no other node has: its DEF name if that is its label, or
+    /// else `N` and its number. Appends nothing if memory is refused.
     #[tactic(auto, unfolding(crate::specs::Scene::label_of))]
     pub fn label(&self, node: u32, out: &mut Vec<u8>) -> Result<(), AllocError>
         ensures ok { OnOk result (out.new.items ≡ out.old.items ++ label_of self.now node) }
@@ -256,7 +262,7 @@ impl Scene {
         pushed
     }
 
-    /// The DEF name of a node, where it is its label.
+    /// Returns the DEF name of a node, if the name is its label.
     pub fn def_name(&self, node: u32) -> Option<&Text>
         ensures { option_copied result ≡ name_at self.now node }
     {
@@ -266,7 +272,7 @@ impl Scene {
         node.label.as_ref()
     }
 
-    /// What each node keeps before any event, by their numbers.
+    /// Returns what each node keeps before any event, by node number. Fails if memory is refused.
     #[tactic(auto, unfolding(crate::specs::Scene::state_of))]
     pub fn state(&self, alloc: Global) -> Result<Vec<Fields>, AllocError>
         ensures { IfOk result (λ fields. fields.items ≡ state_of self.now) }
@@ -274,7 +280,7 @@ impl Scene {
         state_of(alloc, self.nodes.as_slice())
     }
 
-    /// The nodes in the list `children` of a node, none where it has no such list.
+    /// Returns the nodes in the list `children` of a node, or none if it has no such list.
     pub fn children(&self, node: u32) -> &[u32]
         ensures { result.now ≡ children_of self.now node }
     {
@@ -284,15 +290,16 @@ impl Scene {
         }
     }
 
-    /// The pointing sensors in the list of the roots, or in the list `children` of a node: kept, so
-    /// that no long list is gone through for them.
+    /// Returns the pointing sensors in the list `children` of node `owner`, or in the list of the
+    /// roots. The scene keeps them, so long lists aren't searched.
     pub fn sensors_below(&self, owner: Option<u32>) -> &[u32]
         ensures { result.now ≡ sensors_below self.now owner }
     {
         self.sensors.below(owner)
     }
 
-    /// No list of a scene has more than 64 sensors, and no node more fields than there are numbers.
+    /// No list of a scene has more than 64 sensors, and no node has more fields than there are
+    /// field numbers.
     pub fn keeps_limits(&self)
         ensures uncrowded { any_crowded self.now.nodes self.now.roots ≡ false }
         ensures numbered { any_wide self.now.nodes ≡ false }
@@ -300,7 +307,9 @@ impl Scene {
         let _nodes = self.nodes.as_slice();
     }
 
-    /// The scene of a document: its nodes are numbered, their values typed and checked.
+    /// Builds the scene of a document: numbers the nodes, and types and checks their values.
+    ///
+    /// Fails with the first fault, in the order that `SceneFaultKind` describes, or with `Memory`.
     #[tactic(auto, unfolding(crate::specs::Building::scene_of))]
     pub fn build(alloc: Global, flat: &Flat) -> Result<Scene, SceneFault>
         ensures { Gives memory (λ s. s) result (scene_of flat.now) }

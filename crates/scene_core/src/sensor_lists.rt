@@ -9,12 +9,12 @@ use crate::scene::SceneNode;
 use std::alloc::{AllocError, Global};
 use x3d_lists::Items;
 
-/// Which nodes of the list of the roots, and of each node's list `children`, are pointing sensors:
-/// lists may be long, and few have any.
+/// The pointing sensors in the list of the roots and in each node's list `children`. Lists may be
+/// long, and few have sensors.
 #[derive(Drop)]
 pub struct SensorLists {
     pub roots: Items<u32>,
-    /// By the nodes' numbers.
+    /// The sensors in each node's list `children`, by node number.
     pub children: Items<Items<u32>>,
 }
 
@@ -22,7 +22,7 @@ impl SensorLists {
     ghost use Rattle.std.specs.Prelude.{◌≡◌};
     ghost use Rattle.scene_core.specs.SensorLists.{kept_below};
 
-    /// Those in the list of the roots, or in the list `children` of a node.
+    /// Returns the sensors in the list `children` of node `owner`, or in the list of the roots.
     pub fn below(&self, owner: Option<u32>) -> &[u32]
         ensures { result.now ≡ kept_below self.now owner }
     {
@@ -36,7 +36,7 @@ impl SensorLists {
     }
 }
 
-/// The sensors in the lists of a scene.
+/// Returns the sensors in the lists of a scene.
 pub(crate) fn sensor_lists(
     alloc: Global,
     nodes: &[SceneNode],
@@ -55,7 +55,7 @@ pub(crate) fn sensor_lists(
     })
 }
 
-/// Of each node the sensors among its children.
+/// Returns for each node the sensors among its children.
 fn sensors_among_children(alloc: Global, nodes: &[SceneNode]) -> Result<Vec<Items<u32>>, AllocError>
     ensures { IfOk result
         (λ all. all.items ≡ map (spec.sensors_among_children nodes.now) nodes.now) }
@@ -67,7 +67,7 @@ fn sensors_among_children(alloc: Global, nodes: &[SceneNode]) -> Result<Vec<Item
     Ok(all)
 }
 
-/// The sensors in a list, in its order.
+/// Returns the sensors in a list, in the order of the list.
 fn sensors_among(alloc: Global, nodes: &[SceneNode], list: &[u32]) -> Result<Items<u32>, AllocError>
     ensures { IfOk result (λ sensors. sensors ≡ spec.sensors_among nodes.now list.now) }
 {
@@ -81,7 +81,7 @@ fn sensors_among(alloc: Global, nodes: &[SceneNode], list: &[u32]) -> Result<Ite
     Ok(sensors)
 }
 
-/// Appends a node that is a sensor.
+/// Appends a node if it is a sensor.
 fn push_sensor(nodes: &[SceneNode], sensors: &mut Items<u32>, n: u32) -> Result<(), AllocError>
     ensures { OnOk result
         (sensors.new ≡ sensors.old ++ cond (is_sensor nodes.now n) (n ∷ []) []) }

@@ -13,7 +13,7 @@ use std::alloc::{AllocError, Global};
 use x3d_lists::Items;
 use x3d_values::{Duplicate, Fields, Position, Value};
 
-/// What each node keeps, by their numbers.
+/// Returns what each node keeps, by node number.
 pub(crate) fn state_of(alloc: Global, nodes: &[SceneNode]) -> Result<Vec<Fields>, AllocError>
     ensures { IfOk result (λ fields. fields.items ≡ map spec.fields_of nodes.now) }
 {
@@ -24,7 +24,7 @@ pub(crate) fn state_of(alloc: Global, nodes: &[SceneNode]) -> Result<Vec<Fields>
     Ok(state)
 }
 
-/// What a node keeps of a field of that row; nothing where there is no row.
+/// Returns what a node keeps of a field. Returns `None` if there is no field.
 fn kept(
     alloc: Global,
     row: Option<NodeField<'_>>,
@@ -43,7 +43,7 @@ fn kept(
     }
 }
 
-/// What is kept at each number, in the order of the rows.
+/// Returns what is kept of each field, in the order of the fields.
 fn values_kept(alloc: Global, node: &SceneNode) -> Result<Items<Option<Value>>, AllocError>
     ensures { IfOk result (λ all. all
         ≡ map (λ p. spec.kept p.0 p.1) (zip (rows_of (shape_of node.now)) node.now.values)) }

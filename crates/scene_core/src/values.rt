@@ -1,4 +1,4 @@
-//! The values that the fields of a node have before any event.
+//! The values of a node's fields before any event.
 
 ghost use Rattle.std.specs.Prelude.{◌≡◌, ◌+◌, ◌<◌, ◌^◌, IfOk, length, map, slice_get};
 ghost use Rattle.std.specs.Option.{option_and_then, option_copied};
@@ -22,14 +22,15 @@ use x3d_values::{
     Access, Field, FieldDefault, FieldType, NodeKind, Value, Vec3, default_value, fields_of,
 };
 
-/// The nodes of a document, and the numbers that they have in the scene.
+/// The nodes of a document, and their numbers in the scene.
 #[derive(Clone, Copy)]
 pub struct Known<'a> {
     pub nodes: &'a [FlatNode],
     pub numbers: &'a [u32],
 }
 
-/// The values of a node's fields: those of its type in table order, then those that it declares.
+/// Returns the values of a node's fields: first those of its type in table order, then those that
+/// it declares.
 #[tactic(auto, unfolding(crate::specs::Typed::values_of))]
 pub(crate) fn values_of(
     alloc: Global,
@@ -47,7 +48,7 @@ pub(crate) fn values_of(
     push_declared(alloc, known, fields, rows.len(), interface, made)
 }
 
-/// All of them are child nodes; the first that isn't is the fault.
+/// Checks that all these nodes are child nodes. The first that isn't one is the fault.
 pub(crate) fn check_children(nodes: &[FlatNode], children: &[u32]) -> Result<(), SceneFault>
     ensures { result ≡ spec.all_children nodes.now children.now }
 {
@@ -83,7 +84,7 @@ fn is_negative(size: Vec3) -> bool
     size.x < 0 || size.y < 0 || size.z < 0
 }
 
-/// The ranges of single fields: a cycle takes time, and a Box has no negative size.
+/// Checks the ranges of single fields: a cycle is longer than 0, and a Box has no negative size.
 fn in_range(name: &str, value: &Value) -> bool
     ensures { result ≡ spec.in_range name.now value.now }
 {
@@ -94,7 +95,7 @@ fn in_range(name: &str, value: &Value) -> bool
     }
 }
 
-/// Whether a field of that kind takes the node, if there is one.
+/// Reports whether the node exists and a field of that kind takes it.
 fn is_taken(kind: Option<NodeKind>, nodes: &[FlatNode], n: u32) -> bool
     ensures { result ≡ spec.takes kind (slice_get nodes.now n) }
 {
@@ -113,8 +114,8 @@ fn all_taken(kind: Option<NodeKind>, nodes: &[FlatNode], inner: &[u32]) -> bool
     inner.iter().all(|n| is_taken(kind, nodes, *n))
 }
 
-/// A value of its type goes into a field of that access and kind, unless another fault keeps it
-/// from there.
+/// Accepts a typed value into a field of that access and kind, or returns the fault that prevents
+/// it.
 fn accepted(
     nodes: &[FlatNode],
     access: Access,
@@ -189,7 +190,7 @@ fn default_of(alloc: Global, row: &Field) -> Result<Option<Value>, AllocError>
     default_value(alloc, row.field_type, default)
 }
 
-/// What a field of that row holds: the value given, or the default.
+/// Returns what a field holds: the given value, or the default.
 #[tactic(auto, unfolding(crate::specs::Typed::field_value))]
 fn field_value(
     alloc: Global,
@@ -207,7 +208,7 @@ fn field_value(
     }
 }
 
-/// The values of these rows, the first of which has that number, behind those made so far.
+/// Appends the values of these fields, numbered from `number` on, to `made`.
 fn push_values(
     alloc: Global,
     known: Known<'_>,
@@ -248,7 +249,8 @@ fn declared_given(
     accepted(known.nodes, declaration.access, None, field, value)
 }
 
-/// A Script declares no rotation: four numerals are none that is supported.
+/// Returns the fault of a declared rotation that is given a value: a Script can't declare
+/// rotations.
 fn no_rotation(field: &FlatField) -> Result<Option<Value>, SceneFault>
     ensures { result ≡ spec.no_rotation field.now }
 {
@@ -258,7 +260,7 @@ fn no_rotation(field: &FlatField) -> Result<Option<Value>, SceneFault>
     }
 }
 
-/// What a declared field holds that is given nothing.
+/// Returns what a declared field holds if it is given no value.
 fn declared_empty(
     alloc: Global,
     declaration: &Declaration<u32>,
@@ -275,7 +277,7 @@ fn declared_empty(
     }
 }
 
-/// What a declared field holds: the value given, or the empty value of its type.
+/// Returns what a declared field holds: the given value, or the empty value of its type.
 #[tactic(auto, unfolding(crate::specs::Typed::declared_value))]
 fn declared_value(
     alloc: Global,
@@ -293,8 +295,7 @@ fn declared_value(
     }
 }
 
-/// The values of the declared fields, which are numbered from `number` on, behind those made so
-/// far.
+/// Appends the values of the declared fields, numbered from `number` on, to `made`.
 fn push_declared(
     alloc: Global,
     known: Known<'_>,
@@ -317,7 +318,7 @@ fn push_declared(
     Ok(made)
 }
 
-/// A root or helper is a child node.
+/// Checks that a root or helper is a child node.
 #[tactic(auto, unfolding(crate::specs::Typed::child))]
 fn check_child(nodes: &[FlatNode], n: u32) -> Result<(), SceneFault>
     ensures { result ≡ spec.child nodes.now n }

@@ -1,4 +1,4 @@
-//! How many fields a node may have.
+//! The limit of the fields of a node.
 
 ghost use Rattle.std.specs.Prelude.{◌≡◌};
 ghost use Rattle.scene_core.specs.Wide as spec;
@@ -7,14 +7,14 @@ use crate::row::MOST_FIELDS;
 use crate::scene::SceneNode;
 use x3d_values::fields_of;
 
-/// Whether a node declares more fields than have numbers.
+/// Reports whether a node declares more fields than there are numbers for.
 fn is_wide(node: &SceneNode) -> bool
     ensures { result ≡ spec.is_wide node.now }
 {
     MOST_FIELDS - fields_of(node.node_type).len() < node.declared.len()
 }
 
-/// Whether any node declares more fields than have numbers.
+/// Reports whether any node declares more fields than there are numbers for.
 pub(crate) fn is_any_wide(nodes: &[SceneNode]) -> bool
     ensures { result ≡ spec.any_wide nodes.now }
 {

@@ -1,5 +1,4 @@
--- Whether a value is the one that a field has where a scene gives none (ISO/IEC 19775-1, the node
--- types of each component).
+-- Whether a value is the default of a field (ISO/IEC 19775-1, the node types of each component).
 use Rattle.std.specs.Prelude.{ℕ, ◌==◌, ℤ, pos, Bool, false, not, ◌&&◌, List, [], ◌∷◌, codes, is_none, length, nat_eq}
 use Rattle.std.specs.Ordering.{int_eq}
 use Rattle.std.specs.Cmp.Lexicographic.{pointwise}
@@ -95,7 +94,7 @@ abbrev pub is_one_black : Value → Bool
 is_one_black (MFColor (c ∷ [])) = is_black c
 is_one_black _ = false
 
--- the value is that default
+-- the value equals the default
 abbrev pub is_default : FieldDefault → Value → Bool
 is_default default.Empty value = says_nothing value
 is_default default.True value = is_true value

@@ -1,4 +1,4 @@
--- How values without nodes are written: a single value bare, several in brackets (ISO/IEC 19776-2,
+-- How values without nodes are written: a single value bare, a list in brackets (ISO/IEC 19776-2,
 -- field values).
 use Rattle.std.specs.Prelude.{ℕ, ℤ, pos, ◌*ℤ◌, Bool, List, [], ◌∷◌}
 use Rattle.std.specs.List.{flat_map}
@@ -27,7 +27,7 @@ abbrev pub number_list : {N : Type 0} → List ℤ → RawValue N
 number_list [] = raw.EmptyList
 number_list (number ∷ numbers) = raw.NumberList (number ∷ numbers)
 
--- what a value without nodes is written as
+-- the raw value of a value without nodes
 abbrev pub plain : {N : Type 0} → Value → RawValue N
 plain (SFBool truth) = raw.Truth truth
 plain (SFInt32 number) = raw.Numbers (integer_run number)

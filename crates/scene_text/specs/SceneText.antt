@@ -6,6 +6,6 @@ use Rattle.scene_core.specs.declared.scene.Route.{Route}
 use Rattle.scene_core.specs.Scene.{SceneView}
 use Rattle.scene_text.specs.Statements.{scene_document}
 
--- the text of the document that a scene with these routes has, where its nodes keep these fields
+-- the text of the document of a scene with these routes, whose nodes keep these fields
 unfoldable pub scene_text : SceneView → List Route → List Fields → List ℕ
 scene_text scene routes state = document_text (scene_document scene routes state)

@@ -1,4 +1,4 @@
--- The document that a scene is written as.
+-- The document of a scene.
 use Rattle.std.specs.Prelude.{ℕ, Bool, false, List, [], ◌∷◌, ◌++◌, None, codes, length, map, replicate}
 use Rattle.x3d_values.specs.declared.fields.Fields.{Fields}
 use Rattle.x3d_values.specs.Ranges.{max_depth}
@@ -26,14 +26,14 @@ place_of s end = record { node = label_of s end.node; field = field_name s end }
 abbrev pub route_of : SceneView → Route → RouteText
 route_of s r = record { line = 0; source = place_of s r.source; target = place_of s r.target }
 
--- ---- nodes: roots, and in a last one the helpers
+-- ---- nodes: the roots, and a last root for the helpers
 
 abbrev pub switch_of : List NodeText → NodeText
 switch_of trees =
     node.Full 0 None (codes "Switch")
     (item.Field 0 (codes "children") (given.Value (raw.NodeList trees)) ∷ [])
 
--- helpers, where there are some, are the children of a Switch, which shows none
+-- helpers, if there are any, are the children of a Switch, which shows none of them
 abbrev pub helper_root : List NodeText → List Statement
 helper_root [] = []
 helper_root (tree ∷ trees) = statement.Node (switch_of (tree ∷ trees)) ∷ []
@@ -57,7 +57,7 @@ statements_of p =
     (roots_of p).made ++ helper_root (helpers_of p (roots_of p).seen).made
     ++ routes_of p.scene p.routes
 
--- header statements as they were read, roots, helpers and routes
+-- the header statements as they were read, the roots, the helpers and the routes
 unfoldable pub scene_document : SceneView → List Route → List Fields → Document
 scene_document s routes state = record {
   version = s.header.version;

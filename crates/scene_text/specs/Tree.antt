@@ -1,5 +1,5 @@
--- The trees of the nodes of a scene: a node's first appearance in full, later ones by USE (ISO/IEC
--- 19776-2, DEF and USE).
+-- The trees of the nodes of a scene. A node's first appearance is written in full, later ones as
+-- USE (ISO/IEC 19776-2, DEF and USE).
 use Rattle.std.specs.Prelude.{ℕ, zero, suc, ◌+◌, Bool, true, false, not, List, [], ◌∷◌, ◌++◌, Option, Some, None, get_or, length, slice_get, slice_set, fold, option_and_then, if◌then◌else◌}
 use Rattle.std.specs.Option.{option_or}
 use Rattle.x3d_values.specs.declared.default.FieldDefault.{FieldDefault}
@@ -27,29 +27,29 @@ use Rattle.scene_core.specs.Scene.{SceneView, declared_at, label_of, type_at, va
 use Rattle.scene_text.specs.Defaulted.{is_default}
 use Rattle.scene_text.specs.Raw.{plain}
 
--- a scene with its routes, what its nodes keep, and by number which nodes have a DEF where they
--- first appear
+-- a scene with its routes, what its nodes keep, and, by node number, which nodes have a DEF where
+-- they first appear
 pub record PlanView : Type 0 where
   pub scene : SceneView
   pub routes : List Route
   pub state : List Fields
   pub named : List Bool
 
--- ---- the fields of a node that stand in the text
+-- ---- the fields of a node that appear in the text
 
--- a field of a type with its present value, or a declared field with what it holds
+-- a field of the node's type with its present value, or a declared field with what it holds
 pub data Shown : Type 0 where
   Plain : List ℕ → Value → Shown
   Declared : DeclaredField → Option Value → Shown
 
--- what the node keeps of an inputOutput field without nodes
+-- what the node keeps of an inputOutput field that holds no nodes
 abbrev pub kept_value : PlanView → ℕ → ℕ → Access → FieldType → Option Value
 kept_value p n number access field_type =
     if is_kept access field_type
     then option_and_then (λ (fields : Fields). field_value fields number) (slice_get p.state n)
     else None
 
--- and otherwise what the scene gives
+-- what the node keeps, or else what the scene gives
 abbrev pub present_value : PlanView → ℕ → ℕ → Access → FieldType → Option Value
 present_value p n number access field_type =
     option_or (kept_value p n number access field_type) (value_at p.scene n number)
@@ -57,35 +57,35 @@ present_value p n number access field_type =
 abbrev pub shown_if : Bool → List ℕ → Value → List Shown
 shown_if stands name value = if stands then Plain name value ∷ [] else []
 
--- a field stands where it can hold a value, and holds another than its default
+-- a field appears if it can hold a value, and its value isn't the default
 abbrev pub shown_field : List ℕ → Option FieldDefault → Option Value → List Shown
 shown_field name (Some default) (Some value) = shown_if (not (is_default default value)) name value
 shown_field name _ _ = []
 
--- in the order of the table, the first of these rows being of that number
+-- in the order of the table, numbered from `number` on
 abbrev pub shown_from : PlanView → ℕ → ℕ → List FieldRowView → List Shown
 shown_from p n number [] = []
 shown_from p n number (e ∷ others) =
     shown_field e.name e.default (present_value p n number e.access e.field_type)
     ++ shown_from p n (number + 1) others
 
--- what a declared field holds: inputOnly and outputOnly ones hold nothing
+-- what a declared field holds: inputOnly and outputOnly fields hold nothing
 abbrev pub held_value : PlanView → ℕ → ℕ → DeclaredField → Option Value
 held_value p n number d =
     if is_initial d.access then present_value p n number d.access d.field_type else None
 
--- all declared fields stand, the first of these being of that number
+-- all declared fields appear, numbered from `number` on
 abbrev pub declared_from : PlanView → ℕ → ℕ → List DeclaredField → List Shown
 declared_from p n number [] = []
 declared_from p n number (d ∷ others) =
     Declared d (held_value p n number d) ∷ declared_from p n (number + 1) others
 
--- those of the type, then those that a Script declares
+-- the fields of the type, then those that a Script declares
 unfoldable pub shown_fields : PlanView → ℕ → NodeType → List Shown
 shown_fields p n t =
     shown_from p n 0 (rows t) ++ declared_from p n (length (rows t)) (declared_at p.scene n)
 
--- ---- trees, by which nodes have appeared
+-- ---- trees; they depend on which nodes have appeared
 
 -- which nodes have appeared, and what was made
 pub record Grows (A : Type 0) : Type 0 where
@@ -98,7 +98,7 @@ Makes A B = List Bool → A → Grows B
 abbrev pub one_more : {A B : Type 0} → Makes A B → Grows (List B) → A → Grows (List B)
 one_more make s x = let m = make s.seen x in record { seen = m.seen; made = s.made ++ m.made ∷ [] }
 
--- something of each in turn
+-- makes something of each item in turn
 abbrev pub each : {A B : Type 0} → Makes A B → Makes (List A) (List B)
 each make seen xs = fold (one_more make) (record { seen = seen; made = [] }) xs
 
@@ -155,14 +155,13 @@ abbrev pub full_tree : PlanView → ℕ → NodeType → Grows (List BodyItem) �
 full_tree p n t m =
     record { seen = m.seen; made = node.Full 0 (def_name p n) (node_type_name t) m.made }
 
--- the type is that of a node that appears for the first time
+-- the type is given for a node that appears for the first time
 abbrev pub opened : PlanView → Makes ℕ NodeText → List Bool → ℕ → Option NodeType → Grows NodeText
 opened p tree seen n (Some t) =
     full_tree p n t (each (field_tree tree) (slice_set seen n true) (shown_fields p n t))
 opened p tree seen n None = record { seen = seen; made = use_tree p n }
 
--- nodes nested deeper than the depth would be written by USE; no scene has such nodes at a depth of
--- 64
+-- nodes nested deeper than the depth would be written as USE; with a depth of 64 no scene has any
 unfoldable pub node_tree : ℕ → PlanView → Makes ℕ NodeText
 node_tree zero p seen n = record { seen = seen; made = use_tree p n }
 node_tree (suc depth) p seen n = opened p (node_tree depth p) seen n (new_type p seen n)

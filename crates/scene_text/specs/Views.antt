@@ -1,4 +1,4 @@
--- A plan and a shown field of the program by what stands behind their references.
+-- The code's plans and shown fields, with their references resolved.
 use Rattle.std.specs.Option.{option_copied}
 use Rattle.scene_text.specs.declared.plan.Plan.{Plan}
 use Rattle.scene_text.specs.declared.plan.ShownField.{ShownField}

@@ -1,11 +1,11 @@
-//! Whether a value is the one that a field has where a scene gives none.
+//! Whether a value is the default of its field.
 
 ghost use Rattle.std.specs.Prelude.{◌≡◌};
 ghost use Rattle.scene_text.specs.Defaulted.{is_black, says_nothing, is_true, is_integer, is_number, is_time, is_pair, is_vector, is_color, is_string, is_word, are_standard_sizes, is_examine_any, is_one_black, is_default};
 
 use x3d_values::{Color, FieldDefault, Value, Vec2, Vec3};
 
-/// The value is that default. It takes no memory.
+/// Reports whether the value equals the default. Takes no memory.
 pub(crate) fn is_default(default: &FieldDefault, value: &Value) -> bool
     ensures { result ≡ is_default default.now value.now }
 {
@@ -33,7 +33,7 @@ fn is_black(color: &Color) -> bool
     color.red == 0 && (color.green == 0 && color.blue == 0)
 }
 
-/// FALSE, 0, the empty string, zeros, no node or no items.
+/// Reports whether the value is FALSE, 0, the empty string, zeros, no node or an empty list.
 fn says_nothing(value: &Value) -> bool
     ensures { result ≡ says_nothing value.now }
 {
@@ -135,7 +135,7 @@ fn is_string(wanted: &str, value: &Value) -> bool
     }
 }
 
-/// A list of that one string.
+/// Reports whether the value is a list of only the string `wanted`.
 fn is_word(wanted: &str, value: &Value) -> bool
     ensures { result ≡ is_word wanted.now value.now }
 {
@@ -148,7 +148,7 @@ fn is_word(wanted: &str, value: &Value) -> bool
     }
 }
 
-/// `["EXAMINE" "ANY"]`
+/// Reports whether the value is `["EXAMINE" "ANY"]`.
 fn is_examine_any(value: &Value) -> bool
     ensures { result ≡ is_examine_any value.now }
 {
@@ -161,7 +161,7 @@ fn is_examine_any(value: &Value) -> bool
     }
 }
 
-/// `[0.25 1.6 0.75]`
+/// Reports whether the value is `[0.25 1.6 0.75]`.
 fn are_standard_sizes(value: &Value) -> bool
     ensures { result ≡ are_standard_sizes value.now }
 {
@@ -174,7 +174,7 @@ fn are_standard_sizes(value: &Value) -> bool
     }
 }
 
-/// `[0 0 0]`
+/// Reports whether the value is `[0 0 0]`.
 fn is_one_black(value: &Value) -> bool
     ensures { result ≡ is_one_black value.now }
 {

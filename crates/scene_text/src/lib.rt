@@ -1,8 +1,8 @@
-//! The text of a scene (ISO/IEC 19776-2), by which it can be read again.
+//! The text of a scene (ISO/IEC 19776-2), from which the scene can be read again.
 //!
-//! `write` writes the document that a scene is written as. Its `statements` are made of the `tree`
-//! of each node: `plan` says what of a node stands there, `places` which nodes need a name,
-//! `defaults` which values are left out, and `raw` how the others are written.
+//! `write` writes the document of a scene. The `statements` of the document contain the `tree` of
+//! each node. `plan` decides what of a node appears in the text, `places` which nodes need a name,
+//! `defaults` which values are omitted, and `raw` how the other values are written.
 #![tactic(auto)]
 
 mod defaults;

@@ -11,7 +11,7 @@ use scene_core::{Route, Scene};
 use std::alloc::{AllocError, Global};
 use x3d_values::Value;
 
-/// By node number: its first appearance needs a DEF.
+/// Returns by node number whether the node's first appearance needs a DEF.
 #[tactic(auto, using(crate::proofs::Ranges::ranges), unfolding(crate::specs::Places::named))]
 pub(crate) fn named(alloc: Global, scene: &Scene, routes: &[Route]) -> Result<Vec<bool>, AllocError>
     ensures { IfOk result (λ found. found.items ≡ named scene.now routes.now) }
@@ -43,7 +43,7 @@ fn push_nodes_of(value: Option<&Value>, out: &mut Vec<u32>) -> Result<(), AllocE
     }
 }
 
-/// How many nodes the scene has. A scene has at most 65,536.
+/// Returns the number of nodes of the scene, at most 65,536.
 fn node_count(scene: &Scene) -> Result<u32, AllocError>
     ensures { IfOk result (λ count. count ≡ length scene.now.nodes) }
 {
@@ -66,7 +66,7 @@ fn push_nodes_at(
     push_nodes_of(scene.value(node, number as u16), out)
 }
 
-/// The nodes in the fields of a node.
+/// Appends the nodes in the fields of a node.
 fn push_nodes_within(scene: &Scene, node: u32, out: &mut Vec<u32>) -> Result<(), AllocError>
     ensures { OnOk result (out.new.items ≡ out.old.items ++ nodes_within scene.now node) }
 {
@@ -76,7 +76,7 @@ fn push_nodes_within(scene: &Scene, node: u32, out: &mut Vec<u32>) -> Result<(),
     Ok(())
 }
 
-/// Every appearance of a node in the text.
+/// Returns every appearance of a node in the text.
 fn places(alloc: Global, scene: &Scene) -> Result<Vec<u32>, AllocError>
     ensures { IfOk result (λ found. found.items ≡ places scene.now) }
 {
@@ -88,7 +88,7 @@ fn places(alloc: Global, scene: &Scene) -> Result<Vec<u32>, AllocError>
     Ok(found)
 }
 
-/// Every end of a route.
+/// Returns the nodes of every end of a route.
 fn ends(alloc: Global, routes: &[Route]) -> Result<Vec<u32>, AllocError>
     ensures { IfOk result (λ found. found.items ≡ flat_map ends_of routes.now) }
 {
@@ -99,7 +99,7 @@ fn ends(alloc: Global, routes: &[Route]) -> Result<Vec<u32>, AllocError>
     Ok(found)
 }
 
-/// One more of that number, if there is such a number.
+/// Counts one more of node `node`, if it is in the table.
 fn count_one(counts: &mut Vec<usize>, node: u32)
     requires { get_or counts.old.items node 0 + 1 < 2 ^ 64 }
     ensures all { length counts.new.items ≡ length counts.old.items }
@@ -113,7 +113,7 @@ fn count_one(counts: &mut Vec<usize>, node: u32)
     }
 }
 
-/// How often each of the first `count` numbers stands in the list.
+/// Returns how often each number below `count` appears in the list.
 fn counts(alloc: Global, count: u32, nodes: &[u32]) -> Result<Vec<usize>, AllocError>
     ensures all { IfOk result (λ counts. length counts.items ≡ count) }
     ensures each { IfOk result (λ counts. (n : ℕ) → n < count → get_or counts.items n 0
@@ -126,8 +126,8 @@ fn counts(alloc: Global, count: u32, nodes: &[u32]) -> Result<Vec<usize>, AllocE
     Ok(counts)
 }
 
-/// The first appearance of the node needs a DEF, by how often it is an end of a route and how often
-/// it appears.
+/// Reports whether the first appearance of the node needs a DEF, by how often the node is an end of
+/// a route and how often it appears.
 fn is_named(
     scene: &Scene,
     routes: &[Route],

@@ -1,5 +1,4 @@
-//! What of a node stands in the text: its label, and those of its fields that differ from their
-//! defaults.
+//! What of a node appears in the text: its label, and the fields that differ from their defaults.
 
 ghost use Rattle.std.specs.Prelude.{◌≡◌, ◌+◌, ◌++◌, ◌<◌, ◌≤◌, IfOk, OnOk, Some, length, map, slice_get};
 ghost use Rattle.std.specs.Option.{option_copied};
@@ -19,11 +18,11 @@ pub(crate) struct Plan<'a> {
     pub scene: &'a Scene,
     pub routes: &'a [Route],
     pub state: &'a [Fields],
-    /// By node number: a DEF stands where the node first appears.
+    /// By node number, whether the first appearance of the node has a DEF.
     pub named: &'a [bool],
 }
 
-/// A field that stands in the text.
+/// A field that appears in the text.
 #[derive(Clone, Copy)]
 pub(crate) enum ShownField<'a> {
     /// A field of the node's type, with its present value.
@@ -32,7 +31,7 @@ pub(crate) enum ShownField<'a> {
     Declared(&'a DeclaredField, Option<&'a Value>),
 }
 
-/// The name of a node that no other node has.
+/// Returns the label of a node, which no other node has.
 #[tactic(auto, unfolding(scene_core::specs::Scene::label_of))]
 pub(crate) fn label(alloc: Global, scene: &Scene, node: u32) -> Result<Text, AllocError>
     ensures { IfOk result (λ name. name ≡ label_of scene.now node) }
@@ -43,7 +42,7 @@ pub(crate) fn label(alloc: Global, scene: &Scene, node: u32) -> Result<Text, All
     }
 }
 
-/// The name that DEF gives the node, where it gives one.
+/// Returns the name that DEF gives the node, if it has a DEF.
 pub(crate) fn def_name(
     alloc: Global,
     plan: &Plan<'_>,
@@ -57,7 +56,7 @@ pub(crate) fn def_name(
     }
 }
 
-/// The fields of a node of that type that stand in the text.
+/// Returns the fields of a node of type `node_type` that appear in the text.
 #[tactic(auto, unfolding(crate::specs::Tree::shown_fields))]
 pub(crate) fn shown_fields<'a>(
     alloc: Global,
@@ -77,7 +76,7 @@ pub(crate) fn shown_fields<'a>(
     Ok(shown)
 }
 
-/// What the node keeps of an inputOutput field without nodes.
+/// Returns what the node keeps of an inputOutput field that holds no nodes.
 fn kept_value<'a>(
     plan: &Plan<'a>,
     node: u32,
@@ -94,7 +93,7 @@ fn kept_value<'a>(
     }
 }
 
-/// The present value of a field: what the node keeps, or else what the scene gives.
+/// Returns the present value of a field: what the node keeps, or else what the scene gives.
 fn present_value<'a>(
     plan: &Plan<'a>,
     node: u32,
@@ -111,7 +110,7 @@ fn present_value<'a>(
     }
 }
 
-/// Puts the field behind the others where it stands in the text.
+/// Appends the field, if it appears in the text.
 fn push_shown<'a>(
     field: &Field,
     present: Option<&'a Value>,
@@ -133,7 +132,7 @@ fn push_shown<'a>(
     Ok(())
 }
 
-/// Those of the fields that stand in the text, where the first of them is of that number.
+/// Appends those of the fields that appear in the text. They are numbered from `number` on.
 fn push_shown_from<'a>(
     plan: &Plan<'a>,
     node: u32,
@@ -155,7 +154,7 @@ fn push_shown_from<'a>(
     }
 }
 
-/// What a declared field holds: inputOnly and outputOnly ones hold nothing.
+/// Returns what a declared field holds. inputOnly and outputOnly fields hold nothing.
 fn held_value<'a>(
     plan: &Plan<'a>,
     node: u32,
@@ -171,7 +170,7 @@ fn held_value<'a>(
     }
 }
 
-/// Puts the declared fields of a node behind the others; they are numbered from `first` on.
+/// Appends the declared fields of a node. They are numbered from `first` on.
 #[tactic(auto, using(crate::proofs::DeclaredFields::declaring))]
 fn push_declared<'a>(
     plan: &Plan<'a>,

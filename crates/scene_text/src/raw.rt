@@ -1,4 +1,4 @@
-//! How values without nodes are written: a single value bare, several in brackets.
+//! How values without nodes are written: a single value bare, a list in brackets.
 
 ghost use Rattle.std.specs.Prelude.{◌≡◌, ◌++◌, ℤ, List, OnOk, IfOk, flat_map};
 ghost use Rattle.classic_tree.specs.declared.tree.RawValue.TheVariants as raw;
@@ -8,11 +8,11 @@ use classic_tree::RawValue;
 use std::alloc::{AllocError, Global};
 use x3d_values::{Color, Duplicate, Items, Text, Value, Vec2, Vec3};
 
-/// What is written as one numeral or more.
+/// A value that is written as one or more numerals.
 trait Numerals {
     ghost run: { Self → List ℤ };
 
-    /// Appends the numerals, in millionths; on a refusal perhaps a part of them.
+    /// Appends the numerals, in millionths. If memory is refused, a part of them may be appended.
     fn push_to(&self, out: &mut Vec<i64>) -> Result<(), AllocError>
         ensures { OnOk result (out.new.items ≡ out.old.items ++ run self.now) };
 }
@@ -59,7 +59,7 @@ impl Numerals for Color {
     }
 }
 
-/// What a value without nodes is written as; no node is NULL, and no nodes an empty list.
+/// Returns the raw value of a value without nodes. No node is NULL, and no nodes are an empty list.
 pub(crate) fn plain<N: Drop>(alloc: Global, value: &Value) -> Result<RawValue<N>, AllocError>
     ensures { IfOk result (λ made. made ≡ plain value.now) }
 {
@@ -85,7 +85,7 @@ pub(crate) fn plain<N: Drop>(alloc: Global, value: &Value) -> Result<RawValue<N>
     }
 }
 
-/// A value of its own, without brackets.
+/// Returns a single value, without brackets.
 fn bare<T: Numerals, N: Drop>(alloc: Global, value: &T) -> Result<RawValue<N>, AllocError>
     ensures { IfOk result (λ made. made ≡ raw.Numbers (T.run value.now)) }
 {

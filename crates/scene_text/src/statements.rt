@@ -13,7 +13,7 @@ use scene_core::{End, Route, Scene};
 use std::alloc::{AllocError, Global};
 use x3d_values::{Items, MAX_DEPTH, Text};
 
-/// All statements of the scene.
+/// Returns all statements of the scene.
 #[tactic(auto, unfolding(crate::specs::Statements::statements_of))]
 pub(crate) fn statements_of(alloc: Global, plan: &Plan<'_>) -> Result<Vec<Statement>, AllocError>
     ensures { IfOk result (λ made. made.items ≡ statements_of (plan_of plan.now)) }
@@ -64,7 +64,7 @@ fn push_routes(
     Ok(())
 }
 
-/// The roots, where no node has appeared that is not marked as seen.
+/// Returns the roots. `seen` marks the nodes that have already appeared.
 fn roots_of(
     alloc: Global,
     plan: &Plan<'_>,
@@ -82,7 +82,7 @@ fn roots_of(
     Ok(roots)
 }
 
-/// A Switch with these nodes as its children.
+/// Returns a Switch with these nodes as its children.
 fn switch_of(alloc: Global, children: Vec<NodeText>) -> Result<NodeText, AllocError>
     ensures { IfOk result (λ made. made ≡ switch_of children.items) }
 {
@@ -99,7 +99,7 @@ fn switch_of(alloc: Global, children: Vec<NodeText>) -> Result<NodeText, AllocEr
     Ok(NodeText::Full(0, None, word, items))
 }
 
-/// A list of that one item.
+/// Returns a list of only that item.
 fn only_item(alloc: Global, item: BodyItem) -> Result<Items<BodyItem>, AllocError>
     ensures { IfOk result (λ items. items ≡ item ∷ []) }
 {
@@ -108,7 +108,7 @@ fn only_item(alloc: Global, item: BodyItem) -> Result<Items<BodyItem>, AllocErro
     Ok(items)
 }
 
-/// The helpers, where there are some, as one root more.
+/// Appends the helpers as one more root, if there are any.
 #[tactic(auto, using(crate::proofs::Trees::helper_steps))]
 fn push_helpers(
     alloc: Global,

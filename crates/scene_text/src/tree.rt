@@ -1,4 +1,4 @@
-//! The trees of nodes: a node's first appearance in full, later ones by USE.
+//! The trees of nodes. A node's first appearance is written in full, later ones as USE.
 
 ghost use Rattle.std.specs.Prelude.{◌≡◌, ◌<◌, IfOk, IfSome, Some, length, map, slice_get};
 ghost use Rattle.std.specs.Option.{option_copied};
@@ -15,7 +15,7 @@ use scene_core::DeclaredField;
 use std::alloc::{AllocError, Global};
 use x3d_values::{Duplicate, Items, NodeType, Text, Value};
 
-/// The tree of a node where nodes may be nested to that depth.
+/// Returns the tree of a node, with nodes nested at most `depth` deep.
 #[cycle(tree)]
 #[tactic(auto, using(crate::proofs::Trees::node_steps))]
 pub(crate) fn node_tree(
@@ -58,7 +58,7 @@ pub(crate) fn node_trees(
     Ok(trees)
 }
 
-/// The type of a node that has not appeared.
+/// Returns the type of a node that has not appeared yet.
 fn new_type(plan: &Plan<'_>, seen: &[bool], node: u32) -> Option<NodeType>
     ensures is { result ≡ new_type (plan_of plan.now) seen.now node }
     ensures typed { IfSome result

@@ -14,8 +14,8 @@ use std::alloc::{AllocError, Global};
 use x3d_values::{Duplicate, Fields, Items};
 
 /// Appends the text of a scene with these routes, whose nodes keep these fields: the header
-/// statements, the roots, the helpers in a last root Switch, and the routes. On a refusal the
-/// buffer is as it was.
+/// statements, the roots, a last root Switch for the helpers, and the routes. Fails if memory is
+/// refused; then the buffer is unchanged.
 #[tactic(auto, unfolding(crate::specs::SceneText::scene_text))]
 pub fn write_scene(
     scene: &Scene,
@@ -33,7 +33,7 @@ pub fn write_scene(
     written
 }
 
-/// The scene as a document: its header statements as they were read, and its statements.
+/// Returns the scene as a document: the header statements as they were read, and the statements.
 #[tactic(auto, unfolding(crate::specs::Statements::scene_document))]
 fn scene_document(
     alloc: Global,
@@ -64,7 +64,7 @@ fn scene_document(
     })
 }
 
-/// The statements of a scene, each node with a DEF where one is needed.
+/// Returns the statements of a scene. Nodes that need a DEF have one.
 fn planned_statements(
     alloc: Global,
     scene: &Scene,

@@ -4,7 +4,7 @@ use Rattle.x3d_values.specs.declared.vector.Vec2.{Vec2}
 use Rattle.x3d_values.specs.declared.vector.Vec3.{Vec3}
 use Rattle.x3d_values.specs.declared.vector.Color.{Color}
 
--- ---- all of them as one item
+-- ---- all numerals as one item
 
 abbrev pub component : List ℤ → ℕ → ℤ
 component run n = slice_index_or run n (pos 0)
@@ -18,7 +18,7 @@ vector run = record { x = component run 0; y = component run 1; z = component ru
 abbrev pub color : List ℤ → Color
 color run = record { red = component run 0; green = component run 1; blue = component run 2 }
 
--- ---- grouped; what is left after the last whole group is in none
+-- ---- grouped; numerals after the last whole group are ignored
 
 abbrev pub pairs : List ℤ → List Vec2
 pairs (x ∷ (y ∷ rest)) = record { x = x; y = y } ∷ pairs rest

@@ -1,7 +1,7 @@
--- The value that a raw value is, by the type of its field (ISO/IEC 19775-1, field types; ISO/IEC
+-- Conversion of raw values by the type of their field (ISO/IEC 19775-1, field types; ISO/IEC
 -- 19776-2, field values).
 --
--- A single field takes a bare value alone. A multiple field takes a list, or a bare value that has
+-- A single field takes only a bare value. A multiple field takes a list, or a bare value that has
 -- the form of exactly one item.
 use Rattle.std.specs.Prelude.{◌==◌, ℕ, ◌%◌, ℤ, Bool, List, [], ◌∷◌, length, map, slice_index_or, Option, Some, None, Result, Ok, Err, if◌then◌else◌}
 use Rattle.std.specs.List.{list_all}
@@ -18,32 +18,32 @@ use Rattle.scene_values.specs.declared.quantity.Quantity.TheVariants.{Number, Ti
 use Rattle.scene_values.specs.Grouping.{component, pair, vector, color, pairs, vectors, colors}
 use Rattle.scene_values.specs.Quantities.{fits, whole}
 
--- an answer of parts of a value, as the value
+-- applies `value` to the result if it is Ok
 abbrev pub made : {X Y : Type 0} → (X → Y) → Result X ValueFault → Result Y ValueFault
 made value (Ok x) = Ok (value x)
 made value (Err fault) = Err fault
 
 -- ---- numerals
 
--- the numerals, if their count is right and all are in range; a wrong count wins
+-- the numerals, if their count is right and all are in range; a wrong count is reported first
 abbrev pub checked : Bool → Quantity → List ℤ → Result (List ℤ) ValueFault
 checked right_count quantity numbers =
     if right_count then (if list_all (fits quantity) numbers then Ok numbers else Err ValueRange)
     else Err WrongType
 
--- of a single value of so many components: a bare run of them
+-- a single value of `size` components: a bare run of them
 abbrev pub run : ℕ → Quantity → RawValue ℕ → Result (List ℤ) ValueFault
 run size quantity (raw.Numbers numbers) = checked (length numbers == size) quantity numbers
 run size quantity _ = Err WrongType
 
--- of values of so many components: a bare run of one value, or a list of whole values
+-- values of `size` components each: a bare run of one value, or a list of whole values
 abbrev pub runs : ℕ → Quantity → RawValue ℕ → Result (List ℤ) ValueFault
 runs size quantity (raw.Numbers numbers) = checked (length numbers == size) quantity numbers
 runs size quantity (raw.NumberList numbers) = checked (length numbers % size == 0) quantity numbers
 runs size quantity raw.EmptyList = Ok []
 runs size quantity _ = Err WrongType
 
--- ---- what has no numerals
+-- ---- values without numerals
 
 abbrev pub truth : RawValue ℕ → Result Bool ValueFault
 truth (raw.Truth b) = Ok b
@@ -65,7 +65,7 @@ strings (raw.StringList texts) = Ok texts
 strings raw.EmptyList = Ok []
 strings _ = Err WrongType
 
--- what a node of the value is called in the scene
+-- the number that node n of the value has in the scene
 abbrev pub called : List ℕ → ℕ → ℕ
 called numbers n = slice_index_or numbers n 0
 
@@ -74,7 +74,7 @@ node numbers raw.Null = Ok None
 node numbers (raw.Node n) = Ok (Some (called numbers n))
 node numbers _ = Err WrongType
 
--- NULL is no item of a list
+-- NULL can't be an item of a list
 abbrev pub nodes : List ℕ → RawValue ℕ → Result (List ℕ) ValueFault
 nodes numbers (raw.Node n) = Ok (called numbers n ∷ [])
 nodes numbers (raw.NodeList ns) = Ok (map (called numbers) ns)
@@ -83,7 +83,7 @@ nodes numbers _ = Err WrongType
 
 -- ---- by type
 
--- a rotation is no value: it is checked and dropped
+-- a rotation is never converted: it is checked and dropped
 abbrev pub typed : FieldType → RawValue ℕ → List ℕ → Result Value ValueFault
 typed field_type.SFBool raw numbers = made value.SFBool (truth raw)
 typed field_type.SFInt32 raw numbers =

@@ -1,4 +1,4 @@
-//! Why a raw value is no value of a type.
+//! Why a raw value can't be read as a value of a type.
 
 ghost use Rattle.std.specs.Prelude.{◌≡◌};
 ghost use Rattle.scene_values.specs.FaultName.{fault_name};
@@ -7,8 +7,8 @@ ghost use Rattle.scene_values.specs.declared.fault.ValueFault.TheVariants.{Memor
 use std::alloc::AllocError;
 use thiserror::Error;
 
-/// Why a raw value is no value of a type, in the order of precedence; `Memory` may be answered in
-/// place of each of them.
+/// Why a raw value can't be read as a value of a type, in the order of precedence. `Memory` may be
+/// reported instead of any of the others.
 #[derive(Clone, Copy, Debug, PartialEq, Eq, Error)]
 pub enum ValueFault {
     #[error("the value has not the form of its type")]
@@ -22,7 +22,7 @@ pub enum ValueFault {
 }
 
 impl ValueFault {
-    /// The name of the variant.
+    /// Returns the name of the variant.
     pub fn name(self) -> &'static str
         ensures { result.now ≡ fault_name self }
     {

@@ -112,7 +112,7 @@ fn colors_of(alloc: Global, numbers: &[i64]) -> Result<Items<Color>, AllocError>
     Ok(Items::from_vec(items))
 }
 
-/// The whole numbers that numerals stand for, each of which is one.
+/// Returns the whole numbers of the numerals. Every numeral must be a whole number.
 pub(crate) fn wholes(alloc: Global, numbers: &[i64]) -> Result<Items<i32>, AllocError>
     requires { list_all is_integer numbers.now ≡ true }
     ensures { IfOk result (λ items. items ≡ map whole numbers.now) }

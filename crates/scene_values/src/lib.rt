@@ -1,8 +1,7 @@
-//! The values of fields, by their types, from values as they are written.
+//! Converts raw values, as they are written in a text, to typed field values.
 //!
-//! A reader of texts knows no types: a raw value is a run of numerals, a list, a string and so on.
-//! Here it becomes a value of the type of its field, or the fault is answered that keeps it from
-//! being one.
+//! A text reader knows no types: a raw value is a run of numerals, a list, a string and so on. This
+//! crate converts a raw value to a value of the field's type, or reports why that isn't possible.
 #![tactic(auto)]
 
 mod fault;

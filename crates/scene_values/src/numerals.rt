@@ -1,4 +1,4 @@
-//! The numerals of a raw value: as many as its type has components, and in range.
+//! The numerals of a raw value: checks their count against the type, and their range.
 
 ghost use Rattle.std.specs.Prelude.{◌≡◌, ◌<◌, true, length, IfOk};
 ghost use Rattle.std.specs.Result.{result_map_both};
@@ -10,7 +10,7 @@ use crate::fault::ValueFault;
 use crate::quantity::Quantity;
 use classic_tree::RawValue;
 
-/// Whether all the numerals are in range. It reads each once.
+/// Reports whether all the numerals are in range. Reads each numeral at most once.
 fn all_fit(quantity: Quantity, numbers: &[i64]) -> bool
     ensures { result ≡ list_all (fits quantity) numbers.now }
 {
@@ -22,7 +22,7 @@ fn all_fit(quantity: Quantity, numbers: &[i64]) -> bool
     true
 }
 
-/// The numerals, if their count is right and all are in range.
+/// Returns the numerals if their count is right and all are in range.
 fn checked(right_count: bool, quantity: Quantity, numbers: &[i64]) -> Result<&[i64], ValueFault>
     ensures exact { result_map_both (λ list. list.now) (λ fault. fault) result
         ≡ checked right_count quantity numbers.now }
@@ -36,7 +36,7 @@ fn checked(right_count: bool, quantity: Quantity, numbers: &[i64]) -> Result<&[i
     Ok(numbers)
 }
 
-/// The numerals of a single value of so many components: a bare run.
+/// Returns the numerals of a single value of `size` components, which is a bare run.
 pub(crate) fn run(
     size: usize,
     quantity: Quantity,
@@ -53,7 +53,8 @@ pub(crate) fn run(
     }
 }
 
-/// The numerals of a list of values of so many components: a list, or a bare run of one value.
+/// Returns the numerals of a list of values of `size` components each: a list, or a bare run of one
+/// value.
 pub(crate) fn runs(
     size: usize,
     quantity: Quantity,

@@ -1,4 +1,4 @@
-//! Values that are no numerals: truth values, strings and nodes.
+//! Values without numerals: truth values, strings and nodes.
 
 ghost use Rattle.std.specs.Prelude.{◌≡◌, [], ◌∷◌, map, IfOk};
 ghost use Rattle.x3d_lists.specs.Answers.{Gives};
@@ -57,7 +57,8 @@ fn one_string(alloc: Global, text: &Text) -> Result<Items<Text>, AllocError>
     Ok(texts)
 }
 
-/// What a node of a value is called in the scene, by what each of them is called.
+/// Returns the number that node `node` of a value has in the scene: `numbers[node]`, or 0 if there
+/// is no such entry.
 fn called(numbers: &[u32], node: u32) -> u32
     ensures { result ≡ called numbers.now node }
 {

@@ -1,35 +1,35 @@
-//! What numerals stand for, and their ranges.
+//! The quantities that numerals express, and their ranges.
 
 ghost use Rattle.std.specs.Prelude.{◌≡◌, true};
 ghost use Rattle.scene_values.specs.Quantities.{fits, is_integer, whole};
 
-/// The largest size of a number, in millionths.
+/// The largest absolute value of a number, in millionths.
 const MAX_NUMBER: u64 = x3d_values::MAX_COORDINATE;
 
-/// The largest size of a time, in microseconds.
+/// The largest absolute value of a time, in microseconds.
 const MAX_TIME: u64 = x3d_values::MAX_TIME as u64;
 
-/// How many millionths are one.
+/// The number of millionths in one.
 const ONE: i64 = 1_000_000;
 
-/// The least and the greatest whole number of 32 bits.
+/// The smallest whole number of 32 bits. `MAX_INTEGER` is the largest.
 const MIN_INTEGER: i64 = -2_147_483_648;
 
 const MAX_INTEGER: i64 = 2_147_483_647;
 
-/// What a numeral stands for.
+/// The kind of quantity that a numeral expresses.
 #[derive(Clone, Copy)]
 pub(crate) enum Quantity {
     /// A number, in millionths.
     Number,
-    /// A time: a numeral counts seconds, so its millionths are microseconds.
+    /// A time. A numeral counts seconds, so its millionths are microseconds.
     Time,
     /// A whole number of 32 bits, in millionths.
     Integer,
 }
 
 impl Quantity {
-    /// Whether so many millionths are in range.
+    /// Reports whether `millionths` is in range.
     pub(crate) fn fits(self, millionths: i64) -> bool
         ensures { result ≡ fits self millionths }
     {
@@ -48,7 +48,7 @@ fn is_integer(millionths: i64) -> bool
     millionths.unsigned_abs() % 1_000_000 == 0 && MIN_INTEGER <= number && number <= MAX_INTEGER
 }
 
-/// The whole number that so many millionths are.
+/// Returns the whole number that equals `millionths` millionths.
 pub(crate) fn whole(millionths: i64) -> i32
     requires { is_integer millionths ≡ true }
     ensures { result ≡ whole millionths }

@@ -19,8 +19,11 @@ fn rotation(run: &[i64], any_angle: bool) -> Result<(), ValueFault>
     }
 }
 
-/// Whether a raw value is a rotation that may be dropped: an axis of three numerals, and the angle
-/// 0, or any angle where that is allowed. No range is looked at. It takes no memory.
+/// Checks that a raw value is a rotation that may be dropped: an axis of three numerals, and the
+/// angle 0, or any angle if `any_angle`. Ranges aren't checked. Takes no memory.
+///
+/// Fails with `WrongType` if the value isn't a bare run of four numerals, and with
+/// `RotationUnsupported` if the angle isn't allowed.
 pub fn checked_rotation(raw: &RawValue<u32>, any_angle: bool) -> Result<(), ValueFault>
     ensures { result ≡ checked_rotation raw.now any_angle }
 {

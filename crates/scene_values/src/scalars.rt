@@ -15,7 +15,7 @@ use classic_tree::RawValue;
 use std::alloc::Global;
 use x3d_values::Items;
 
-/// A single number or time.
+/// Returns a single number or time.
 pub(crate) fn scalar(quantity: Quantity, raw: &RawValue<u32>) -> Result<i64, ValueFault>
     ensures { result ≡ made (λ list. component list 0) (run 1 quantity raw.now) }
 {
@@ -30,7 +30,7 @@ pub(crate) fn integer(raw: &RawValue<u32>) -> Result<i32, ValueFault>
     Ok(whole(list[0]))
 }
 
-/// A list of numbers or times.
+/// Returns a list of numbers or times.
 pub(crate) fn scalars(
     alloc: Global,
     quantity: Quantity,

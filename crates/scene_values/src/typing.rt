@@ -1,4 +1,4 @@
-//! The value that a raw value is, by the type of its field.
+//! Conversion of a raw value by the type of its field.
 
 ghost use Rattle.x3d_lists.specs.Answers.{Gives};
 ghost use Rattle.scene_values.specs.Typing.{typed};
@@ -12,8 +12,11 @@ use classic_tree::RawValue;
 use std::alloc::Global;
 use x3d_values::{FieldType, Value};
 
-/// The value of that type that a raw value is. `numbers[n]` is what its node n is called in the
-/// scene; a node beyond `numbers` is called 0. A rotation is no value: it is only checked.
+/// Converts a raw value to a value of type `field_type`. `numbers[n]` is the number that node n of
+/// the raw value has in the scene; a node without an entry in `numbers` gets the number 0.
+///
+/// Fails with the first fault in the order of `ValueFault`, or with `Memory`. `SFRotation` always
+/// fails with `WrongType`: rotations are only checked, see `checked_rotation`.
 pub fn typed(
     alloc: Global,
     field_type: FieldType,

@@ -9,7 +9,7 @@ pub record IsNear (time : ℤ) : Type 0 where
   pub early : negsuc (max_time - 1) ≤ℤ time
   pub late : time ≤ℤ pos max_time
 
--- a start and how long a cycle takes
+-- a start, and the length of a cycle
 pub record AreCycles (start interval : ℤ) : Type 0 where
   pub begins : IsNear start
   pub some : pos 0 <ℤ interval
@@ -19,7 +19,7 @@ pub record AreCycles (start interval : ℤ) : Type 0 where
 unfoldable pub cycle_at : ℤ → ℤ → ℤ → ℤ
 cycle_at start interval t = int_div_euclid (t -ℤ start) interval
 
--- when that cycle began
+-- when the cycle at a time began
 unfoldable pub cycle_time : ℤ → ℤ → ℤ → ℤ
 cycle_time start interval t = start +ℤ (cycle_at start interval t *ℤ interval)
 
@@ -32,7 +32,7 @@ abbrev pub part_of_cycle : ℤ → ℤ → ℤ
 part_of_cycle elapsed interval =
     pos (unsigned_abs (int_rem_euclid elapsed interval) * 1000000 / unsigned_abs interval)
 
--- it is 1 at the end of a cycle
+-- 1 at the end of a cycle
 unfoldable pub fraction_at : ℤ → ℤ → ℤ → ℤ
 fraction_at start interval x =
     if int_lt start x && (unsigned_abs (int_rem_euclid (x -ℤ start) interval) == 0)

@@ -1,5 +1,5 @@
--- What an event does that comes in at a TimeSensor (ISO/IEC 19775-1, time component; what `enabled`
--- FALSE ends is our choice).
+-- What an event does at a TimeSensor (ISO/IEC 19775-1, time component; what `enabled` FALSE ends is
+-- our choice).
 use Rattle.std.specs.Prelude.{ℕ, ◌==◌, ℤ, pos, int_le, Bool, false, not, is_some, ◌&&◌, ◌||◌, List, [], ◌∷◌, Option, Some, None, if◌then◌else◌}
 use Rattle.x3d_values.specs.declared.value.Value.{Value}
 use Rattle.x3d_values.specs.declared.value.Value.TheVariants.{SFBool, SFTime}
@@ -8,14 +8,14 @@ use Rattle.react_core.specs.Reaction.{reply}
 use Rattle.sensor_core.specs.declared.numbers.TheConstants.{CYCLE_INTERVAL, ENABLED, LOOP, PAUSE_TIME, RESUME_TIME, START_TIME, STOP_TIME, IS_ACTIVE}
 use Rattle.sensor_core.specs.Timing.{TimeFieldsView, is_time}
 
--- the cycle that runs after an event, if one does, what the sensor keeps, and what it sends
+-- the cycle that runs after an event, if any; what the sensor keeps; and what it sends, in order
 pub record TimeAnswer : Type 0 where
   pub cycle : Option ℕ
   pub timing : TimeFieldsView
   pub replies : List SentEvent
 
--- `startTime` while active; `stopTime` at or below `startTime` while active; `cycleInterval` while
--- active or not above 0
+-- refused: `startTime` while active; `stopTime` at or below `startTime` while active;
+-- `cycleInterval` while active or not above 0
 abbrev pub is_refused : Bool → TimeFieldsView → ℕ → ℤ → Bool
 is_refused active timing input time =
     if input == START_TIME then active
@@ -23,7 +23,7 @@ is_refused active timing input time =
     else (if input == CYCLE_INTERVAL then active || int_le time (pos 0)
     else false))
 
--- a field that keeps a time
+-- sets a field that keeps a time
 abbrev pub with_time : TimeFieldsView → ℕ → ℤ → Option TimeFieldsView
 with_time timing input time =
     if input == CYCLE_INTERVAL then Some (record timing { cycle_interval = time })
@@ -33,14 +33,14 @@ with_time timing input time =
     else (if input == STOP_TIME then Some (record timing { stop_time = time })
     else None))))
 
--- a field that keeps a truth value
+-- sets a field that keeps a truth value
 abbrev pub with_truth : TimeFieldsView → ℕ → Bool → Option TimeFieldsView
 with_truth timing input truth =
     if input == ENABLED then Some (record timing { enabled = truth })
     else (if input == LOOP then Some (record timing { looping = truth })
     else None)
 
--- what the sensor keeps after an event that sets a field; none where the event does nothing
+-- what the sensor keeps after an event that sets a field; none if the event does nothing
 unfoldable pub changed : Bool → TimeFieldsView → ℕ → Value → Option TimeFieldsView
 changed active timing input (SFBool truth) = with_truth timing input truth
 changed active timing input (SFTime time) =
@@ -48,11 +48,12 @@ changed active timing input (SFTime time) =
     then None else with_time timing input time
 changed active timing input _ = None
 
--- `enabled` FALSE ends
+-- the event disabled the sensor, which stops it
 abbrev pub is_disabled : TimeFieldsView → ℕ → Bool
 is_disabled timing input = (input == ENABLED) && not timing.enabled
 
--- the field is sent, and an active sensor that is disabled sends `isActive` FALSE alone
+-- the field is sent; an active sensor that is disabled also sends `isActive` FALSE, and nothing
+-- else
 abbrev pub keeps : Option ℕ → ℕ → Value → TimeFieldsView → TimeAnswer
 keeps cycle input value timing =
     if is_disabled timing input

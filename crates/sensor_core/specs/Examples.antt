@@ -8,7 +8,7 @@ use Rattle.sensor_core.specs.declared.touch.Pointed.{Pointed}
 use Rattle.sensor_core.specs.declared.touch_numbers.TheConstants.{IS_OVER, HIT_POINT_CHANGED, IS_PRESSED}
 use Rattle.sensor_core.specs.Touches.{TouchStateView, pointer, untouched, point}
 
--- what a sensor sends at each of these pointers, one after the other
+-- what a sensor sends at each of these pointers in turn
 unfoldable pub replies_at_each : TouchStateView → List Pointed → List (List SentEvent)
 replies_at_each touch [] = []
 replies_at_each touch (pointed ∷ others) =
@@ -21,7 +21,7 @@ hit = record { x = pos 0; y = pos 0; z = pos 1000000 }
 abbrev at_hit : List SentEvent
 at_hit = reply HIT_POINT_CHANGED (SFVec3f hit) ∷ []
 
--- both come; 0 presses, then 1, which changes nothing; 0 lets go outside, then 1 does
+-- both come; 0 presses, then 1, which changes nothing; 0 releases outside, then 1 does
 abbrev pub two_pointers : List Pointed
 two_pointers =
     pointer 0 false false (Some hit)

@@ -1,4 +1,4 @@
--- What is kept of a sensor beside its fields, in plain numbers (our choice).
+-- What a sensor keeps in addition to its fields, in plain numbers (our choice).
 use Rattle.std.specs.Prelude.{ℕ, ◌+◌, ◌*◌, ◌==◌, pos, int_le, unsigned_abs, Bool, true, false, List, [], ◌∷◌, map, Option, Some, None, if◌then◌else◌}
 use Rattle.std.specs.Int.{bit_at}
 use Rattle.std.specs.List.{range_with_len}
@@ -9,20 +9,20 @@ use Rattle.sensor_core.specs.declared.parts.TimeParts.{TimeParts}
 use Rattle.sensor_core.specs.declared.parts.TouchParts.{TouchParts}
 use Rattle.sensor_core.specs.Touches.{TouchStateView}
 
--- ---- a TimeSensor: whether it is active, and its cycle, which is 0 where it isn't
+-- ---- a TimeSensor: whether it is active, and its cycle, or 0 if it isn't active
 
 unfoldable pub parts_of_cycle : Option ℕ → TimeParts
 parts_of_cycle None = record { active = false; cycle = pos 0 }
 parts_of_cycle (Some cycle) = record { active = true; cycle = pos cycle }
 
--- none where the cycle is below 0, or isn't 0 though the sensor isn't active
+-- none if the cycle is below 0, or isn't 0 although the sensor isn't active
 unfoldable pub cycle_of_parts : TimeParts → Option (Option ℕ)
 cycle_of_parts parts =
     if parts.active
     then (if int_le (pos 0) parts.cycle then Some (Some (unsigned_abs parts.cycle)) else None)
     else (if unsigned_abs parts.cycle == 0 then Some None else None)
 
--- ---- a TouchSensor: a number whose bit v says whether viewer v's pointer is over it; the presser
+-- ---- a TouchSensor: a number whose bit v is 1 if viewer v's pointer is over it; the presser
 
 abbrev pub bit_of : Bool → ℕ
 bit_of true = 1
@@ -38,7 +38,7 @@ parts_of_touch touch = record { over = number_of touch.over; presser = touch.pre
 unfoldable pub over_of : ℕ → List Bool
 over_of number = map (λ viewer. bit_at number viewer == 1) (range_with_len 0 MAX_VIEWERS)
 
--- none where the presser is no viewer
+-- none if the presser isn't a viewer
 unfoldable pub touch_of_parts : TouchParts → Option TouchStateView
 touch_of_parts parts =
     if option_map_or is_viewer parts.presser true

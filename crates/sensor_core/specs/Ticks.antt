@@ -8,23 +8,23 @@ use Rattle.sensor_core.specs.declared.numbers.TheConstants.{IS_ACTIVE, CYCLE_TIM
 use Rattle.sensor_core.specs.Cycles.{cycle_at, cycle_time, cycle_end, fraction_at, elapsed_at}
 use Rattle.sensor_core.specs.Timing.{TimeFieldsView}
 
--- the cycle that runs after a tick, if one does, and what is sent, in order
+-- the cycle that runs after a tick, if any, and what is sent, in order
 pub record Tick : Type 0 where
   pub cycle : Option ℕ
   pub replies : List SentEvent
 
--- a stop counts where it is above the start
+-- a stop counts only if it is above the start
 abbrev pub is_stopped : TimeFieldsView → ℤ → Bool
 is_stopped timing t = int_lt timing.start_time timing.stop_time && int_le timing.stop_time t
 
--- it starts from the start time on, where it loops or its one cycle isn't over
+-- an enabled sensor starts from the start time on, if it loops or its one cycle isn't over
 abbrev pub is_started : TimeFieldsView → ℤ → Bool
 is_started timing t =
     timing.enabled && (int_le timing.start_time t
     && (not (is_stopped timing t)
     && (timing.looping || int_lt t (timing.start_time +ℤ timing.cycle_interval))))
 
--- the cycle at a time, and when it began
+-- the cycle at a time, and when that cycle began
 abbrev pub cycle_of : TimeFieldsView → ℤ → ℤ
 cycle_of timing t = cycle_at timing.start_time timing.cycle_interval t
 
@@ -35,14 +35,14 @@ begin_of timing t = cycle_time timing.start_time timing.cycle_interval t
 abbrev pub end_of : TimeFieldsView → ℕ → ℤ
 end_of timing cycle = cycle_end timing.start_time timing.cycle_interval cycle
 
--- the fraction and the elapsed time where the sensor stands at x
+-- the fraction and the elapsed time at time x
 abbrev pub fraction_of : TimeFieldsView → ℤ → ℤ
 fraction_of timing x = fraction_at timing.start_time timing.cycle_interval x
 
 abbrev pub elapsed_of : TimeFieldsView → ℤ → ℤ
 elapsed_of timing x = elapsed_at timing.start_time x
 
--- what each tick of an active sensor sends at t, where the sensor stands at x
+-- what each tick of an active sensor sends at t, with the fraction and elapsed time of x
 abbrev pub progress : TimeFieldsView → ℤ → ℤ → List SentEvent
 progress timing x t =
     reply FRACTION_CHANGED (SFFloat (fraction_of timing x))
@@ -50,7 +50,7 @@ progress timing x t =
     ∷ reply TIME (SFTime t)
     ∷ []
 
--- an inactive sensor
+-- a tick of an inactive sensor
 abbrev pub tick_inactive : TimeFieldsView → ℤ → Tick
 tick_inactive timing t =
     if is_started timing t
@@ -63,25 +63,25 @@ tick_inactive timing t =
     }
     else record { cycle = None; replies = [] }
 
--- its one cycle is over
+-- the sensor's one cycle is over
 abbrev pub is_over : TimeFieldsView → ℕ → ℤ → Bool
 is_over timing cycle t = not timing.looping && int_le (end_of timing cycle) t
 
--- where a sensor stands that ends: at the end of its cycle, or else at t where it is stopped; none
--- where it goes on
+-- the time at which a sensor ends: the end of its cycle, or else t if it is stopped; none if it
+-- goes on
 unfoldable pub last_place : TimeFieldsView → ℕ → ℤ → Option ℤ
 last_place timing cycle t =
     if is_over timing cycle t then Some (end_of timing cycle)
     else (if is_stopped timing t then Some t else None)
 
--- it ends
+-- the sensor ends
 abbrev pub ends : TimeFieldsView → ℤ → ℤ → Tick
 ends timing x t = record {
   cycle = None;
   replies = progress timing x t ++ reply IS_ACTIVE (SFBool false) ∷ [];
 }
 
--- it goes on, in the same cycle or in a later one
+-- the sensor goes on, in the same cycle or in a later one
 abbrev pub goes_on : TimeFieldsView → ℕ → ℤ → Tick
 goes_on timing cycle t =
     if int_lt (pos cycle) (cycle_of timing t)
@@ -91,7 +91,7 @@ goes_on timing cycle t =
     }
     else record { cycle = Some cycle; replies = progress timing t t }
 
--- an active sensor
+-- a tick of an active sensor
 abbrev pub tick_active : TimeFieldsView → ℕ → ℤ → Option ℤ → Tick
 tick_active timing cycle t None = goes_on timing cycle t
 tick_active timing cycle t (Some x) = ends timing x t
@@ -100,7 +100,8 @@ unfoldable pub tick : Option ℕ → TimeFieldsView → ℤ → Tick
 tick None timing t = tick_inactive timing t
 tick (Some cycle) timing t = tick_active timing cycle t (last_place timing cycle t)
 
--- a stop doesn't count before the end of the only cycle: the sensor then stands at that end
+-- if a stop and the end of the only cycle fall into one tick, the sensor ends at the end of the
+-- cycle
 abbrev pub EndWinsOverStop : Type 0
 EndWinsOverStop = (timing : TimeFieldsView) (cycle : ℕ) (t : ℤ) → IsTrue (is_over timing cycle t)
     → last_place timing cycle t ≡ Some (end_of timing cycle)

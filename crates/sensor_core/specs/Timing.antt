@@ -10,11 +10,11 @@ use Rattle.react_core.specs.Stored.{time_of, truth_of}
 use Rattle.sensor_core.specs.declared.timing.Times.{Times}
 use Rattle.sensor_core.specs.declared.numbers.TheConstants.{CYCLE_INTERVAL, ENABLED, LOOP, PAUSE_TIME, RESUME_TIME, START_TIME, STOP_TIME}
 
--- the values of its inputOutput fields, times in microseconds
+-- the values of a TimeSensor's inputOutput fields, times in microseconds
 abbrev pub TimeFieldsView : Type 0
 TimeFieldsView = Times
 
--- a cycle takes time
+-- a cycle is longer than 0
 abbrev pub is_interval : ℤ → Bool
 is_interval time = int_lt (pos 0) time && is_time time
 
@@ -26,12 +26,12 @@ is_timing t =
     is_interval t.cycle_interval
     && (are_times t.pause_time t.resume_time && are_times t.start_time t.stop_time)
 
--- cycles are numbered in 63 bits
+-- cycle numbers have 63 bits
 abbrev pub is_state : Option ℕ → Bool
 is_state None = true
 is_state (Some cycle) = nat_lt cycle (2 ^ 63)
 
--- a field that keeps a time, or a truth value
+-- the value of a field that keeps a time, or a truth value
 unfoldable pub time_at : Fields → ℕ → Option ℤ
 time_at fields field = stored time_of fields field
 
@@ -42,11 +42,11 @@ infixl 10 ◌>>=◌
 abbrev pub ◌>>=◌ : {A B : Type 0} → Option A → (A → Option B) → Option B
 o >>= f = option_and_then f o
 
--- the values in their ranges
+-- the values, if each is in its range
 unfoldable pub checked : TimeFieldsView → Option TimeFieldsView
 checked t = if is_timing t then Some t else None
 
--- what these fields keep of a TimeSensor, if they hold a value of its range for each field
+-- the values of a TimeSensor's fields, if each field holds a value in its range
 unfoldable pub timing_of : Fields → Option TimeFieldsView
 timing_of fields = do
   interval ← time_at fields CYCLE_INTERVAL

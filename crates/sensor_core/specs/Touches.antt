@@ -11,14 +11,14 @@ use Rattle.react_core.specs.Reaction.{reply}
 use Rattle.sensor_core.specs.declared.touch.Pointed.{Pointed}
 use Rattle.sensor_core.specs.declared.touch_numbers.TheConstants.{IS_OVER, HIT_POINT_CHANGED, IS_PRESSED, TOUCH_TIME}
 
--- whether each viewer's pointer is over the sensor, by the viewer's number, and the viewer that
--- presses it, if one does
+-- whether each viewer's pointer is over the sensor, by the viewer's number; and the viewer that
+-- presses it, if any
 pub record TouchStateView : Type 0 where
   pub over : List Bool
   pub presser : Option ℕ
 
--- a viewer's pointer: whether its button was down until now, whether it is down now, and where it
--- is over the sensor's geometry, in the sensor's coordinates, if it is
+-- a viewer's pointer: whether its button was down until now, whether the button is down now, and
+-- the point over the sensor's geometry, in the sensor's coordinates, if the pointer is over it
 abbrev pub pointer : ℕ → Bool → Bool → Option Vec3 → Pointed
 pointer who before down inside =
     record { who = who; before = before; down = down; inside = inside }
@@ -28,7 +28,7 @@ pub record Touched : Type 0 where
   pub touch : TouchStateView
   pub replies : List SentEvent
 
--- no pointer is over it, and nobody presses it
+-- no pointer is over the sensor, and no viewer presses it
 abbrev pub untouched : TouchStateView
 untouched = record { over = replicate MAX_VIEWERS false; presser = None }
 
@@ -40,21 +40,21 @@ is_pressed_by touch who = option_map_or (λ presser. presser == who) touch.press
 
 -- ---- a pointer
 
--- the pointer is over the sensor exactly where it is inside
+-- after the event the pointer is over the sensor exactly if it is inside
 abbrev pub over_after : TouchStateView → Pointed → List Bool
 over_after touch pointed = slice_set touch.over pointed.who (is_some pointed.inside)
 
--- a field of a truth value, where the value changes
+-- sends a field with a truth value, if the value changes
 abbrev pub change_replies : ℕ → Bool → Bool → List SentEvent
 change_replies field was is =
     if was then (if is then [] else reply field (SFBool false) ∷ [])
     else (if is then reply field (SFBool true) ∷ [] else [])
 
--- `isOver` where the first pointer comes and where the last one goes
+-- `isOver` when the first pointer comes and when the last one goes
 abbrev pub over_replies : Bool → Bool → List SentEvent
 over_replies was is = change_replies IS_OVER was is
 
--- `hitPoint_changed` where it is inside and no other viewer presses
+-- `hitPoint_changed` if the pointer is inside and no other viewer presses
 abbrev pub hit_replies : TouchStateView → Pointed → Option Vec3 → List SentEvent
 hit_replies touch pointed None = []
 hit_replies touch pointed (Some point) =
@@ -62,12 +62,12 @@ hit_replies touch pointed (Some point) =
     then reply HIT_POINT_CHANGED (SFVec3f point) ∷ []
     else []
 
--- its button goes down inside, and nobody presses: it presses
+-- the button goes down inside and no viewer presses: the viewer presses
 abbrev pub presses : TouchStateView → Pointed → Bool
 presses touch pointed =
     (pointed.down && not pointed.before) && (is_some pointed.inside && is_none touch.presser)
 
--- its button is up, and it presses: it lets go
+-- the button is up and the viewer presses: the viewer releases
 abbrev pub releases : TouchStateView → Pointed → Bool
 releases touch pointed = not pointed.down && is_pressed_by touch pointed.who
 
@@ -76,7 +76,7 @@ presser_after touch pointed =
     if presses touch pointed then Some pointed.who
     else (if releases touch pointed then None else touch.presser)
 
--- `touchTime` where it lets go inside
+-- `touchTime` if the viewer releases inside
 abbrev pub time_replies : Option Vec3 → ℤ → List SentEvent
 time_replies None t = []
 time_replies (Some _) t = reply TOUCH_TIME (SFTime t) ∷ []
@@ -109,7 +109,8 @@ point touch pointed t =
 
 -- ---- `enabled` FALSE
 
--- it forgets its pointers: `isOver` FALSE if one was over it, `isActive` FALSE if it was pressed
+-- the sensor forgets its pointers: `isOver` FALSE if one was over it, `isActive` FALSE if it was
+-- pressed
 unfoldable pub disable : TouchStateView → Touched
 disable touch = record {
   touch = untouched;
@@ -118,9 +119,9 @@ disable touch = record {
       ++ (if is_some touch.presser then reply IS_PRESSED (SFBool false) ∷ [] else []);
 }
 
--- ---- who lets go
+-- ---- who releases
 
--- a viewer that presses does so still after the pointer of any other
+-- a viewer that presses still presses after the pointer of any other viewer
 abbrev pub OneReleases : Type 0
 OneReleases = (touch : TouchStateView) (pointed : Pointed) (who : ℕ) → touch.presser ≡ Some who
     → IsFalse (who == pointed.who) → presser_after touch pointed ≡ Some who

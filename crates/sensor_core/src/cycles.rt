@@ -6,7 +6,7 @@ ghost use Rattle.sensor_core.specs.Cycles.{IsNear, AreCycles, cycle_at, cycle_ti
 
 use x3d_values::MAX_TIME;
 
-/// How far a time lies behind the start.
+/// Returns the time from the start to `t`.
 fn since(start: i64, t: i64) -> i64
     requires start { IsNear start }
     requires near { IsNear t }
@@ -17,7 +17,7 @@ fn since(start: i64, t: i64) -> i64
     t - start
 }
 
-/// The cycle at a time, counted from the start.
+/// Returns the number of the cycle at a time, counted from the start.
 #[tactic(auto, unfolding(crate::specs::Cycles::cycle_at))]
 pub fn cycle_at(start: i64, interval: i64, t: i64) -> i64
     requires cycles { AreCycles start interval }
@@ -29,7 +29,7 @@ pub fn cycle_at(start: i64, interval: i64, t: i64) -> i64
     since(start, t).div_euclid(interval)
 }
 
-/// When that cycle began.
+/// Returns when the cycle at a time began.
 pub fn cycle_time(start: i64, interval: i64, t: i64) -> i64
     requires cycles { AreCycles start interval }
     requires near { IsNear t }
@@ -39,7 +39,7 @@ pub fn cycle_time(start: i64, interval: i64, t: i64) -> i64
     t - since(start, t).rem_euclid(interval)
 }
 
-/// The length, if that much time has gone by.
+/// Returns the length, if that much time has passed.
 fn gone_by(length: u128, elapsed: i64) -> Option<i64>
     ensures value { result ≡ (if int_le (pos length) elapsed then Some (pos length) else None) }
     ensures some { IfSome result (λ length. pos 0 ≤ℤ length) }
@@ -54,7 +54,7 @@ fn gone_by(length: u128, elapsed: i64) -> Option<i64>
     Some(length as i64)
 }
 
-/// The end of a cycle, if it isn't after that time.
+/// Returns the end of a cycle, if that end isn't after time `t`.
 pub fn end_by(start: i64, interval: i64, cycle: u64, t: i64) -> Option<i64>
     requires cycles { AreCycles start interval }
     requires near { IsNear t }
@@ -67,7 +67,7 @@ pub fn end_by(start: i64, interval: i64, cycle: u64, t: i64) -> Option<i64>
     Some(start + length)
 }
 
-/// A part of a cycle, in millionths.
+/// Returns a part of a cycle, in millionths.
 fn millionths(part: u64, whole: u64) -> i64
     requires { part < whole }
     ensures { result ≡ pos (part * 1000000 / whole) }
@@ -75,7 +75,8 @@ fn millionths(part: u64, whole: u64) -> i64
     (part as u128 * 1_000_000 / whole as u128) as i64
 }
 
-/// The fraction of its cycle that a time has reached, in millionths; 1 at the end of a cycle.
+/// Returns the fraction of its cycle that a time has reached, in millionths: 1 at the end of a
+/// cycle.
 #[tactic(auto, unfolding(crate::specs::Cycles::fraction_at))]
 pub fn fraction_at(start: i64, interval: i64, x: i64) -> i64
     requires cycles { AreCycles start interval }
@@ -90,7 +91,7 @@ pub fn fraction_at(start: i64, interval: i64, x: i64) -> i64
     if rest == 0 { 1_000_000 } else { part }
 }
 
-/// How far a time lies behind the start, at most 10^18 microseconds.
+/// Returns the time from the start to `x`, at most 10^18 microseconds.
 #[tactic(auto, unfolding(crate::specs::Cycles::elapsed_at))]
 pub fn elapsed_at(start: i64, x: i64) -> i64
     requires start { IsNear start }

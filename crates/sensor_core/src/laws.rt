@@ -1,32 +1,33 @@
-//! What holds of the sensors, and of the numbers of fields.
+//! Laws of the sensors and of their field numbers.
 
 ghost use Rattle.sensor_core.specs.Examples.{TwoPointers};
 ghost use Rattle.sensor_core.specs.Numbers.{Numbers, TouchNumbers};
 ghost use Rattle.sensor_core.specs.Ticks.{EndWinsOverStop};
 ghost use Rattle.sensor_core.specs.Touches.{OneReleases};
 
-/// The numbers that a TimeSensor's rules use are those of the fields' names in the table of fields.
+/// The numbers that a TimeSensor's rules use belong to the fields' names in the table of fields.
 pub fn numbers_law()
     ensures { Numbers }
 {}
 
-/// The same of a TouchSensor.
+/// Like `numbers_law`, for a TouchSensor.
 pub fn touch_numbers_law()
     ensures { TouchNumbers }
 {}
 
-/// Two viewers at one TouchSensor: both come, 0 presses, 1 does, 0 lets go outside, 1 does.
+/// Two viewers at one TouchSensor, with all it sends: both pointers come over it, viewer 0 presses,
+/// viewer 1 presses, viewer 0 releases outside, viewer 1 releases outside.
 #[tactic(auto, unfolding(crate::specs::Touches::point, crate::specs::Examples::replies_at_each))]
 pub fn two_pointers_law()
     ensures { TwoPointers }
 {}
 
-/// Where the end of a TimeSensor's only cycle and its stop come in one tick, the end counts.
+/// If the end of a TimeSensor's only cycle and its stop fall into one tick, the end counts.
 pub fn end_wins_law()
     ensures { EndWinsOverStop }
 {}
 
-/// The viewer that presses a TouchSensor lets go by its own pointer alone.
+/// Only the pointer of the viewer that presses a TouchSensor can release it.
 pub fn one_releases_law()
     ensures { OneReleases }
 {}

@@ -1,12 +1,12 @@
 //! The sensors of shared worlds: how a TimeSensor starts, runs and ends with the clock, and how a
-//! TouchSensor answers the pointers of several viewers.
+//! TouchSensor responds to the pointers of several viewers.
 //!
 //! | Module | Has |
 //! |---|---|
-//! | `tick`, `set` | what a TimeSensor does when the clock ticks, and when an event comes in |
-//! | `timing`, `state`, `cycles` | what it keeps, whether it runs, and its cycles |
+//! | `tick`, `set` | what a TimeSensor does when the clock ticks, and when an event arrives |
+//! | `timing`, `state`, `cycles` | what a TimeSensor keeps, whether it runs, and its cycles |
 //! | `touch` | what a TouchSensor does with a pointer, and when it is disabled |
-//! | `parts` | both states in plain numbers, and sets of viewers |
+//! | `parts` | the states of both sensors in plain numbers, and sets of viewers |
 //! | `numbers`, `touch_numbers`, `laws` | the numbers of the fields, and their names |
 #![tactic(auto)]
 

@@ -1,5 +1,5 @@
-//! The numbers of a TimeSensor's fields, which are their places in the table of fields.
-//! `numbers_law` ties each to its name.
+//! The numbers of a TimeSensor's fields: their places in the table of fields. `numbers_law` ties
+//! each number to the field's name.
 
 pub const CYCLE_INTERVAL: u16 = 1;
 

@@ -1,14 +1,14 @@
-//! What is kept of a sensor beside its fields, in plain numbers, as a snapshot has it.
+//! What a sensor keeps in addition to its fields, in plain numbers, as a snapshot has it.
 
 ghost use Rattle.std.specs.Prelude.{◌≡◌};
 ghost use Rattle.sensor_core.specs.Parts.{number_of, over_of};
 
 use x3d_values::MAX_VIEWERS;
 
-/// How many viewers have pointers.
+/// The number of viewers that can have pointers.
 pub const VIEWERS: usize = MAX_VIEWERS as usize;
 
-/// Of a TimeSensor: whether it is active, and its cycle, which is 0 where it isn't.
+/// The state of a TimeSensor: whether it is active, and its cycle, or 0 if it isn't active.
 #[derive(Clone, Copy, PartialEq, Eq)]
 pub struct TimeParts {
     pub active: bool,
@@ -16,16 +16,16 @@ pub struct TimeParts {
     pub cycle: i64,
 }
 
-/// Of a TouchSensor: which viewers' pointers are over it, and which viewer presses it.
+/// The state of a TouchSensor: which viewers' pointers are over it, and which viewer presses it.
 #[derive(Clone, Copy, PartialEq, Eq)]
 pub struct TouchParts {
-    /// Bit v is 1 where viewer v's pointer is over it.
+    /// Bit v is 1 if viewer v's pointer is over the sensor.
     pub over: u64,
     /// Below `MAX_VIEWERS`.
     pub presser: Option<u8>,
 }
 
-/// A number whose bit v says whether viewer v is in a set.
+/// Returns the number whose bit v is 1 exactly if viewer v is in the set.
 pub fn number_of(set: &[bool; VIEWERS]) -> u64
     ensures { result ≡ number_of set.now }
 {
@@ -38,7 +38,7 @@ pub fn number_of(set: &[bool; VIEWERS]) -> u64
     number
 }
 
-/// Which viewers are in the set that a number stands for.
+/// Returns the set of viewers of a number: viewer v is in the set if bit v is 1.
 #[tactic(auto, unfolding(crate::specs::Parts::over_of))]
 pub fn over_of(number: u64) -> [bool; VIEWERS]
     ensures { result ≡ over_of number }

@@ -1,4 +1,4 @@
-//! What an event does that comes in at a TimeSensor.
+//! What an event does at a TimeSensor.
 
 ghost use Rattle.std.specs.Prelude.{◌≡◌, IsTrue, Some, None, if◌then◌else◌, not, ◌||◌};
 ghost use Rattle.sensor_core.specs.Timing.{is_time, is_interval};
@@ -18,15 +18,16 @@ impl TimeState {
     ghost use Rattle.react_core.specs.Access.{leave_by_outputs};
     ghost use Rattle.sensor_core.specs.Events.{keeps, set};
 
-    /// Does what an event does that comes in at a TimeSensor: sets a field, and puts what the
-    /// sensor sends into the outbox.
+    /// Does what an event at input `input` of a TimeSensor does: sets a field, and puts what the
+    /// sensor sends into the outbox. Does nothing if the sensor doesn't take the input or the
+    /// value.
     #[tactic(auto, unfolding(crate::specs::Events::set, crate::specs::Events::changed))]
     pub fn set(&mut self, fields: &mut TimeFields, input: u16, value: &Value, out: &mut Outbox)
         requires empty { out.old.items ≡ [] }
         ensures state { self.new ≡ (set self.old fields.old input value.now).cycle }
         ensures fields { fields.new ≡ (set self.old fields.old input value.now).timing }
         ensures replies { out.new.items ≡ (set self.old fields.old input value.now).replies }
-        // All leaves by outputs of a TimeSensor.
+        // All events leave by outputs of a TimeSensor.
         ensures outputs { IsTrue (leave_by_outputs TimeSensor out.new.items) }
     {
         match value {
@@ -46,7 +47,7 @@ impl TimeState {
         }
     }
 
-    /// Sends the field that was set, and ends a sensor that it disables.
+    /// Sends the field that was set. If that disabled the sensor, stops it.
     fn keep(&mut self, fields: &TimeFields, input: u16, value: Value, out: &mut Outbox)
         requires empty { out.old.items ≡ [] }
         ensures state { self.new ≡ (keeps self.old input value fields.now).cycle }
@@ -70,7 +71,7 @@ impl TimeState {
     }
 }
 
-/// Whether a time isn't taken: by a running sensor, or as the length of a cycle.
+/// Reports whether a time is refused: because the sensor runs, or as the length of a cycle.
 fn is_refused(active: bool, fields: &TimeFields, input: u16, time: i64) -> bool
     ensures { result ≡ is_refused active fields.now input time }
 {
@@ -130,7 +131,7 @@ fn with_truth(fields: &TimeFields, input: u16, truth: bool) -> Option<TimeFields
     None
 }
 
-/// What the sensor keeps after an event that sets a time.
+/// Returns what the sensor keeps after an event that sets a time, if it takes the event.
 fn changed_time(active: bool, fields: &TimeFields, input: u16, time: i64) -> Option<TimeFields>
     ensures { result ≡ (if is_refused active fields.now input time || not (is_time time)
         then None else with_time fields.now input time) }

@@ -3,8 +3,8 @@
 use crate::parts::TimeParts;
 use std::marker::Model;
 
-/// Whether a TimeSensor runs, and in which cycle, from 0. Contracts see the number of the cycle
-/// that runs, if one does.
+/// Whether a TimeSensor runs, and in which cycle, counted from 0. Contracts see the number of the
+/// running cycle, if there is one.
 #[derive(Clone, Copy, PartialEq, Eq)]
 pub struct TimeState {
     cycle: Option<u64>,
@@ -27,12 +27,14 @@ impl TimeState {
     ghost use Rattle.std.specs.Prelude.{◌≡◌, ◌<◌, ◌^◌, Some, None, is_some, IfSome};
     ghost use Rattle.sensor_core.specs.Parts.{parts_of_cycle, cycle_of_parts};
 
+    /// Returns the state of a TimeSensor that doesn't run.
     pub fn inactive() -> TimeState
         ensures { result ≡ None }
     {
         TimeState { cycle: None }
     }
 
+    /// Returns the state of a TimeSensor that runs in cycle `cycle`, counted from 0.
     pub fn active(cycle: u64) -> TimeState
         requires { cycle < 2 ^ 63 }
         ensures { result ≡ Some cycle }
@@ -40,7 +42,7 @@ impl TimeState {
         TimeState { cycle: Some(cycle) }
     }
 
-    /// The cycle that runs, if one does.
+    /// Returns the number of the running cycle, if there is one.
     pub fn cycle(&self) -> Option<u64>
         ensures value { result ≡ self.now }
         ensures fits { IfSome result (λ cycle. cycle < 2 ^ 63) }
@@ -48,7 +50,7 @@ impl TimeState {
         self.cycle
     }
 
-    /// What a snapshot has of it.
+    /// Returns the state as a snapshot has it.
     #[tactic(auto, unfolding(crate::specs::Parts::parts_of_cycle))]
     pub fn parts(&self) -> TimeParts
         ensures { result ≡ parts_of_cycle self.now }
@@ -65,8 +67,8 @@ impl TimeState {
         }
     }
 
-    /// The state that these are the parts of: the cycle isn't below 0, and 0 where the sensor isn't
-    /// active.
+    /// Returns the state with these parts. Returns `None` if the cycle is below 0, or isn't 0
+    /// although the sensor isn't active.
     #[tactic(auto, unfolding(crate::specs::Parts::cycle_of_parts))]
     pub fn from_parts(parts: TimeParts) -> Option<TimeState>
         ensures { result ≡ cycle_of_parts parts }
@@ -83,6 +85,7 @@ impl TimeState {
         Some(TimeState::inactive())
     }
 
+    /// Reports whether the sensor runs.
     pub fn is_active(&self) -> bool
         ensures { result ≡ is_some self.now }
     {

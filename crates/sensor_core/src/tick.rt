@@ -21,8 +21,8 @@ impl TimeState {
     ghost use Rattle.react_core.specs.Access.{leave_by_outputs};
     ghost use Rattle.sensor_core.specs.Ticks.{tick};
 
-    /// Does what a TimeSensor does when the clock ticks, at a time in microseconds, and puts what
-    /// it sends into the outbox.
+    /// Does what a TimeSensor does when the clock ticks at time `t`, in microseconds from 0 to
+    /// `MAX_TIME`, and puts what the sensor sends into the outbox.
     #[tactic(auto, using(crate::proofs::Passed::passed), unfolding(crate::specs::Ticks::tick))]
     pub fn tick(&mut self, fields: &TimeFields, t: i64, out: &mut Outbox)
         requires after { pos 0 ≤ℤ t }
@@ -30,7 +30,7 @@ impl TimeState {
         requires empty { out.old.items ≡ [] }
         ensures state { self.new ≡ (tick self.old fields.now t).cycle }
         ensures replies { out.new.items ≡ (tick self.old fields.now t).replies }
-        // All leaves by outputs of a TimeSensor.
+        // All events leave by outputs of a TimeSensor.
         ensures outputs { IsTrue (leave_by_outputs TimeSensor out.new.items) }
     {
         let Some(cycle) = self.cycle() else {
@@ -44,7 +44,7 @@ impl TimeState {
     }
 }
 
-/// Whether a stop that counts is at or below a time.
+/// Reports whether the stop time is above the start time and not after `t`.
 fn is_stopped(fields: &TimeFields, t: i64) -> bool
     ensures { result ≡ is_stopped fields.now t }
 {
@@ -112,7 +112,8 @@ fn active_reply(active: bool) -> SentEvent
     }
 }
 
-/// What each tick of an active sensor sends at a time, where the sensor stands at `x`.
+/// Puts what each tick of an active sensor sends at time `t` into the outbox, with the fraction and
+/// the elapsed time of `x`.
 fn progress(fields: &TimeFields, x: i64, t: i64, out: &mut Outbox)
     requires near { IsNear x }
     requires room { array_vec_len out.old + 3 ≤ 5 }
@@ -124,7 +125,7 @@ fn progress(fields: &TimeFields, x: i64, t: i64, out: &mut Outbox)
     out.push(time_reply(TIME, t));
 }
 
-/// The end of a cycle that doesn't begin again, if it isn't after a time.
+/// Returns the end of a cycle after which no other follows, if that end isn't after time `t`.
 #[tactic(auto, using(crate::proofs::Passed::passed))]
 fn last_end(fields: &TimeFields, cycle: u64, t: i64) -> Option<i64>
     requires near { IsNear t }
@@ -138,7 +139,7 @@ fn last_end(fields: &TimeFields, cycle: u64, t: i64) -> Option<i64>
     end_by(fields.start_time(), fields.cycle_interval(), cycle, t)
 }
 
-/// Where a sensor stands that ends, if it ends.
+/// Returns the time at which the sensor ends, if it ends.
 #[tactic(auto, using(crate::proofs::Passed::passed), unfolding(crate::specs::Ticks::last_place))]
 fn last_place(fields: &TimeFields, cycle: u64, t: i64) -> Option<i64>
     requires near { IsNear t }
@@ -151,7 +152,7 @@ fn last_place(fields: &TimeFields, cycle: u64, t: i64) -> Option<i64>
     is_stopped(fields, t).then_some(t)
 }
 
-/// A tick of an inactive sensor.
+/// Ticks an inactive sensor.
 #[tactic(auto, using(crate::proofs::Passed::passed))]
 fn tick_inactive(fields: &TimeFields, t: i64, out: &mut Outbox) -> TimeState
     requires near { IsNear t }
@@ -170,7 +171,7 @@ fn tick_inactive(fields: &TimeFields, t: i64, out: &mut Outbox) -> TimeState
     TimeState::active(cycle_at(start, interval, t) as u64)
 }
 
-/// A tick of a sensor that ends.
+/// Ticks a sensor that ends, at time `x`.
 fn ends(fields: &TimeFields, x: i64, t: i64, out: &mut Outbox) -> TimeState
     requires near { IsNear x }
     requires empty { out.old.items ≡ [] }
@@ -182,7 +183,7 @@ fn ends(fields: &TimeFields, x: i64, t: i64, out: &mut Outbox) -> TimeState
     TimeState::inactive()
 }
 
-/// A tick of a sensor that goes on.
+/// Ticks a sensor that goes on.
 #[tactic(auto, using(crate::proofs::Passed::passed))]
 fn goes_on(fields: &TimeFields, cycle: u64, t: i64, out: &mut Outbox) -> TimeState
     requires near { IsNear t }

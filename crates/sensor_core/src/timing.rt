@@ -1,4 +1,4 @@
-//! What a TimeSensor keeps.
+//! The fields that a TimeSensor keeps.
 
 ghost use Rattle.std.specs.Prelude.{◌≡◌};
 ghost use Rattle.x3d_values.specs.Ranges.{max_time};
@@ -22,7 +22,7 @@ pub struct Times {
     pub stop_time: i64,
 }
 
-/// The same in their ranges: times up to `MAX_TIME` from 0, and a cycle takes time.
+/// `Times` in their ranges: times up to `MAX_TIME` from 0, and a cycle longer than 0.
 #[derive(Clone, Copy, PartialEq, Eq)]
 pub struct TimeFields {
     pub(crate) times: Times,
@@ -41,14 +41,14 @@ impl Model for TimeFields {
     ghost inverse = { λ times. record { times = times } };
 }
 
-/// Whether it is a time up to `MAX_TIME` from 0.
+/// Reports whether `time`, in microseconds, is at most `MAX_TIME` from 0.
 pub fn is_time(time: i64) -> bool
     ensures { result ≡ is_time time }
 {
     time.unsigned_abs() <= MAX_TIME as u64
 }
 
-/// Whether a cycle may take that time.
+/// Reports whether a cycle may last `time` microseconds: above 0, and at most `MAX_TIME`.
 pub fn is_interval(time: i64) -> bool
     ensures { result ≡ is_interval time }
 {
@@ -65,7 +65,7 @@ fn time_at(fields: &Fields, field: u16) -> Option<i64>
     }
 }
 
-/// The truth value that a field keeps, if it keeps one.
+/// Returns the truth value of a field, if the field keeps one.
 #[tactic(auto, unfolding(crate::specs::Timing::truth_at))]
 pub fn truth_at(fields: &Fields, field: u16) -> Option<bool>
     ensures { result ≡ truth_at fields.now field }
@@ -90,7 +90,7 @@ fn is_timing(times: Times) -> bool
         && are_times(times.start_time, times.stop_time)
 }
 
-/// What was read, where each is in its range.
+/// Returns the values, if each is in its range.
 #[tactic(auto, unfolding(crate::specs::Timing::checked))]
 pub(crate) fn checked(times: Times) -> Option<TimeFields>
     ensures { result ≡ checked times }
@@ -106,7 +106,8 @@ impl TimeFields {
     ghost use Rattle.sensor_core.specs.Cycles.{IsNear};
     ghost use Rattle.sensor_core.specs.Timing.{timing_of, with_timing};
 
-    /// What a TimeSensor's fields hold, where each is there and in its range.
+    /// Returns the values of a TimeSensor's fields. Returns `None` if a value is missing, has
+    /// another type or is out of its range.
     #[tactic(auto, unfolding(crate::specs::Timing::timing_of))]
     pub fn from_fields(fields: &Fields) -> Option<TimeFields>
         ensures { result ≡ timing_of fields.now }
@@ -143,6 +144,7 @@ impl TimeFields {
         })
     }
 
+    /// Returns `startTime`, in microseconds.
     pub fn start_time(&self) -> i64
         ensures value { result ≡ self.now.start_time }
         ensures near { IsNear result }
@@ -150,6 +152,7 @@ impl TimeFields {
         self.times.start_time
     }
 
+    /// Returns `cycleInterval`, in microseconds: above 0, and at most `MAX_TIME`.
     pub fn cycle_interval(&self) -> i64
         ensures value { result ≡ self.now.cycle_interval }
         ensures some { pos 0 <ℤ result }
@@ -158,25 +161,28 @@ impl TimeFields {
         self.times.cycle_interval
     }
 
+    /// Returns `stopTime`, in microseconds.
     pub fn stop_time(&self) -> i64
         ensures { result ≡ self.now.stop_time }
     {
         self.times.stop_time
     }
 
+    /// Returns `enabled`.
     pub fn is_enabled(&self) -> bool
         ensures { result ≡ self.now.enabled }
     {
         self.times.enabled
     }
 
+    /// Returns `loop`.
     pub fn is_looping(&self) -> bool
         ensures { result ≡ self.now.looping }
     {
         self.times.looping
     }
 
-    /// Puts the values where a TimeSensor's fields hold them.
+    /// Writes the values into a TimeSensor's fields.
     #[tactic(auto, unfolding(crate::specs::Timing::with_timing))]
     pub fn write_to(&self, fields: &mut Fields)
         ensures { fields.new ≡ with_timing fields.old self.now }

@@ -34,8 +34,8 @@ impl Model for TouchState {
     ghost inverse = { λ touch. record { over = touch.over; presser = touch.presser } };
 }
 
-/// A viewer's pointer: whether its button was down until now, whether it is down now, and where it
-/// is over the sensor's geometry, in the sensor's coordinates, if it is.
+/// A viewer's pointer: whether its button was down until now, whether the button is down now, and
+/// the point over the sensor's geometry, in the sensor's coordinates, if the pointer is over it.
 #[derive(Clone, Copy)]
 pub(crate) struct Pointed {
     pub who: u8,
@@ -44,7 +44,7 @@ pub(crate) struct Pointed {
     pub inside: Option<Vec3>,
 }
 
-/// Whether one of them is. All are looked at, which takes a processor less than to stop at the
+/// Reports whether any entry is true. Looks at all entries, which costs less than stopping at the
 /// first.
 pub fn is_any(over: &[bool; VIEWERS]) -> bool
     ensures { result ≡ list_any (λ over. over) over.now }
@@ -66,7 +66,7 @@ impl TouchState {
     ghost use Rattle.sensor_core.specs.Touches.{pointer, untouched, is_over, is_pressed_by, presses, releases, presser_after, touch_after, hit_replies, press_replies, point, disable};
     ghost use Rattle.sensor_core.specs.Parts.{parts_of_touch, touch_of_parts};
 
-    /// No pointer is over it, and nobody presses it.
+    /// Returns the state with no pointer over the sensor and no viewer pressing it.
     pub fn untouched() -> TouchState
         ensures { result ≡ untouched }
     {
@@ -76,10 +76,10 @@ impl TouchState {
         }
     }
 
-    /// Does what an enabled TouchSensor does with a viewer's pointer, at a time in microseconds,
-    /// and puts what it sends into the outbox. `before` is whether the viewer's button was down
-    /// until now; `inside` is where its pointer is over the sensor's geometry, in the sensor's
-    /// coordinates.
+    /// Does what an enabled TouchSensor does with the pointer of viewer `who`, at time `t` in
+    /// microseconds, and puts what the sensor sends into the outbox. `before` is whether the
+    /// viewer's button was down until now, and `down` whether it is down now. `inside` is the point
+    /// over the sensor's geometry, in the sensor's coordinates, if the pointer is over it.
     #[tactic(auto, unfolding(crate::specs::Touches::point))]
     pub fn point(
         &mut self,
@@ -95,7 +95,7 @@ impl TouchState {
         ensures touch { self.new ≡ (point self.old (pointer who before down inside) t).touch }
         ensures replies { out.new.items
             ≡ (point self.old (pointer who before down inside) t).replies }
-        // All leaves by outputs of a TouchSensor.
+        // All events leave by outputs of a TouchSensor.
         ensures outputs { IsTrue (leave_by_outputs TouchSensor out.new.items) }
     {
         let pointed = Pointed {
@@ -111,14 +111,14 @@ impl TouchState {
         touch.send_press(pointed, t, out);
     }
 
-    /// Forgets the pointers of a TouchSensor that is disabled, and puts what it then sends into the
-    /// outbox.
+    /// Forgets the pointers of a TouchSensor that is disabled, and puts what the sensor sends then
+    /// into the outbox.
     #[tactic(auto, unfolding(crate::specs::Touches::disable))]
     pub fn disable(&mut self, out: &mut Outbox)
         requires room { array_vec_len out.old + 2 ≤ 5 }
         ensures touch { self.new ≡ (disable self.old).touch }
         ensures replies { out.new.items ≡ out.old.items ++ (disable self.old).replies }
-        // All leaves by outputs of a TouchSensor.
+        // All events leave by outputs of a TouchSensor.
         ensures outputs { IsTrue (leave_by_outputs TouchSensor (disable self.old).replies) }
     {
         let touch = *self;
@@ -129,14 +129,14 @@ impl TouchState {
         }
     }
 
-    /// Whether some viewer's pointer is over it.
+    /// Reports whether any viewer's pointer is over the sensor.
     pub fn is_over(&self) -> bool
         ensures { result ≡ is_over self.now }
     {
         is_any(&self.over)
     }
 
-    /// Whether no pointer is over it, and nobody presses it.
+    /// Reports whether no pointer is over the sensor, and no viewer presses it.
     pub fn is_untouched(&self) -> bool
         ensures value { result ≡ (not (is_over self.now) && is_none self.now.presser) }
         // There is a place for each viewer, and a presser is a viewer.
@@ -146,7 +146,7 @@ impl TouchState {
         !self.is_over() && self.presser.is_none()
     }
 
-    /// Whether a viewer presses it.
+    /// Reports whether viewer `who` presses the sensor.
     pub fn is_pressed_by(&self, who: u8) -> bool
         ensures { result ≡ is_pressed_by self.now who }
     {
@@ -156,7 +156,7 @@ impl TouchState {
         }
     }
 
-    /// What a snapshot has of it.
+    /// Returns the state as a snapshot has it.
     #[tactic(auto, unfolding(crate::specs::Parts::parts_of_touch))]
     pub fn parts(&self) -> TouchParts
         ensures { result ≡ parts_of_touch self.now }
@@ -167,7 +167,7 @@ impl TouchState {
         }
     }
 
-    /// The state that these are the parts of, where the presser is a viewer.
+    /// Returns the state with these parts. Returns `None` if the presser isn't below `MAX_VIEWERS`.
     #[tactic(auto, unfolding(crate::specs::Parts::touch_of_parts))]
     pub fn from_parts(parts: TouchParts) -> Option<TouchState>
         ensures { result ≡ touch_of_parts parts }
@@ -255,7 +255,7 @@ impl TouchState {
     }
 }
 
-/// Sends `isOver` where it changes.
+/// Sends `isOver` if it changes.
 fn send_over(was: bool, is: bool, out: &mut Outbox)
     requires { array_vec_len out.old + 1 ≤ 5 }
     ensures items { out.new.items ≡ out.old.items ++ over_replies was is }

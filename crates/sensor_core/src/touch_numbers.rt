@@ -1,14 +1,14 @@
-//! The numbers of a TouchSensor's fields, which are their places in the table of fields.
-//! `touch_numbers_law` ties each to its name.
+//! The numbers of a TouchSensor's fields: their places in the table of fields. `touch_numbers_law`
+//! ties each number to the field's name.
 
-/// Of `enabled`.
+/// The number of `enabled`.
 pub const TOUCH_ENABLED: u16 = 2;
 
 pub const IS_OVER: u16 = 3;
 
 pub const HIT_POINT_CHANGED: u16 = 4;
 
-/// Of `isActive`.
+/// The number of `isActive`.
 pub const IS_PRESSED: u16 = 5;
 
 pub const TOUCH_TIME: u16 = 6;

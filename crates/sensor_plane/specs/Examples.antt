@@ -1,4 +1,4 @@
--- Drags of a PlaneSensor, step by step, in millionths; the values are by hand.
+-- Drags of a PlaneSensor, step by step, in millionths. The values were computed by hand.
 use Rattle.std.specs.Prelude.{◌≡◌, ℕ, ℤ, pos, negsuc, Bool, true, false, List, [], ◌∷◌, ◌++◌, Option, Some, None}
 use Rattle.x3d_values.specs.declared.value.Value.TheVariants.{SFBool, SFVec3f}
 use Rattle.x3d_values.specs.declared.vector.Vec3.{Vec3}
@@ -11,7 +11,7 @@ use Rattle.sensor_plane.specs.declared.pointer.Contact.{Contact}
 use Rattle.sensor_plane.specs.declared.pointer.PlanePointer.{PlanePointer}
 use Rattle.sensor_plane.specs.Planes.{Plane, PlanePointed, untouched, point, disable}
 
--- what a sensor sends at each of these pointers, one after the other
+-- what a sensor sends at each of these pointers in turn
 unfoldable pub sent_at_each : Plane → PlaneFields → List PlanePointer → List (List SentEvent)
 sent_at_each plane fields [] = []
 sent_at_each plane fields (pointer ∷ others) =
@@ -23,7 +23,7 @@ sent_at_each plane fields (pointer ∷ others) =
 abbrev zero : ℤ
 zero = pos 0
 
--- minus n + 1
+-- -(n + 1)
 abbrev minus : ℕ → ℤ
 minus n = negsuc n
 
@@ -34,15 +34,15 @@ over p = Some (record { point = p; path = 0 ∷ [] })
 abbrev comes : ℕ → Vec3 → PlanePointer
 comes who p = record { who = who; before = false; down = false; contact = over p; tracked = None }
 
--- its button goes down over the geometry
+-- the button goes down over the geometry
 abbrev press : ℕ → Vec3 → PlanePointer
 press who p = record { who = who; before = false; down = true; contact = over p; tracked = None }
 
--- its button stays down, away from the geometry; its ray meets the plane, or none
+-- the button stays down, away from the geometry; the ray meets the plane at a point, or misses it
 abbrev drags : ℕ → Option Vec3 → PlanePointer
 drags who p = record { who = who; before = true; down = true; contact = None; tracked = p }
 
--- its button goes up, away from the geometry
+-- the button goes up, away from the geometry
 abbrev lets_go : ℕ → PlanePointer
 lets_go who =
     record { who = who; before = true; down = false; contact = None; tracked = None }
@@ -93,7 +93,7 @@ Dragging =
     ∷ (active_is false ∷ offset_is (at (pos 3000000) zero zero) ∷ [])
     ∷ []
 
--- ---- the minimum of y is above its maximum: y goes as far as it is dragged
+-- ---- the minimum of y is above its maximum: y isn't clamped
 
 abbrev free_upwards : PlaneFields
 free_upwards = record up_to_three { max_position = pair (pos 3000000) (minus 999999) }
@@ -110,7 +110,7 @@ FreeUpwards =
     (at (pos 3000000) (minus 5999999) zero))
     ∷ []
 
--- ---- without `autoOffset` each drag goes on from the same offset
+-- ---- without `autoOffset` each drag begins with the same offset
 
 abbrev from_one : PlaneFields
 from_one = record {
@@ -141,7 +141,7 @@ SameOffset =
     ∷ (active_is false ∷ [])
     ∷ []
 
--- ---- a ray that doesn't meet the plane sends nothing, and the last translation stays
+-- ---- a ray that misses the plane sends nothing, and the last translation stays
 
 abbrev pub AlongNoPlane : Type 0
 AlongNoPlane =
@@ -158,7 +158,7 @@ AlongNoPlane =
     ∷ (active_is false ∷ offset_is (at (pos 1000000) zero zero) ∷ [])
     ∷ []
 
--- ---- viewer 63 drags: the button of viewer 0, beside it, does nothing
+-- ---- viewer 63 drags: the button of viewer 0 does nothing meanwhile
 
 abbrev pub LastViewer : Type 0
 LastViewer =
@@ -176,7 +176,7 @@ LastViewer =
     ∷ (active_is false ∷ offset_is (at (pos 1000000) zero zero) ∷ [])
     ∷ []
 
--- ---- disabled in the middle of a drag: it is forgotten, and a button that is down doesn't press
+-- ---- disabled during a drag: the drag is forgotten, and a button that is still down doesn't press
 
 abbrev pressed : PlanePointed
 pressed = point untouched up_to_three (press 0 front)

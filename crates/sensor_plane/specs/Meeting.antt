@@ -1,5 +1,5 @@
--- What a pointing sensor that is enabled does with a viewer's pointer (ISO/IEC 19775-1, pointing
--- device sensor component): a TouchSensor by Touches, a PlaneSensor by Planes.
+-- What an enabled pointing sensor does with a viewer's pointer (ISO/IEC 19775-1, pointing device
+-- sensor component): a TouchSensor by Touches, a PlaneSensor by Planes.
 use Rattle.std.specs.Prelude.{ℤ, List, [], Option, Some, None}
 use Rattle.x3d_values.specs.declared.fields.Fields.{Fields}
 use Rattle.react_core.specs.declared.outbox.SentEvent.{SentEvent}
@@ -12,7 +12,7 @@ use Rattle.sensor_plane.specs.declared.pointing.PointingState.TheVariants.{NoSen
 use Rattle.sensor_plane.specs.PlaneFields.{plane_fields_of, with_offset}
 use Rattle.sensor_plane.specs.Planes.{Plane as Planes, point as plane_point}
 
--- what is kept of the sensor, its fields, and what it sends, in order
+-- the sensor's state, its fields, and what it sends, in order
 pub record PlaneMet : Type 0 where
   pub state : PointingState
   pub fields : Fields
@@ -22,13 +22,13 @@ pub record PlaneMet : Type 0 where
 abbrev pub unmet : PointingState → Fields → PlaneMet
 unmet state fields = record { state = state; fields = fields; replies = [] }
 
--- a TouchSensor goes by where the pointer is, and the time
+-- a TouchSensor uses the pointer's place, and the time
 abbrev pub touched : Touches → Fields → SensorPointer → ℤ → PlaneMet
 touched touch fields p time =
     let t = touch_point touch (pointer p.who p.before p.down p.place) time in
     record { state = Touch t.touch; fields = fields; replies = t.replies }
 
--- a PlaneSensor goes by the way to the list that holds it as well
+-- a PlaneSensor also uses the path to the list that holds it
 abbrev pub to_plane : SensorPointer → PlanePointer
 to_plane p = record {
   who = p.who;
@@ -38,7 +38,7 @@ to_plane p = record {
   tracked = p.tracked;
 }
 
--- it has a value of its type in each of the fields that a drag goes by, or nothing happens
+-- nothing happens unless each field that determines a drag has a value of its type
 abbrev pub dragged_by : Planes → Fields → SensorPointer → Option PlaneFields → PlaneMet
 dragged_by plane fields p None = unmet (Plane plane) fields
 dragged_by plane fields p (Some values) =

@@ -1,4 +1,4 @@
--- The numbers of a PlaneSensor's fields are those of their names.
+-- The numbers of a PlaneSensor's fields belong to the fields' names.
 use Rattle.std.specs.Prelude.{ℕ, List, codes}
 use Rattle.x3d_values.specs.declared.node_type.NodeType.TheVariants.{PlaneSensor}
 use Rattle.react_core.specs.Numbers.{IsNumbered}

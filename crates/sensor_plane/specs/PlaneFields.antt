@@ -1,4 +1,4 @@
--- What the fields of a PlaneSensor say of a drag (ISO/IEC 19775-1, pointing device sensor
+-- The fields of a PlaneSensor that determine a drag (ISO/IEC 19775-1, pointing device sensor
 -- component: PlaneSensor).
 use Rattle.std.specs.Prelude.{ℕ, Option, Some, None}
 use Rattle.x3d_values.specs.declared.fields.Fields.{Fields}
@@ -21,14 +21,14 @@ abbrev pub triple_of : Value → Option Vec3
 triple_of (SFVec3f triple) = Some triple
 triple_of _ = None
 
--- a field that keeps two numbers, or three
+-- the value of a field that keeps two numbers, or three
 unfoldable pub pair_at : Fields → ℕ → Option Vec2
 pair_at fields field = stored pair_of fields field
 
 unfoldable pub triple_at : Fields → ℕ → Option Vec3
 triple_at fields field = stored triple_of fields field
 
--- what these fields keep of a PlaneSensor, if they hold a value of its type for each field
+-- the values of a PlaneSensor's fields, if each field holds a value of its type
 unfoldable pub plane_fields_of : Fields → Option PlaneFields
 plane_fields_of fields = do
   auto ← truth_at fields AUTO_OFFSET

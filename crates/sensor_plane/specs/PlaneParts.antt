@@ -1,4 +1,4 @@
--- What is kept of a PlaneSensor beside its fields, in plain numbers (our choice).
+-- What a PlaneSensor keeps in addition to its fields, in plain numbers (our choice).
 use Rattle.std.specs.Prelude.{◌≡◌, ◌^◌, ◌<◌, IsTrue, Bool, true, false, ◌&&◌, length, Option, Some, None, if◌then◌else◌}
 use Rattle.std.specs.List.{list_all}
 use Rattle.std.specs.Option.{option_map_or}
@@ -20,37 +20,37 @@ use Rattle.sensor_plane.specs.Paths.{path_fits}
 use Rattle.sensor_plane.specs.PlaneFields.{triple_of}
 use Rattle.sensor_plane.specs.Planes.{Plane, PlanePointed, point}
 
--- a number whose bit v says whether viewer v's pointer is over the sensor
+-- bit v of the number is 1 if viewer v's pointer is over the sensor
 unfoldable pub parts_of_plane : Plane → PlaneParts
 parts_of_plane plane = record { over = number_of plane.over; drag = plane.drag }
 
--- the presser is a viewer, both points are in their range, and the path may be kept
+-- the presser is a viewer, both points are in their range, and the path fits
 abbrev pub drag_fits : Option Drag → Bool
 drag_fits None = true
 drag_fits (Some drag) =
     (is_viewer drag.presser && path_fits drag.path)
     && (coordinates_fit drag.start && coordinates_fit drag.last)
 
--- none where the drag is out of its ranges
+-- none if the drag is out of its ranges
 unfoldable pub plane_of_parts : PlaneParts → Option Plane
 plane_of_parts parts =
     if drag_fits parts.drag
     then Some (record { over = over_of parts.over; drag = parts.drag })
     else None
 
--- ---- what holds
+-- ---- laws
 
 -- a state in its ranges
 pub record IsFitting (plane : Plane) : Type 0 where
   pub viewers : length plane.over ≡ MAX_VIEWERS
   pub drag : IsTrue (drag_fits plane.drag)
 
--- the parts of a state in its ranges stand for that state
+-- the parts of a state in its ranges give that state
 abbrev pub PartsArePlanes : Type 0
 PartsArePlanes = (plane : Plane) → IsFitting plane
     → plane_of_parts (parts_of_plane plane) ≡ Some plane
 
--- and a state that parts stand for has no other parts
+-- if parts give a state, that state has the same parts
 abbrev pub PlanesHaveOneParts : Type 0
 PlanesHaveOneParts = (parts : PlaneParts) (plane : Plane) → parts.over < 2 ^ MAX_VIEWERS
     → plane_of_parts parts ≡ Some plane → parts_of_plane plane ≡ parts
@@ -62,18 +62,18 @@ contact_fits (Some contact) = coordinates_fit contact.point && path_fits contact
 abbrev pub pair_fits : Vec2 → Bool
 pair_fits pair = coordinate_fits pair.x && coordinate_fits pair.y
 
--- the values that a drag goes by, in their ranges
+-- the values that determine a drag, in their ranges
 pub record AreFitting (fields : PlaneFields) : Type 0 where
   pub max : IsTrue (pair_fits fields.max_position)
   pub min : IsTrue (pair_fits fields.min_position)
   pub offset : IsTrue (coordinates_fit fields.offset)
 
--- what a pointer leaves, in its ranges
+-- the state and the fields after a pointer, in their ranges
 pub record LeavesFitting (pointed : PlanePointed) : Type 0 where
   pub plane : IsFitting pointed.plane
   pub fields : AreFitting pointed.fields
 
--- a pointer of a viewer that is over the sensor inside the limit leaves all in its ranges
+-- a pointer of a viewer leaves all in range, if its contact is within the limit
 abbrev pub DraggedPlanesFit : Type 0
 DraggedPlanesFit = (plane : Plane) (fields : PlaneFields) (pointer : PlanePointer)
     → IsFitting plane → AreFitting fields → IsTrue (is_viewer pointer.who)
@@ -81,7 +81,7 @@ DraggedPlanesFit = (plane : Plane) (fields : PlaneFields) (pointer : PlanePointe
 
 -- ---- what is sent
 
--- a value of the type of the field by which it leaves; a point lies within its range
+-- the value has the type of the field by which it leaves, and a point is in its range
 abbrev pub reply_fits : SentEvent → Bool
 reply_fits reply =
     option_map_or (λ (row : FieldRow). are_same row.field_type (type_of reply.value))
@@ -89,7 +89,7 @@ reply_fits reply =
     false
     && option_map_or coordinates_fit (triple_of reply.value) true
 
--- where the ray meets the plane inside the limit, all that is sent is so
+-- if the ray meets the plane within the limit, all that is sent fits
 abbrev pub SentValuesFit : Type 0
 SentValuesFit = (plane : Plane) (fields : PlaneFields) (pointer : PlanePointer)
     → IsFitting plane → AreFitting fields

@@ -1,6 +1,6 @@
 -- What a PlaneSensor does with the pointers of several viewers (ISO/IEC 19775-1, pointing device
 -- sensor component: PlaneSensor; what concerns more than one viewer, the limit of size, and that a
--- press sends `isActive` alone, are our choice).
+-- press only sends `isActive` are our choice).
 use Rattle.std.specs.Prelude.{◌≡◌, ℕ, ◌==◌, IsFalse, ℤ, pos, neg_ℤ, ◌+ℤ◌, ◌-ℤ◌, ◌≤ℤ◌, int_le, Bool, true, false, not, is_some, ◌&&◌, List, [], ◌∷◌, ◌++◌, slice_set, replicate, Option, Some, None, if◌then◌else◌}
 use Rattle.std.specs.Int.{int_min, int_max}
 use Rattle.std.specs.List.{list_any}
@@ -17,7 +17,7 @@ use Rattle.sensor_plane.specs.declared.pointer.Contact.{Contact}
 use Rattle.sensor_plane.specs.declared.pointer.PlanePointer.{PlanePointer}
 use Rattle.sensor_plane.specs.declared.numbers.TheConstants.{IS_ACTIVE, IS_OVER, OFFSET, TRACK_POINT_CHANGED, TRANSLATION_CHANGED}
 
--- whether each viewer's pointer is over the sensor, by the viewer's number, and the drag, if a
+-- whether each viewer's pointer is over the sensor, by the viewer's number; and the drag, if a
 -- viewer presses
 pub record Plane : Type 0 where
   pub over : List Bool
@@ -29,12 +29,12 @@ pub record PlanePointed : Type 0 where
   pub fields : PlaneFields
   pub replies : List SentEvent
 
--- a viewer presses
+-- the presser of a drag, if there is one, is a viewer
 abbrev pub is_drag : Option Drag → Bool
 is_drag None = true
 is_drag (Some drag) = is_viewer drag.presser
 
--- no pointer is over it, and nobody presses it
+-- no pointer is over the sensor, and no viewer presses it
 abbrev pub untouched : Plane
 untouched = record { over = replicate MAX_VIEWERS false; drag = None }
 
@@ -48,15 +48,15 @@ pressed_by (Some drag) who = drag.presser == who
 abbrev pub is_pressed_by : Plane → ℕ → Bool
 is_pressed_by plane who = pressed_by plane.drag who
 
--- ---- how far a drag translates
+-- ---- the translation of a drag
 
--- from the start to where it is, on from the offset; at most 10^15 millionths in size
+-- the distance from the start plus the offset; its absolute value is at most 10^15 millionths
 abbrev pub shifted : ℤ → ℤ → ℤ → ℤ
 shifted offset start at =
     int_max (neg_ℤ (pos max_coordinate))
     (int_min ((at -ℤ start) +ℤ offset) (pos max_coordinate))
 
--- between the minimum and the maximum, where the minimum isn't above the maximum
+-- clamped to the minimum and the maximum, if the minimum isn't above the maximum
 abbrev pub clamped : ℤ → ℤ → ℤ → ℤ
 clamped low high at = if int_le low high then int_max low (int_min at high) else at
 
@@ -78,24 +78,24 @@ within fields at = record {
 unfoldable pub translation : PlaneFields → Vec3 → Vec3 → Vec3
 translation fields start at = within fields (shift fields start at)
 
--- ---- what becomes of a drag
+-- ---- the steps of a drag
 
--- the drag after it, the fields, and what is sent
+-- the drag after a pointer, the fields, and what is sent, in order
 pub record Dragged : Type 0 where
   pub drag : Option Drag
   pub fields : PlaneFields
   pub replies : List SentEvent
 
--- its button goes down
+-- the button goes down
 abbrev pub presses : PlanePointer → Bool
 presses pointer = pointer.down && not pointer.before
 
--- a drag begins where the pointer is over the geometry, and has translated by the offset
+-- a drag starts at the point of the contact, with the offset as its translation
 abbrev pub drag_from : PlaneFields → ℕ → Contact → Drag
 drag_from fields who contact =
     record { presser = who; start = contact.point; last = fields.offset; path = contact.path }
 
--- nobody presses: a button that goes down over the geometry does, and `isActive` is sent
+-- no viewer presses yet: a button that goes down over the geometry does, and `isActive` is sent
 abbrev pub begun : PlaneFields → PlanePointer → Option Contact → Dragged
 begun fields pointer None = record { drag = None; fields = fields; replies = [] }
 begun fields pointer (Some contact) =
@@ -107,7 +107,7 @@ begun fields pointer (Some contact) =
     }
     else record { drag = None; fields = fields; replies = [] }
 
--- a drag goes on where its ray meets the plane
+-- a drag moves to the point where its ray meets the plane
 abbrev pub drag_at : PlaneFields → Drag → Option Vec3 → Drag
 drag_at fields drag None = drag
 drag_at fields drag (Some at) = record drag { last = translation fields drag.start at }
@@ -119,8 +119,8 @@ track_replies fields drag (Some at) =
     ∷ reply TRANSLATION_CHANGED (SFVec3f (translation fields drag.start at))
     ∷ []
 
--- a drag ends: `isActive`, and where `autoOffset` is TRUE the last translation is the offset from
--- now on
+-- a drag ends: `isActive` is sent, and if `autoOffset` is TRUE, the last translation becomes the
+-- offset
 abbrev pub ended : PlaneFields → Drag → Dragged
 ended fields drag =
     if fields.auto_offset
@@ -150,12 +150,12 @@ dragged fields pointer (Some drag) =
 
 -- ---- a pointer
 
--- the pointer is over the sensor exactly where it is over its geometry
+-- after the event the pointer is over the sensor exactly if it is over the geometry
 abbrev pub over_after : Plane → PlanePointer → List Bool
 over_after plane pointer = slice_set plane.over pointer.who (is_some pointer.contact)
 
--- what an enabled sensor does with a pointer: `isOver` is sent where the first pointer comes and
--- where the last one goes
+-- what an enabled sensor does with a pointer: `isOver` is sent when the first pointer comes and
+-- when the last one goes
 unfoldable pub point : Plane → PlaneFields → PlanePointer → PlanePointed
 point plane fields pointer =
     let over = over_after plane pointer in
@@ -174,8 +174,8 @@ pub record Disabled : Type 0 where
   pub plane : Plane
   pub replies : List SentEvent
 
--- it forgets its pointers: `isOver` FALSE if one was over it, `isActive` FALSE if it was pressed;
--- the offset stays
+-- the sensor forgets its pointers: `isOver` FALSE if one was over it, `isActive` FALSE if it was
+-- pressed; the offset stays
 unfoldable pub disable : Plane → Disabled
 disable plane = record {
   plane = untouched;
@@ -184,9 +184,9 @@ disable plane = record {
       ++ (if is_some plane.drag then reply IS_ACTIVE (SFBool false) ∷ [] else []);
 }
 
--- ---- what holds
+-- ---- laws
 
--- the pointer of another viewer changes nothing of a drag
+-- the pointer of another viewer doesn't change a drag
 abbrev pub DragsGoByTheirPresser : Type 0
 DragsGoByTheirPresser = (fields : PlaneFields) (pointer : PlanePointer) (drag : Drag)
     → IsFalse (pointer.who == drag.presser)
@@ -197,11 +197,11 @@ pub record IsBetween (low at high : ℤ) : Type 0 where
   pub above : low ≤ℤ at
   pub below : at ≤ℤ high
 
--- what a drag translates lies between the minimum and the maximum, where there is such a place
+-- a translation lies between the minimum and the maximum, if the minimum isn't above the maximum
 abbrev pub TranslationsAreWithin : Type 0
 TranslationsAreWithin = (low high at : ℤ) → low ≤ℤ high → IsBetween low (clamped low high at) high
 
--- a drag that is where it began translates by the offset, where that is allowed
+-- a drag at the point where it began translates by the offset, if the offset is within the limits
 abbrev pub Unmoved : Type 0
 Unmoved = (fields : PlaneFields) (start : Vec3)
     → IsBetween (neg_ℤ (pos max_coordinate)) fields.offset.x (pos max_coordinate)

@@ -1,5 +1,5 @@
--- What is kept of a node beside its fields where viewers point: of a TouchSensor and a PlaneSensor
--- their states, of other nodes nothing (our choice).
+-- The pointing state of a node: what it keeps, in addition to its fields, of viewers' pointers. A
+-- TouchSensor and a PlaneSensor keep their states, other nodes nothing (our choice).
 use Rattle.std.specs.Prelude.{ℕ, ◌==◌, Bool, true, false, not, is_none, ◌&&◌, List, [], length, Option, None, if◌then◌else◌}
 use Rattle.std.specs.Option.{option_map_or}
 use Rattle.x3d_values.specs.declared.node_type.NodeType.{NodeType}
@@ -14,7 +14,7 @@ use Rattle.sensor_plane.specs.declared.pointing.PointingState.TheVariants.{NoSen
 use Rattle.sensor_plane.specs.PlaneParts.{drag_fits}
 use Rattle.sensor_plane.specs.Planes as planes
 
--- a node of that type as a world begins
+-- the state of a node of that type when a world begins
 abbrev pub start_of : NodeType → PointingState
 start_of TouchSensor = Touch touches.untouched
 start_of PlaneSensor = Plane planes.untouched
@@ -32,19 +32,19 @@ abbrev pub is_no_sensor : PointingState → Bool
 is_no_sensor NoSensor = true
 is_no_sensor _ = false
 
--- it is what is kept of a node of that type
+-- the state is one of a node of that type
 abbrev pub is_state_of : NodeType → PointingState → Bool
 is_state_of TouchSensor state = is_touch state
 is_state_of PlaneSensor state = is_plane state
 is_state_of _ state = is_no_sensor state
 
--- no pointer is over it, and nobody presses it
+-- no pointer is over the sensor, and no viewer presses it
 abbrev pub is_resting : PointingState → Bool
 is_resting NoSensor = true
 is_resting (Touch touch) = not (touches.is_over touch) && is_none touch.presser
 is_resting (Plane plane) = not (planes.is_over plane) && is_none plane.drag
 
--- a viewer presses it
+-- a viewer presses the sensor
 abbrev pub is_pressed_by : PointingState → ℕ → Bool
 is_pressed_by NoSensor who = false
 is_pressed_by (Touch touch) who = touches.is_pressed_by touch who
@@ -52,7 +52,7 @@ is_pressed_by (Plane plane) who = planes.is_pressed_by plane who
 
 -- ---- `enabled` FALSE
 
--- what is kept, and what is sent, in order
+-- the state, and what is sent, in order
 pub record Forgotten : Type 0 where
   pub state : PointingState
   pub replies : List SentEvent
@@ -71,26 +71,25 @@ forgotten (Plane plane) = record {
 
 -- ---- drags
 
--- the drag of a PlaneSensor that this viewer presses
+-- the drag of a PlaneSensor, if viewer `who` presses it
 abbrev pub drag_by : PointingState → ℕ → Option Drag
 drag_by (Plane plane) who = if planes.is_pressed_by plane who then plane.drag else None
 drag_by _ who = None
 
 -- ---- ranges
 
--- it tells of each viewer whether its pointer is over the sensor, and a viewer presses if anybody
--- does
+-- the state has a place for each viewer, and the presser, if there is one, is a viewer
 abbrev pub touch_fits : PointingState → Bool
 touch_fits (Touch touch) =
     (length touch.over == MAX_VIEWERS) && option_map_or is_viewer touch.presser true
 touch_fits _ = false
 
--- the same, and its drag is in its ranges
+-- like `touch_fits`, for a PlaneSensor; the drag is in its ranges
 abbrev pub plane_fits : PointingState → Bool
 plane_fits (Plane plane) = (length plane.over == MAX_VIEWERS) && drag_fits plane.drag
 plane_fits _ = false
 
--- what is kept of a node of that type, in its ranges
+-- a state of a node of that type, in its ranges
 abbrev pub pointing_fits : NodeType → PointingState → Bool
 pointing_fits TouchSensor state = touch_fits state
 pointing_fits PlaneSensor state = plane_fits state

@@ -15,12 +15,12 @@ use crate::pointer::{Contact, PlanePointer};
 use react_core::{Outbox, SentEvent};
 use x3d_values::{Value, Vec3};
 
-/// The largest size of a coordinate, in millionths.
+/// The largest absolute value of a coordinate, in millionths.
 const LIMIT: i128 = x3d_values::MAX_COORDINATE as i128;
 
-/// What is kept while a viewer drags: which viewer presses, where it pressed, how far the drag has
-/// translated, both in the sensor's coordinates in millionths, and the way to the list that holds
-/// the sensor.
+/// What is kept while a viewer drags: the viewer that presses, the point where it pressed and the
+/// last translation, both in the sensor's coordinates in millionths, and the path to the list that
+/// holds the sensor.
 #[derive(Clone, Copy, PartialEq, Eq)]
 pub struct Drag {
     pub presser: u8,
@@ -29,16 +29,16 @@ pub struct Drag {
     pub path: ListPath,
 }
 
-// ---- how far a drag translates
+// ---- the translation of a drag
 
-/// How far a coordinate is from the start, on from the offset, at most the limit in size.
+/// Returns the distance of a coordinate from the start plus the offset, clamped to the limit.
 fn shifted(offset: i64, start: i64, at: i64) -> i64
     ensures { result ≡ spec.shifted offset start at }
 {
     (at as i128 - start as i128 + offset as i128).clamp(-LIMIT, LIMIT) as i64
 }
 
-/// Between two positions, where the first isn't above the second.
+/// Clamps to two positions, if the first isn't above the second.
 fn clamped(low: i64, high: i64, at: i64) -> i64
     ensures { result ≡ spec.clamped low high at }
 {
@@ -77,7 +77,7 @@ fn translation(fields: &PlaneFields, start: Vec3, at: Vec3) -> Vec3
     within(fields, shift(fields, start, at))
 }
 
-// ---- what becomes of a drag
+// ---- the steps of a drag
 
 pub(crate) fn send(field: u16, value: Value, out: &mut Outbox)
     requires { array_vec_len out.old + 1 ≤ 5 }
@@ -104,7 +104,7 @@ fn presses(pointer: &PlanePointer) -> bool
     pointer.down && !pointer.before
 }
 
-/// Nobody drags: a button that goes down over the geometry begins a drag.
+/// Begins a drag if the button goes down over the geometry. No viewer drags yet.
 fn begin(fields: &PlaneFields, pointer: &PlanePointer, out: &mut Outbox) -> Option<Drag>
     requires viewer { IsTrue (is_viewer pointer.now.who) }
     requires room { array_vec_len out.old + 2 ≤ 5 }
@@ -123,7 +123,7 @@ fn begin(fields: &PlaneFields, pointer: &PlanePointer, out: &mut Outbox) -> Opti
     Some(drag_from(contact, pointer.who, fields))
 }
 
-/// A drag goes on to where the ray meets its plane, if it does.
+/// Moves a drag to the point where the ray meets its plane, if it does.
 fn follow(fields: &PlaneFields, drag: &Drag, tracked: Option<Vec3>, out: &mut Outbox) -> Drag
     requires room { array_vec_len out.old + 2 ≤ 5 }
     ensures presser { result.presser ≡ drag.now.presser }
@@ -140,7 +140,7 @@ fn follow(fields: &PlaneFields, drag: &Drag, tracked: Option<Vec3>, out: &mut Ou
     Drag { last, ..*drag }
 }
 
-/// The last translation becomes the offset, and is sent.
+/// Sets the offset to the last translation, and sends it.
 fn keep_offset(fields: &mut PlaneFields, last: Vec3, out: &mut Outbox)
     requires room { array_vec_len out.old + 1 ≤ 5 }
     ensures fields { fields.new ≡ record fields.old { offset = last } }
@@ -150,7 +150,7 @@ fn keep_offset(fields: &mut PlaneFields, last: Vec3, out: &mut Outbox)
     send(OFFSET, Value::SFVec3f(fields.offset), out);
 }
 
-/// A drag ends.
+/// Ends a drag.
 fn end(fields: &mut PlaneFields, drag: &Drag, out: &mut Outbox)
     requires room { array_vec_len out.old + 2 ≤ 5 }
     ensures fields { fields.new ≡ (spec.ended fields.old drag.now).fields }
@@ -163,8 +163,8 @@ fn end(fields: &mut PlaneFields, drag: &Drag, out: &mut Outbox)
     }
 }
 
-/// The pointer of the viewer that drags: the drag goes on while its button is down, and ends where
-/// it is up.
+/// Continues a drag while the button of the viewer that drags is down, and ends it when the button
+/// is up.
 fn go_on(
     fields: &mut PlaneFields,
     drag: &Drag,
@@ -186,7 +186,7 @@ fn go_on(
     None
 }
 
-/// What becomes of a drag, if there is one, at a pointer.
+/// Returns the drag after a pointer, if there is one then.
 pub(crate) fn drag_on(
     fields: &mut PlaneFields,
     drag: &Option<Drag>,

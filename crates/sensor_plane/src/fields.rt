@@ -1,4 +1,4 @@
-//! What the fields of a PlaneSensor say of a drag.
+//! The fields of a PlaneSensor that determine a drag.
 
 ghost use Rattle.std.specs.Prelude.{◌≡◌};
 ghost use Rattle.sensor_plane.specs.PlaneFields.{pair_at, triple_at};
@@ -7,7 +7,7 @@ use crate::numbers::{AUTO_OFFSET, MAX_POSITION, MIN_POSITION, OFFSET};
 use sensor_core::truth_at;
 use x3d_values::{Fields, Value, Vec2, Vec3};
 
-/// The values of a PlaneSensor's inputOutput fields that a drag goes by, in millionths.
+/// The values of a PlaneSensor's inputOutput fields that determine a drag, in millionths.
 #[derive(Clone, Copy, PartialEq, Eq)]
 pub struct PlaneFields {
     pub auto_offset: bool,
@@ -40,7 +40,8 @@ impl PlaneFields {
     ghost use Rattle.std.specs.Prelude.{◌≡◌};
     ghost use Rattle.sensor_plane.specs.PlaneFields.{plane_fields_of, with_offset};
 
-    /// What a PlaneSensor's fields hold, where each is there.
+    /// Returns the values of a PlaneSensor's fields. Returns `None` if a value is missing or has
+    /// another type.
     #[tactic(auto, unfolding(crate::specs::PlaneFields::plane_fields_of))]
     pub fn from_fields(fields: &Fields) -> Option<PlaneFields>
         ensures { result ≡ plane_fields_of fields.now }
@@ -65,7 +66,7 @@ impl PlaneFields {
         })
     }
 
-    /// Puts the offset, which alone a drag changes, where a PlaneSensor's fields hold it.
+    /// Writes the offset into a PlaneSensor's fields. A drag changes no other field.
     pub fn write_offset_to(&self, fields: &mut Fields)
         ensures { fields.new ≡ with_offset fields.old self.now }
     {

@@ -1,15 +1,16 @@
-//! A PlaneSensor: how it answers the pointers of several viewers, and what it keeps of a drag; and
-//! what is kept of any node where viewers point.
+//! A PlaneSensor: how it responds to the pointers of several viewers, and what it keeps of a drag.
+//! Also the pointing state of any node.
 //!
 //! | Module | Has |
 //! |---|---|
-//! | `pointing`, `slot` | what is kept of a TouchSensor, a PlaneSensor and other nodes, and where |
+//! | `pointing`, `slot` | the pointing state of a sensor or another node, and its storage |
+//! | `meeting` | what an enabled sensor does with a pointer |
 //! | `plane` | what a PlaneSensor does with a pointer, and when it is disabled |
-//! | `drag` | a drag: how it begins, goes on and ends, and how far it translates |
-//! | `pointer`, `path` | a viewer's pointer, and the way to the list that holds the sensor |
-//! | `fields` | what the node's fields say of a drag |
+//! | `drag` | how a drag begins, goes on and ends, and how far it translates |
+//! | `pointer`, `path` | a viewer's pointer, and the path to the list that holds the sensor |
+//! | `fields` | the node's fields that determine a drag |
 //! | `parts` | the state in plain numbers |
-//! | `numbers`, `laws` | the numbers of the fields, and what holds of drags |
+//! | `numbers`, `laws` | the numbers of the fields, and laws of drags |
 #![tactic(auto)]
 
 mod drag;

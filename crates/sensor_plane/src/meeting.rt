@@ -1,4 +1,4 @@
-//! What a pointing sensor that is enabled does with a viewer's pointer.
+//! What an enabled pointing sensor does with a viewer's pointer.
 
 ghost use Rattle.std.specs.Prelude.{◌≡◌, [], IsTrue, Some};
 ghost use Rattle.x3d_values.specs.Ranges.{is_viewer};
@@ -15,11 +15,11 @@ use react_core::Outbox;
 use sensor_core::TouchState;
 use x3d_values::{Fields, Vec3};
 
-/// A viewer's pointer, as a pointing sensor meets it: whether its button was down until now,
-/// whether it is down now, and where it is inside the sensor's geometry, in the sensor's
-/// coordinates in millionths, if it is; with the way to the list that holds the sensor, where that
-/// can be kept. `tracked` is where the ray of a viewer that drags the sensor meets the plane of the
-/// drag.
+/// A viewer's pointer at a pointing sensor: whether its button was down until now, whether the
+/// button is down now, and the point inside the sensor's geometry, in the sensor's coordinates in
+/// millionths, if the pointer is inside. `contact` is that point with the path to the list that
+/// holds the sensor, if that path can be kept. `tracked` is the point where the ray of a viewer
+/// that drags the sensor meets the plane of the drag.
 #[derive(Clone, Copy)]
 pub struct SensorPointer {
     /// Below `MAX_VIEWERS`.
@@ -43,7 +43,8 @@ fn to_plane(pointer: &SensorPointer) -> PlanePointer
     }
 }
 
-/// A PlaneSensor with these fields meets a pointer.
+/// Applies a pointer to a PlaneSensor with these fields. Does nothing if a field has no value of
+/// its type.
 fn drag(plane: &mut PlaneState, fields: &mut Fields, pointer: &SensorPointer, out: &mut Outbox)
     requires viewer { IsTrue (is_viewer pointer.now.who) }
     requires empty { out.old.items ≡ [] }
@@ -61,7 +62,7 @@ fn drag(plane: &mut PlaneState, fields: &mut Fields, pointer: &SensorPointer, ou
     values.write_offset_to(fields);
 }
 
-/// A TouchSensor meets a pointer.
+/// Applies a pointer to a TouchSensor.
 fn touch(touch: &mut TouchState, pointer: &SensorPointer, time: i64, out: &mut Outbox)
     requires viewer { IsTrue (is_viewer pointer.now.who) }
     requires empty { out.old.items ≡ [] }
@@ -85,9 +86,9 @@ impl PointingState {
     ghost use Rattle.x3d_values.specs.Ranges.{is_viewer};
     ghost use Rattle.sensor_plane.specs.Meeting.{pointed};
 
-    /// Does what an enabled pointing sensor with these fields does with a viewer's pointer, at a
-    /// time in microseconds, and puts what it sends into the outbox. Of the fields the offset alone
-    /// may change.
+    /// Does what an enabled pointing sensor with these fields does with a viewer's pointer, at time
+    /// `time` in microseconds, and puts what the sensor sends into the outbox. Changes no field
+    /// except the offset.
     #[tactic(auto, unfolding(crate::specs::Meeting::pointed))]
     pub fn point(
         &mut self,

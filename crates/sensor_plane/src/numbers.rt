@@ -1,16 +1,16 @@
-//! The numbers of a PlaneSensor's fields, which are their places in the table of fields.
-//! `numbers_law` ties each to its name.
+//! The numbers of a PlaneSensor's fields: their places in the table of fields. `numbers_law` ties
+//! each number to the field's name.
 
 pub const AUTO_OFFSET: u16 = 1;
 
-/// Of `enabled`.
+/// The number of `enabled`.
 pub const PLANE_ENABLED: u16 = 3;
 
 pub const MAX_POSITION: u16 = 4;
 
 pub const MIN_POSITION: u16 = 5;
 
-/// Of `offset`.
+/// The number of `offset`.
 pub const OFFSET: u16 = 6;
 
 pub const IS_OVER: u16 = 7;

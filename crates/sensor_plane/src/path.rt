@@ -1,4 +1,4 @@
-//! The way from the roots of a scene down to one of its lists.
+//! The path from the roots of a scene to one of its lists.
 
 ghost use Rattle.std.specs.Prelude.{◌≡◌, ◌≤◌, ◌^◌, ◌++◌, drop, length, nat_lt, true};
 ghost use Rattle.std.specs.List.{list_all};
@@ -6,11 +6,11 @@ ghost use Rattle.sensor_plane.specs.Paths.{padded, path_fits};
 
 use std::marker::Model;
 
-/// How many positions a path may have.
+/// The largest number of positions in a path.
 pub const MAX_POSITIONS: usize = 64;
 
-/// The positions that lead from the roots of a scene down to the node whose children a list holds,
-/// from 0, the root's first, at most 64. None leads to the list of the roots.
+/// The path from the roots of a scene to the node whose children are in a list: at most 64
+/// positions, each counted from 0, the root's first. An empty path leads to the list of the roots.
 #[derive(Clone, Copy, PartialEq, Eq)]
 pub struct ListPath {
     positions: [u32; 64],
@@ -41,7 +41,8 @@ impl ListPath {
     ghost use Rattle.std.specs.Prelude.{◌≡◌, ◌≤◌, length, true};
     ghost use Rattle.sensor_plane.specs.Paths.{list_path, path_fits};
 
-    /// None where there are more than 64 positions, or one of them takes more than 32 bits.
+    /// Returns the path with these positions. Returns `None` if there are more than 64 positions,
+    /// or if one doesn't fit into 32 bits.
     pub fn new(positions: &[usize]) -> Option<ListPath>
         ensures { result ≡ list_path positions.now }
     {
@@ -54,7 +55,7 @@ impl ListPath {
         })
     }
 
-    /// None where there are more than 64 positions.
+    /// Returns the path with these positions. Returns `None` if there are more than 64.
     pub fn from_u32(positions: &[u32]) -> Option<ListPath>
         ensures { result ≡ list_path positions.now }
     {
@@ -67,6 +68,7 @@ impl ListPath {
         })
     }
 
+    /// Returns the positions, at most 64.
     pub fn as_slice(&self) -> &[u32]
         ensures value { result.now ≡ self.now }
         ensures few { length result.now ≤ 64 }
@@ -76,7 +78,7 @@ impl ListPath {
     }
 }
 
-/// At most 64 positions of 32 bits.
+/// Returns the positions, for the prover: at most 64 positions of 32 bits fit.
 fn may_be_kept(positions: &[u32]) -> &[u32]
     requires { length positions.now ≤ 64 }
     ensures value { result.now ≡ positions.now }
@@ -97,7 +99,7 @@ fn path_fits(positions: &[usize]) -> bool
     positions.len() <= MAX_POSITIONS && are_short(positions)
 }
 
-/// The positions with zeros behind them, 64 in all.
+/// Returns the positions followed by zeros, 64 in all.
 fn narrowed(positions: &[usize]) -> [u32; 64]
     requires { path_fits positions.now ≡ true }
     ensures { result ≡ padded positions.now }
@@ -109,7 +111,7 @@ fn narrowed(positions: &[usize]) -> [u32; 64]
     all
 }
 
-/// These positions are put in front.
+/// Writes these positions to the front.
 fn put_front(all: &mut [u32; 64], positions: &[u32])
     requires { length positions.now ≤ 64 }
     ensures { all.new ≡ positions.now ++ drop (length positions.now) all.old }
@@ -117,7 +119,7 @@ fn put_front(all: &mut [u32; 64], positions: &[u32])
     all[..positions.len()].copy_from_slice(positions);
 }
 
-/// The positions with zeros behind them, 64 in all.
+/// Returns the positions followed by zeros, 64 in all.
 fn padded(positions: &[u32]) -> [u32; 64]
     requires { length positions.now ≤ 64 }
     ensures { result ≡ padded positions.now }

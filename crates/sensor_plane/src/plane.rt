@@ -50,7 +50,7 @@ impl PlaneState {
     ghost use Rattle.sensor_plane.specs.Planes.{is_drag, untouched, is_over, is_pressed_by, over_after, point, disable};
     ghost use Rattle.sensor_plane.specs.PlaneParts.{drag_fits, parts_of_plane, plane_of_parts};
 
-    /// No pointer is over it, and nobody presses it.
+    /// Returns the state with no pointer over the sensor and no viewer pressing it.
     pub fn untouched() -> PlaneState
         ensures { result ≡ untouched }
     {
@@ -61,7 +61,8 @@ impl PlaneState {
     }
 
     /// Does what an enabled PlaneSensor with these fields does with a viewer's pointer, and puts
-    /// what it sends into the outbox. A drag that ends may set the offset, which is then sent.
+    /// what the sensor sends into the outbox. A drag that ends may set the offset, which is then
+    /// sent.
     #[tactic(auto, unfolding(crate::specs::Planes::point))]
     pub fn point(&mut self, fields: &mut PlaneFields, pointer: &PlanePointer, out: &mut Outbox)
         requires viewer { IsTrue (is_viewer pointer.now.who) }
@@ -69,7 +70,7 @@ impl PlaneState {
         ensures plane { self.new ≡ (point self.old fields.old pointer.now).plane }
         ensures fields { fields.new ≡ (point self.old fields.old pointer.now).fields }
         ensures replies { out.new.items ≡ (point self.old fields.old pointer.now).replies }
-        // All leaves by outputs of a PlaneSensor.
+        // All events leave by outputs of a PlaneSensor.
         ensures outputs { IsTrue (leave_by_outputs PlaneSensor out.new.items) }
     {
         let was = self.is_over();
@@ -79,14 +80,14 @@ impl PlaneState {
         *self = PlaneState { over, drag };
     }
 
-    /// Forgets the pointers of a PlaneSensor that is disabled, and puts what it then sends into the
-    /// outbox. Its offset stays.
+    /// Forgets the pointers of a PlaneSensor that is disabled, and puts what the sensor sends then
+    /// into the outbox. The offset stays.
     #[tactic(auto, unfolding(crate::specs::Planes::disable))]
     pub fn disable(&mut self, out: &mut Outbox)
         requires room { array_vec_len out.old + 2 ≤ 5 }
         ensures plane { self.new ≡ (disable self.old).plane }
         ensures replies { out.new.items ≡ out.old.items ++ (disable self.old).replies }
-        // All leaves by outputs of a PlaneSensor.
+        // All events leave by outputs of a PlaneSensor.
         ensures outputs { IsTrue (leave_by_outputs PlaneSensor (disable self.old).replies) }
     {
         let plane = *self;
@@ -97,21 +98,21 @@ impl PlaneState {
         }
     }
 
-    /// Whether some viewer's pointer is over it.
+    /// Reports whether any viewer's pointer is over the sensor.
     pub fn is_over(&self) -> bool
         ensures { result ≡ is_over self.now }
     {
         is_any(&self.over)
     }
 
-    /// Whether no pointer is over it, and nobody presses it.
+    /// Reports whether no pointer is over the sensor, and no viewer presses it.
     pub fn is_untouched(&self) -> bool
         ensures { result ≡ (not (is_over self.now) && is_none self.now.drag) }
     {
         !self.is_over() && self.drag.is_none()
     }
 
-    /// Whether a viewer presses it.
+    /// Reports whether viewer `who` presses the sensor.
     pub fn is_pressed_by(&self, who: u8) -> bool
         ensures { result ≡ is_pressed_by self.now who }
     {
@@ -121,7 +122,7 @@ impl PlaneState {
         }
     }
 
-    /// The drag, if a viewer presses.
+    /// Returns the drag, if a viewer presses.
     pub fn drag(&self) -> Option<Drag>
         ensures value { result ≡ self.now.drag }
         ensures viewer { IsTrue (is_drag result) }
@@ -129,7 +130,7 @@ impl PlaneState {
         self.drag
     }
 
-    /// The drag of this viewer, if it presses.
+    /// Returns the drag of viewer `who`, if that viewer presses.
     pub fn drag_by(&self, who: u8) -> Option<Drag>
         ensures { result ≡ (if is_pressed_by self.now who then self.now.drag else None) }
     {
@@ -139,14 +140,14 @@ impl PlaneState {
         self.drag
     }
 
-    /// Whether it is in its ranges: there is a place for each viewer always.
+    /// Reports whether the state is in its ranges. There always is a place for each viewer.
     pub fn fits(&self) -> bool
         ensures { result ≡ ((length self.now.over == MAX_VIEWERS) && drag_fits self.now.drag) }
     {
         has_places(&self.over) && fits(&self.drag)
     }
 
-    /// What a snapshot has of it.
+    /// Returns the state as a snapshot has it.
     #[tactic(auto, unfolding(crate::specs::PlaneParts::parts_of_plane))]
     pub fn parts(&self) -> PlaneParts
         ensures { result ≡ parts_of_plane self.now }
@@ -157,8 +158,8 @@ impl PlaneState {
         }
     }
 
-    /// The state that these are the parts of, where the presser is a viewer, and where it pressed
-    /// and what was translated last are within 10^15 millionths.
+    /// Returns the state with these parts. Returns `None` if the presser isn't a viewer, or if the
+    /// point where it pressed or the last translation has a coordinate beyond 10^15 millionths.
     #[tactic(auto, unfolding(crate::specs::PlaneParts::plane_of_parts))]
     pub fn from_parts(parts: PlaneParts) -> Option<PlaneState>
         ensures { result ≡ plane_of_parts parts }
@@ -182,14 +183,14 @@ impl PlaneState {
     }
 }
 
-/// Whether there is a place for each viewer, as there always is.
+/// Reports whether there is a place for each viewer, which is always so.
 fn has_places(over: &[bool; VIEWERS]) -> bool
     ensures { result ≡ (length over.now == MAX_VIEWERS) }
 {
     over.len() == VIEWERS
 }
 
-/// Whether a drag's presser is a viewer, and its points are in their range.
+/// Reports whether a drag's presser is a viewer and its points are in their range.
 fn fits(drag: &Option<Drag>) -> bool
     ensures { result ≡ drag_fits drag.now }
 {
@@ -199,7 +200,7 @@ fn fits(drag: &Option<Drag>) -> bool
     is_known(drag) && are_near(drag)
 }
 
-/// Whether the presser is a viewer; a path is always one that may be kept.
+/// Reports whether the presser is a viewer. A path always fits.
 fn is_known(drag: &Drag) -> bool
     ensures { result ≡ (is_viewer drag.now.presser && path_fits drag.now.path) }
 {
@@ -212,7 +213,7 @@ fn are_near(drag: &Drag) -> bool
     drag.start.fits() && drag.last.fits()
 }
 
-/// Sends `isOver` where it changes.
+/// Sends `isOver` if it changes.
 fn send_over(was: bool, is: bool, out: &mut Outbox)
     requires { array_vec_len out.old + 1 ≤ 5 }
     ensures items { out.new.items ≡ out.old.items ++ change_replies IS_OVER was is }

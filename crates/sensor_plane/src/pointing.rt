@@ -1,4 +1,4 @@
-//! What is kept of a node beside its fields where viewers point.
+//! The pointing state of a node: what it keeps, in addition to its fields, of viewers' pointers.
 
 ghost use Rattle.std.specs.Prelude.{◌≡◌, ◌==◌, ◌&&◌, length, true};
 ghost use Rattle.std.specs.Option.{option_map_or};
@@ -11,7 +11,7 @@ use react_core::Outbox;
 use sensor_core::TouchState;
 use x3d_values::NodeType;
 
-/// What is kept of a node beside its fields where viewers point.
+/// The pointing state of a node: what it keeps, in addition to its fields, of viewers' pointers.
 #[derive(Clone, Copy, PartialEq, Eq)]
 pub enum PointingState {
     NoSensor,
@@ -26,7 +26,7 @@ impl PointingState {
     ghost use Rattle.react_core.specs.Access.{leave_by_outputs};
     ghost use Rattle.sensor_plane.specs.Pointing as spec;
 
-    /// Of a node of that type as a world begins.
+    /// Returns the state of a node of type `node_type` when a world begins.
     pub fn of(node_type: NodeType) -> PointingState
         ensures { result ≡ spec.start_of node_type }
     {
@@ -64,7 +64,7 @@ impl PointingState {
         }
     }
 
-    /// Whether it is what is kept of a node of that type.
+    /// Reports whether this is a state of a node of type `node_type`.
     pub fn is_of(&self, node_type: NodeType) -> bool
         ensures { result ≡ spec.is_state_of node_type self.now }
     {
@@ -75,7 +75,7 @@ impl PointingState {
         }
     }
 
-    /// Whether no pointer is over it, and nobody presses it.
+    /// Reports whether no pointer is over the sensor, and no viewer presses it.
     pub fn is_resting(&self) -> bool
         ensures { result ≡ spec.is_resting self.now }
     {
@@ -86,7 +86,7 @@ impl PointingState {
         }
     }
 
-    /// Whether a viewer presses it.
+    /// Reports whether viewer `who` presses the sensor.
     pub fn is_pressed_by(&self, who: u8) -> bool
         ensures { result ≡ spec.is_pressed_by self.now who }
     {
@@ -97,13 +97,13 @@ impl PointingState {
         }
     }
 
-    /// Forgets the pointers of a sensor that is disabled, and puts what it then sends into the
-    /// outbox.
+    /// Forgets the pointers of a sensor that is disabled, and puts what the sensor sends then into
+    /// the outbox.
     pub fn forget(&mut self, out: &mut Outbox)
         requires room { array_vec_len out.old + 2 ≤ 5 }
         ensures state { self.new ≡ (spec.forgotten self.old).state }
         ensures replies { out.new.items ≡ out.old.items ++ (spec.forgotten self.old).replies }
-        // All leaves by outputs of a node of which this is kept.
+        // All events leave by outputs of a node with this state.
         ensures outputs { (t : TypeOf) → IsTrue (spec.is_state_of t self.old)
             → IsTrue (leave_by_outputs t (spec.forgotten self.old).replies) }
     {
@@ -114,7 +114,7 @@ impl PointingState {
         }
     }
 
-    /// The drag of a PlaneSensor that this viewer presses.
+    /// Returns the drag of a PlaneSensor, if viewer `who` presses it.
     pub fn drag_by(&self, who: u8) -> Option<Drag>
         ensures { result ≡ spec.drag_by self.now who }
     {
@@ -124,7 +124,7 @@ impl PointingState {
         }
     }
 
-    /// Whether it is what is kept of a node of that type, in its ranges.
+    /// Reports whether this is a state of a node of type `node_type`, in its ranges.
     pub fn fits(&self, node_type: NodeType) -> bool
         ensures { result ≡ spec.pointing_fits node_type self.now }
     {
@@ -154,7 +154,7 @@ impl PointingState {
     }
 }
 
-/// A TouchState is always in its ranges.
+/// Returns true: a TouchState is always in its ranges.
 fn touch_fits(touch: &TouchState) -> bool
     ensures { result ≡ ((length touch.now.over == MAX_VIEWERS)
         && option_map_or is_viewer touch.now.presser true) }

@@ -1,4 +1,4 @@
-//! Where what is kept of a node beside its fields stands.
+//! Storage for the pointing state of a node.
 
 ghost use Rattle.std.specs.Prelude.{◌≡◌, IfOk, IsTrue};
 ghost use Rattle.sensor_plane.specs.Pointing.{drag_by, is_no_sensor, is_pressed_by, is_resting, is_state_of, pointing_fits, start_of};
@@ -10,8 +10,8 @@ use std::alloc::{AllocError, Global};
 use std::marker::Model;
 use x3d_values::NodeType;
 
-/// What is kept of a node beside its fields where viewers point. The state of a sensor stands on
-/// the heap, so that a node that is none takes room for a pointer alone. Contracts see the state.
+/// Storage for the pointing state of a node. The state of a sensor is on the heap, so that a node
+/// that isn't a sensor only takes the room of a pointer. Contracts see the state.
 #[derive(Drop)]
 pub struct PointingSlot {
     sensor: Option<Box<PointingState>>,
@@ -28,14 +28,15 @@ impl Model for PointingSlot {
 }
 
 impl PointingSlot {
-    /// Of a node that is no sensor: takes no memory.
+    /// Returns the slot of a node that isn't a sensor. Takes no memory.
     pub fn empty() -> PointingSlot
         ensures { result ≡ Nothing }
     {
         PointingSlot { sensor: None }
     }
 
-    /// With that state. Takes memory for a sensor's.
+    /// Returns a slot with that state. Takes memory if it is the state of a sensor; fails if that
+    /// memory is refused.
     pub fn new(alloc: Global, state: PointingState) -> Result<PointingSlot, AllocError>
         ensures { IfOk result (λ slot. slot ≡ state) }
     {
@@ -46,13 +47,15 @@ impl PointingSlot {
         Ok(PointingSlot { sensor })
     }
 
-    /// Of a node of that type as a world begins.
+    /// Returns the slot of a node of type `node_type` when a world begins. Fails if memory is
+    /// refused.
     pub fn of(alloc: Global, node_type: NodeType) -> Result<PointingSlot, AllocError>
         ensures { IfOk result (λ slot. slot ≡ start_of node_type) }
     {
         PointingSlot::new(alloc, PointingState::of(node_type))
     }
 
+    /// Returns the state.
     pub fn state(&self) -> PointingState
         ensures { result ≡ self.now }
     {
@@ -62,7 +65,7 @@ impl PointingSlot {
         }
     }
 
-    /// Whether it is what is kept of a node of that type.
+    /// Reports whether the slot has a state of a node of type `node_type`.
     pub fn is_of(&self, node_type: NodeType) -> bool
         ensures { result ≡ is_state_of node_type self.now }
     {
@@ -72,7 +75,7 @@ impl PointingSlot {
         }
     }
 
-    /// Whether no pointer is over it, and nobody presses it.
+    /// Reports whether no pointer is over the sensor, and no viewer presses it.
     pub fn is_resting(&self) -> bool
         ensures { result ≡ is_resting self.now }
     {
@@ -82,7 +85,7 @@ impl PointingSlot {
         }
     }
 
-    /// Whether a viewer presses it.
+    /// Reports whether viewer `who` presses the sensor.
     pub fn is_pressed_by(&self, who: u8) -> bool
         ensures { result ≡ is_pressed_by self.now who }
     {
@@ -92,7 +95,7 @@ impl PointingSlot {
         }
     }
 
-    /// The drag of a PlaneSensor that this viewer presses.
+    /// Returns the drag of a PlaneSensor, if viewer `who` presses it.
     pub fn drag_by(&self, who: u8) -> Option<Drag>
         ensures { result ≡ drag_by self.now who }
     {
@@ -102,7 +105,7 @@ impl PointingSlot {
         }
     }
 
-    /// Whether it is what is kept of a node of that type, in its ranges.
+    /// Reports whether the slot has a state of a node of type `node_type`, in its ranges.
     pub fn fits(&self, node_type: NodeType) -> bool
         ensures { result ≡ pointing_fits node_type self.now }
     {
@@ -112,7 +115,8 @@ impl PointingSlot {
         }
     }
 
-    /// Keeps this state from now on; that of a sensor only where it keeps one. Takes no memory.
+    /// Replaces the state. A slot without a sensor can't take the state of a sensor. Takes no
+    /// memory.
     pub fn keep(&mut self, state: PointingState)
         requires { IsTrue (is_no_sensor self.old) → IsTrue (is_no_sensor state) }
         ensures { self.new ≡ state }
