@@ -32,7 +32,7 @@ fn cycle_in(active: bool, number: i64) -> Option<Option<u64>>
 
 /// Reads the cycle that a TimeSensor runs: a byte, 1 if it is active, and an i64 from 0, the number
 /// of its cycle, which is 0 if it is inactive. Returns the cycle (`None` if inactive) with the rest
-/// of the bytes. Returns `None` if the bytes are no such cycle.
+/// of the bytes. Returns `None` if the bytes don't encode one.
 #[tactic(auto, using(crate::proofs::Signed::passed), unfolding(crate::specs::Parts::cycle_codec))]
 pub fn cycle_of(bytes: &[u8]) -> Option<(Option<u64>, &[u8])>
     ensures { option_map (λ x. (x.0, x.1.now)) result ≡ cycle_codec.read bytes.now }

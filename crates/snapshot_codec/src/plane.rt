@@ -167,8 +167,8 @@ fn drag_of(bytes: &[u8]) -> Option<(Option<Drag>, &[u8])>
 /// Reads the viewers over a PlaneSensor and its drag: the set of viewers, then a byte, 255 if no
 /// viewer presses the sensor and otherwise the viewer, below 64. If a viewer presses, these follow:
 /// where the press began and the last translation, three numbers each, then a byte up to 64 and
-/// that many positions. Returns the parts with the rest of the bytes, or `None` if the bytes are no
-/// such parts.
+/// that many positions. Returns the parts with the rest of the bytes, or `None` if the bytes
+/// don't encode them.
 #[tactic(auto, unfolding(crate::specs::Parts::plane_codec))]
 pub fn plane_of(bytes: &[u8]) -> Option<(Plane, &[u8])>
     ensures { option_map (λ x. (x.0, x.1.now)) result ≡ plane_codec.read bytes.now }

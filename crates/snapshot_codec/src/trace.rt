@@ -120,7 +120,7 @@ fn typed_of(
 
 /// Reads an event: the input's number u32, the time i64 (0 to 10^18), the node u32, the field u16,
 /// and a value of the field's type. Returns it with the rest of the bytes. Returns `NotCanonical`
-/// if the bytes are no such event or the field sends no events, and `Memory` if memory runs out.
+/// if the bytes don't encode one or the field sends no events, and `Memory` if memory runs out.
 #[tactic(auto, unfolding(crate::specs::Trace::entry_codec))]
 pub fn entry_of<'a, O: Outputs>(
     alloc: Global,
@@ -159,7 +159,7 @@ fn entries_of<'a, O: Outputs, T: TakesEntries>(
 }
 
 /// Reads a trace: a u64 count and that many events. Hands the events to `taker` in order and
-/// returns the rest of the bytes. Returns `NotCanonical` if the bytes are no such trace, and
+/// returns the rest of the bytes. Returns `NotCanonical` if the bytes don't encode one, and
 /// `Memory` if memory runs out. On an error, `taker` may hold some of the events.
 pub fn trace_of<'a, O: Outputs, T: TakesEntries>(
     alloc: Global,

@@ -18,7 +18,7 @@ pub(crate) const MAX_TIME: u64 = x3d_values::MAX_TIME as u64;
 /// Reads the value of a field of this type. An SFBool is a byte 0 or 1, an SFInt32 an i32, a number
 /// an i64 of a size up to 10^15 millionths, a time an i64 of a size up to 10^18 microseconds, a
 /// string a u32 count and that many bytes of UTF-8, a list a u32 count and that many items. Returns
-/// the value with the rest of the bytes. Returns `NotCanonical` if the bytes are no such value or
+/// the value with the rest of the bytes. Returns `NotCanonical` if the bytes don't encode one or
 /// the type is one of nodes or rotations, and `Memory` if memory runs out.
 #[tactic(auto, unfolding(crate::specs::Values::value_at))]
 pub fn value_of(

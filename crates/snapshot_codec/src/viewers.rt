@@ -92,7 +92,7 @@ fn presser_byte(presser: Option<u8>) -> u8
 
 /// Reads the viewers over a TouchSensor and the viewer that presses it: the set of viewers, then a
 /// byte, 255 if no viewer presses the sensor and otherwise below the number of viewers. Returns
-/// them with the rest of the bytes, or `None` if the bytes are no such parts.
+/// them with the rest of the bytes, or `None` if the bytes don't encode them.
 #[tactic(auto, unfolding(crate::specs::Parts::touch_codec))]
 pub fn touch_of(viewers: Viewers, bytes: &[u8]) -> Option<(Touch, &[u8])>
     ensures { option_map (λ x. (x.0, x.1.now)) result ≡ (touch_codec viewers).read bytes.now }
