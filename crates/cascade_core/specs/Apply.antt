@@ -1,6 +1,6 @@
--- What an input does, and the world of a scene and its inputs (ISO/IEC 19775-1, event model:
--- execution model; that the clock goes to the time sensors, and a pointer to the pointing sensors,
--- in number order, and the order of scripts, is our choice).
+-- The effect of an input, and the world of a scene and its inputs (ISO/IEC 19775-1, event model:
+-- execution model). Our choice: the clock goes to the time sensors, and a pointer to the pointing
+-- sensors, in number order; the order of scripts.
 use Rattle.std.specs.Prelude.{ℕ, ℤ, pos, Bool, false, ◌++◌, List, [], ◌∷◌, None, length, map, replicate}
 use Rattle.std.specs.List.{fold, range_with_len}
 use Rattle.x3d_values.specs.declared.ranges.TheConstants.{MAX_VIEWERS}
@@ -29,22 +29,22 @@ pub use Rattle.cascade_world.specs.World.{begin, with_button}
 
 -- ---- an input
 
--- a time sensor ticks, and what it sends is followed
+-- a time sensor ticks, and the events that it sends are followed
 unfoldable pub tick_node : Wiring → ℤ → Course → ℕ → Course
 tick_node wiring now c node =
     let t = ticked c.live.world node now in
     send_replies wiring node (with_live c (with_answer c.live t)) t.replies
 
--- a pointing sensor meets a viewer's pointer, and what it sends is followed
+-- a pointing sensor gets a viewer's pointer, and the events that it sends are followed
 unfoldable pub point_node : SceneView → Wiring → PointerView → Bool → Insides → Course → Concerned
     → Course
 point_node scene wiring p before is c x =
     let a = met scene c.live.world x.sensor (pointer_at p before is x.tracked x.sensor) in
     send_replies wiring x.sensor (with_live c (with_answer c.live a)) a.replies
 
--- a viewer points: where its ray hits, which sensors that is inside of, which of them it presses,
--- where its ray meets the planes of its drags and whether its button was down are fixed first; then
--- each sensor that is concerned meets the pointer at its turn
+-- a viewer points: where its ray hits, which sensors the hit is inside of, which sensors the viewer
+-- presses, where its ray meets the planes of its drags, and whether its button was down are fixed
+-- first; then each sensor that is concerned gets the pointer in turn
 unfoldable pub point : SceneView → Wiring → Course → PointerView → Course
 point scene wiring c p =
     let is = insides scene c.live.world.fields p.ray in
@@ -52,16 +52,16 @@ point scene wiring c p =
     fold (point_node scene wiring p before is) (with_live c (with_button c.live p))
     (concerned scene c.live.world p)
 
--- each time sensor ticks at its turn, or a viewer points
+-- each time sensor ticks in turn, or a viewer points
 abbrev pub happen : SceneView → Wiring → ℤ → Course → Cause → Course
 happen scene wiring now c Clock = fold (tick_node wiring now) c (clocks_of (types_of scene))
 happen scene wiring now c (Pointer p) = point scene wiring c p
 
--- an input comes to a world: no script has received yet
+-- an input comes to a world: no script has received an event yet
 abbrev pub begun : SceneView → Scripted → StampedView → Course
 begun scene w input = course (begin w.world input) (running (kinds_in scene) w.states)
 
--- what happened goes to the nodes that it concerns, and then scripts settle
+-- the cause of the input goes to the nodes that it concerns, and then scripts settle
 abbrev pub after_input : SceneView → Wiring → Course → StampedView → Course
 after_input scene wiring c input = settle wiring (happen scene wiring input.time c input.cause)
 
@@ -78,10 +78,10 @@ apply scene routes w input = ended (course_after scene routes w input)
 abbrev pub world_after : SceneView → List Route → Scripted → List StampedView → Scripted
 world_after scene routes w inputs = fold (apply scene routes) w inputs
 
--- ---- input 0: all scripts are initialized, then what they sent is sent, and then they settle
+-- -- input 0: all scripts are initialized, then their events are sent, and then they settle
 
--- before anything happened: the scene's own fields, no sensor active or touched, no button down,
--- and nothing sent
+-- before anything has happened: the scene's own fields, no sensor active or touched, no button
+-- down, and nothing sent
 abbrev pub untold : SceneView → WorldData
 untold scene =
     record {
@@ -94,12 +94,12 @@ untold scene =
       trace = [];
     }
 
--- what the node of a script sends
+-- the events that the node of a script is to send
 pub record SendingView : Type 0 where
   pub node : ℕ
   pub replies : List SentEvent
 
--- scripts of which some were initialized, and what their nodes are to send
+-- scripts of which some are initialized, and the events that their nodes are to send
 pub record Started : Type 0 where
   pub scripts : List SlotView
   pub sendings : List SendingView
@@ -112,22 +112,22 @@ start_one wiring s k =
       sendings = s.sendings ++ record { node = node_of wiring k; replies = a.replies } ∷ [];
     }
 
--- all of them, in the order of their numbers
+-- all scripts, in number order
 unfoldable pub started : Wiring → List SlotView → Started
 started wiring scripts =
     fold (start_one wiring) (record { scripts = scripts; sendings = [] })
     (range_with_len 0 (length scripts))
 
--- their replies are sent in that order
+-- the replies are sent in that order
 abbrev pub sent_by_all : Wiring → Course → List SendingView → Course
 sent_by_all wiring c sendings =
     fold (λ c (x : SendingView). send_replies wiring x.node c x.replies) c sendings
 
--- the course of input 0, at time 0, behind the initialization of all scripts
+-- the course of input 0, at time 0, after the initialization of all scripts
 abbrev pub opening_course : SceneView → List SlotView → Course
 opening_course scene scripts = course (record { world = untold scene; sent = [] }) scripts
 
--- the world of a scene before any input: what input 0 leaves
+-- the world of a scene before any other input: the result of input 0
 unfoldable pub opening : SceneView → List Route → Scripted
 opening scene routes =
     let wiring = wiring_of scene routes in

@@ -1,5 +1,6 @@
--- An event cascade through scripts (ISO/IEC 19775-1, event model: execution model): as one without
--- them, and an event at an input of a script is a call of it, whose replies its node sends.
+-- An event cascade through scripts (ISO/IEC 19775-1, event model: execution model): like a cascade
+-- without scripts, except that an event at an input of a script is a call of the script, whose
+-- replies its node sends.
 use Rattle.std.specs.Prelude.{ℕ, zero, suc, ◌+◌, List, [], Option, Some, None, if◌then◌else◌}
 use Rattle.std.specs.List.{fold}
 use Rattle.std.specs.Option.{option_and_then, option_map}
@@ -25,7 +26,7 @@ pub record Arrival : Type 0 where
   pub number : ℕ
   pub call : Call
 
--- the call that an event is, where its target is an input of a script that takes the value
+-- the call that an event causes, if its target is an input of a script that takes the value
 abbrev pub arrival : Wiring → Course → End → Value → Option Arrival
 arrival wiring c target v =
     option_and_then
@@ -33,12 +34,12 @@ arrival wiring c target v =
     (call_of (ports_of wiring k) k target.field v c.scripts))
     (script_of wiring target.node)
 
--- what an event comes to at its target: the course, and what the target's node sends
+-- the result of an event at its target: the course, and the events that the target's node sends
 pub record Reacted : Type 0 where
   pub course : Course
   pub replies : List SentEvent
 
--- a script is called, and has received
+-- a script is called, and has received an event
 abbrev pub called_at : Wiring → Course → Arrival → Reacted
 called_at wiring c at =
     let a = act (ports_of wiring at.number) at.call at.number c.scripts in
@@ -47,12 +48,12 @@ called_at wiring c at =
       replies = a.replies;
     }
 
--- where an event arrives nowhere nothing happens
+-- nothing happens if no script receives the event
 abbrev pub received_by : Wiring → Course → Option Arrival → Reacted
 received_by wiring c (Some at) = called_at wiring c at
 received_by wiring c None = record { course = c; replies = [] }
 
--- any other target answers
+-- a target that isn't a script answers
 abbrev pub answered_at : Wiring → Course → End → Value → Reacted
 answered_at wiring c target v =
     let a = answer wiring.shapes c.live.world target v

@@ -17,7 +17,7 @@ use Rattle.cascade_core.specs.declared.routed.RoutedScene.{RoutedScene}
 use Rattle.cascade_world.specs.declared.world.Live.{Live}
 use Rattle.cascade_world.specs.declared.world.WorldData.{WorldData}
 
--- what events go by: the fields of the nodes, the routes, and the scripts that are run
+-- what events depend on: the fields of the nodes, the routes, and the scripts that are run
 pub record Wiring : Type 0 where
   pub shapes : List Shape
   pub routes : List Route
@@ -34,24 +34,25 @@ pub record Scripted : Type 0 where
   pub world : WorldData
   pub states : List (List ℤ)
 
--- what events go by where a stage holds this
+-- the wiring of a scene with its routes and scripts
 abbrev pub wiring_at : RoutedScene → Wiring
 wiring_at g = record { shapes = shapes_of g.scene; routes = g.routes; runs = g.runs }
 
--- a world in the course of one input, and which of its scripts received and were settled
+-- a world in the course of an input, and which of its scripts have received an event and which were
+-- settled
 pub record Course : Type 0 where
   pub live : Live
   pub scripts : List SlotView
   pub settling : DueScriptsView
 
--- the same of the course that the code has, whatever its boxes are
+-- the course as the code holds it, whatever its boxes are
 abbrev pub seen : {X : Type 0} → lent.Course X → Course
 seen c = record { live = c.live; scripts = c.scripts; settling = c.settling }
 
 abbrev pub with_live : Course → Live → Course
 with_live c live = record c { live = live }
 
--- an input begins: no script has received, and none is settled
+-- an input begins: no script has received an event, and none is settled
 abbrev pub course : Live → List SlotView → Course
 course live scripts =
     record { live = live; scripts = scripts; settling = unsettled (length scripts) }
@@ -61,7 +62,7 @@ ended c = record { world = c.live.world; states = states_of c.scripts }
 
 -- ---- the scripts of nodes
 
--- the number of the script of a node, where its script is run
+-- the number of the script of a node, if its script is run
 abbrev pub script_of : Wiring → ℕ → Option ℕ
 script_of wiring node = script_from 0 wiring.runs node
 

@@ -1,5 +1,4 @@
--- A stage holds the world of its scene, or is spoiled with the number of inputs that it had
--- applied.
+-- A stage holds the world of its scene, or is spoiled with the number of inputs applied before.
 use Rattle.std.specs.Prelude.{ℕ, ℤ, Bool, true, false, List, [], ◌∷◌, Option, Some, None, if◌then◌else◌, ◌+◌, ◌==◌, int_lt, not}
 use Rattle.std.specs.List.{fold}
 use Rattle.x3d_values.specs.Stamp.{StampedView}
@@ -16,13 +15,13 @@ pub data Held : Type 0 where
   Running : Scripted → Held
   Spoiled : ℕ → Held
 
--- a scene, its routes, and what became of its world
+-- a scene, its routes, and its world or the mark that the stage is spoiled
 pub record StageView : Type 0 where
   pub scene : SceneView
   pub routes : List Route
   pub held : Held
 
--- what a stage holds, by its world and its mark
+-- what a stage holds, from its mark and its world
 abbrev pub held_of : Option ℕ → Scripted → Held
 held_of None w = Running w
 held_of (Some n) w = Spoiled n
@@ -51,7 +50,7 @@ abbrev pub states_in : Held → Option (List (List ℤ))
 states_in (Running w) = Some w.states
 states_in (Spoiled n) = None
 
--- how many inputs a stage has applied, or had when it was spoiled
+-- the number of inputs that a stage has applied, or had applied when it was spoiled
 abbrev pub applied_of : Held → ℕ
 applied_of (Running w) = w.world.applied
 applied_of (Spoiled n) = n
@@ -61,7 +60,7 @@ abbrev pub trace_of : Held → List TraceLine
 trace_of (Running w) = w.world.trace
 trace_of (Spoiled n) = []
 
--- why a world refuses an input: the first that holds
+-- why a world refuses an input: the first reason that holds
 abbrev pub world_refusal : WorldData → StampedView → Option ApplyFault
 world_refusal w input =
     if not (input.number == w.applied + 1)
@@ -72,7 +71,7 @@ abbrev pub refusal_of : Held → StampedView → Option ApplyFault
 refusal_of (Running w) input = world_refusal w.world input
 refusal_of (Spoiled n) input = Some fault.Spoiled
 
--- the stage with this in it
+-- the stage with `held` in it
 abbrev pub holding : StageView → Held → StageView
 holding stage held = record stage { held = held }
 
@@ -80,11 +79,11 @@ abbrev pub after_held : SceneView → List Route → Held → StampedView → He
 after_held scene routes (Running w) input = Running (apply scene routes w input)
 after_held scene routes (Spoiled n) input = Spoiled n
 
--- the stage after an input that it takes
+-- the stage after an input that is not refused
 abbrev pub after : StageView → StampedView → StageView
 after stage input = holding stage (after_held stage.scene stage.routes stage.held input)
 
--- the scripts that settle at an input that a stage takes, in order
+-- the scripts that settle at an input that a stage doesn't refuse, in order
 abbrev pub settled_in : SceneView → List Route → Held → StampedView → List ℕ
 settled_in scene routes (Running w) input = (course_after scene routes w input).settling.settled
 settled_in scene routes (Spoiled n) input = []
@@ -92,7 +91,7 @@ settled_in scene routes (Spoiled n) input = []
 abbrev pub settled_by : StageView → StampedView → List ℕ
 settled_by stage input = settled_in stage.scene stage.routes stage.held input
 
--- the stage after a list of inputs that it takes
+-- the stage after a list of inputs that are not refused
 abbrev pub after_all : StageView → List StampedView → StageView
 after_all stage inputs = fold after stage inputs
 
@@ -101,13 +100,13 @@ abbrev pub first_refusal : Option ApplyFault → Option ApplyFault → Option Ap
 first_refusal None later = later
 first_refusal (Some f) later = Some f
 
--- why a list of inputs is refused: by the first of them that the stage after those before it
--- refuses
+-- why a list of inputs is refused: the fault of the first input that is refused after those before
+-- it
 abbrev pub refusal_in : StageView → List StampedView → Option ApplyFault
 refusal_in stage [] = None
 refusal_in stage (input ∷ inputs) =
     first_refusal (refusal_of stage.held input) (refusal_in (after stage input) inputs)
 
--- the stage when memory was refused
+-- the stage after memory ran out
 abbrev pub spoiled : StageView → StageView
 spoiled stage = holding stage (Spoiled (applied_of stage.held))

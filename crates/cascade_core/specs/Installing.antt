@@ -1,4 +1,4 @@
--- Worlds that are put into a stage, and boxes that take the place of others.
+-- Worlds that are installed in a stage, and boxes that replace others.
 use Rattle.std.specs.Prelude.{◌≡◌, ◌≢◌, ◌⊎◌, ℤ, List, length, Option, true}
 use Rattle.x3d_values.specs.declared.script.Kind.{Kind}
 use Rattle.scene_core.specs.Scene.{SceneView}
@@ -17,7 +17,7 @@ use Rattle.cascade_core.specs.declared.fault.PlaceFault.TheVariants as fault
 abbrev pub StatesFit : SceneView → List (List ℤ) → Type 0
 StatesFit scene states = AreStates (scripts_in scene) states
 
--- why a world isn't put into a stage, and what the stage is then
+-- why a world isn't installed in a stage, and the stage afterwards
 abbrev pub RefusesInstall : StateFault → StageView → List (List ℤ) → StageView → Type 0
 RefusesInstall StateLength old states new = (new ≡ old)
     × ((length (scripts_in old.scene) ≢ length states)
@@ -26,7 +26,7 @@ RefusesInstall StateRange old states new = (new ≡ old)
     × IsFirstFault StateRange (scripts_in old.scene) states
 RefusesInstall Memory old states new = StatesFit old.scene states × (new ≡ spoiled old)
 
--- why a box of this kind doesn't take the place of a script of a stage
+-- why a box of this kind doesn't replace a script of a stage
 abbrev pub RefusesBox : PlaceFault → Held → Option SlotView → Kind → Type 0
 RefusesBox fault.Spoiled held old kind = is_spoiled held ≡ true
 RefusesBox fault.NoSuchScript held old kind = RefusesPlace place.NoSuchScript old kind

@@ -10,15 +10,15 @@ use Rattle.cascade_trace.specs.Ends.{has_sent}
 unfoldable pub output_fields : Shape → List ℕ
 output_fields shape = filter (is_output shape) (range_with_len 0 (length (rows_of shape)))
 
--- how many outputs a node has
+-- the number of outputs of a node
 abbrev pub outputs_of_shape : Shape → ℕ
 outputs_of_shape shape = length (output_fields shape)
 
--- how many outputs the nodes have
+-- the number of outputs of the nodes
 abbrev pub outputs_of : List Shape → ℕ
 outputs_of shapes = sum_by outputs_of_shape shapes
 
--- the outputs of nodes that are numbered from n on
+-- the outputs of nodes, of which the first has number n
 unfoldable pub ends_from : ℕ → List Shape → List End
 ends_from n [] = []
 ends_from n (shape ∷ shapes) =

@@ -1,4 +1,4 @@
--- Why a script is not replaced where the stage is not spoiled.
+-- Why a script is not replaced, if the stage is not spoiled.
 use Rattle.script_host.specs.declared.fault.ReplaceFault.{ReplaceFault}
 use Rattle.script_host.specs.declared.fault.ReplaceFault.TheVariants as place
 use Rattle.cascade_core.specs.declared.fault.PlaceFault.{PlaceFault}

@@ -1,4 +1,4 @@
--- How a course stands between two steps: what is left to do, and what of it stays the same.
+-- The state of a course between two steps: the remaining tasks, and what stays the same.
 use Rattle.std.specs.Prelude.{◌≡◌, List, []}
 use Rattle.std.specs.List.{AllByRecursion}
 use Rattle.react_core.specs.declared.outbox.SentEvent.{SentEvent}
@@ -13,8 +13,8 @@ use Rattle.cascade_core.specs.Sound.{HasScriptsOf, RunsItsScripts}
 use Rattle.cascade_core.specs.Stack.{IsReady}
 use Rattle.cascade_core.specs.declared.routed.RoutedScene.{RoutedScene}
 
--- no task is left and nothing is unsaid, the boxes are those of the nodes, and the scripts those
--- that are run
+-- there are no tasks and no unsent replies, the boxes are those of the nodes, and the scripts are
+-- those that are run
 pub record IsAtRest (routed : RoutedScene) (tasks : List CascadeTask) (replies : List SentEvent)
     (rows : List BoxRow) (c : Course) : Type 0 where
   pub empty : tasks ≡ []
@@ -22,7 +22,7 @@ pub record IsAtRest (routed : RoutedScene) (tasks : List CascadeTask) (replies :
   pub boxes : rows ≡ rows_of routed.scene c.live.world.fields
   pub has_scripts : HasScriptsOf (wiring_at routed) c
 
--- the same while tasks are left: each sends by an output of the scene
+-- like `IsAtRest`, with tasks left: each sends by an output of the scene
 pub record IsWorking (routed : RoutedScene) (tasks : List CascadeTask) (replies : List SentEvent)
     (rows : List BoxRow) (c : Course) : Type 0 where
   pub ready : AllByRecursion (IsReady (shapes_of routed.scene)) tasks
@@ -30,12 +30,12 @@ pub record IsWorking (routed : RoutedScene) (tasks : List CascadeTask) (replies 
   pub boxes : rows ≡ rows_of routed.scene c.live.world.fields
   pub has_scripts : HasScriptsOf (wiring_at routed) c
 
--- the scripts are of the kinds that they were of, and as many are counted
+-- the kinds and the number of the scripts are unchanged
 pub record HasSameScripts (old new : Course) : Type 0 where
   pub kinds : kinds_of new.scripts ≡ kinds_of old.scripts
   pub count : new.settling.count ≡ old.settling.count
 
--- the scripts that are run are those of the scene, and so are those of the course
+-- the scripts that are run are those of the scene, and the course has their kinds
 pub record HasSceneScripts (routed : RoutedScene) (c : Course) : Type 0 where
   pub runs : RunsItsScripts routed
   pub kinds : kinds_of c.scripts ≡ kinds_in routed.scene

@@ -1,4 +1,4 @@
--- What holds of worlds with scripts.
+-- Laws of worlds with scripts.
 use Rattle.std.specs.Prelude.{◌≡◌, ◌⊎◌, List, [], Option, None, true, false, length, IsSomeAnd}
 use Rattle.x3d_values.specs.declared.script.Kind.{Kind}
 use Rattle.x3d_values.specs.Stamp.{StampedView}
@@ -16,7 +16,7 @@ use Rattle.cascade_core.specs.Settles.{next_due, settle}
 use Rattle.cascade_core.specs.declared.fault.PlaceFault.{PlaceFault}
 use Rattle.cascade_core.specs.declared.fault.PlaceFault.TheVariants.{Memory}
 
--- no input changes the kind of a script, or how many there are
+-- no input changes the kind of a script or the number of scripts
 abbrev pub KindsStand : Type 0
 KindsStand = (scene : SceneView) (wiring : Wiring) (c : Course) (input : StampedView)
     → kinds_of (after_input scene wiring c input).scripts ≡ kinds_of c.scripts
@@ -26,13 +26,13 @@ abbrev pub StatesStand : Type 0
 StatesStand = (scene : SceneView) (routes : List Route) (inputs : List StampedView)
     → length (world scene routes inputs).states ≡ length (kinds_in scene)
 
--- settling leaves no script due, and settles each once at most
+-- settling leaves no script due, and settles each script at most once
 abbrev pub SettlesAll : Type 0
 SettlesAll = (wiring : Wiring) (c : Course) → c.settling.settled ≡ []
     → (next_due (settle wiring c) ≡ None) × (all_differ (settle wiring c).settling.settled ≡ true)
 
--- a stage that isn't spoiled has one answer to a box, memory aside: where a fault is why the box
--- doesn't take the place of a script, no other is, and the box is not of the script's kind
+-- a stage that isn't spoiled refuses a box for at most one reason, unless memory runs out; if it
+-- refuses, the box is not of the script's kind
 abbrev pub PlacesOne : Type 0
 PlacesOne = (held : Held) (old : Option SlotView) (kind : Kind) (one other : PlaceFault)
     → is_spoiled held ≡ false → RefusesBox one held old kind

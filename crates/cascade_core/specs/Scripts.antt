@@ -10,14 +10,14 @@ use Rattle.script_host.specs.Hosting.{SlotView}
 use Rattle.script_running.specs.Acting.{kinds_of}
 pub use Rattle.script_running.specs.Running.{are_begun, running, script_from, states_of}
 
--- a script as the scene asks for it, before it is initialized; none where its kind is unknown
+-- a script that the scene specifies, before it is initialized; none if its kind is unknown
 abbrev pub script_for : ScriptSpec → Option SlotView
 script_for asked =
     option_map
     (λ (kind : Kind). record { kind = kind; state = asked.start; initialized = false })
     asked.kind
 
--- all that the scene asks for
+-- all scripts that the scene specifies and whose kinds are known
 abbrev pub scripts_in : SceneView → List SlotView
 scripts_in scene = filter_map script_for (script_list scene)
 

@@ -17,8 +17,8 @@ abbrev pub are_outputs : List Shape → ℕ → List ℕ → Bool
 are_outputs shapes node fields =
     list_all (λ field. is_scene_output shapes (record { node = node; field = field })) fields
 
--- there are as many scripts as are run, and each sends by outputs of its node, as many as those of
--- its kind
+-- there is one script for each that is run, and each sends by outputs of its node, as many as its
+-- kind has
 pub record IsSound (wiring : Wiring) (kinds : List Kind) : Type 0 where
   pub many : length wiring.runs ≡ length kinds
   pub count : (k : ℕ) (kind : Kind) → slice_get kinds k ≡ Some kind
@@ -26,7 +26,7 @@ pub record IsSound (wiring : Wiring) (kinds : List Kind) : Type 0 where
   pub sends : (k : ℕ) (kind : Kind) → slice_get kinds k ≡ Some kind
       → are_outputs wiring.shapes (node_of wiring k) (ports_of wiring k).outputs ≡ true
 
--- these replies leave by outputs
+-- the replies are sent by outputs of the scene
 abbrev pub are_sent : List Shape → SendingView → Bool
 are_sent shapes s = are_outputs shapes s.node (map (λ (r : SentEvent). r.field) s.replies)
 
@@ -34,7 +34,7 @@ are_sent shapes s = are_outputs shapes s.node (map (λ (r : SentEvent). r.field)
 abbrev pub RunsItsScripts : RoutedScene → Type 0
 RunsItsScripts g = g.runs ≡ runs_of g.scene
 
--- the scripts of a course are those that the wiring runs, and none else is counted
+-- the scripts of a course are those that the wiring runs, and no others are counted
 pub record HasScriptsOf (wiring : Wiring) (c : Course) : Type 0 where
   pub sound : IsSound wiring (kinds_of c.scripts)
   pub counted : c.settling.count ≡ length (kinds_of c.scripts)

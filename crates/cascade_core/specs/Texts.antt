@@ -1,4 +1,4 @@
--- The texts of a world: its trace, one line for each event that was sent, and its scene (which
+-- The texts of a world: its trace, with one line for each event that was sent, and its scene (which
 -- texts there are is our choice).
 use Rattle.std.specs.Prelude.{ℕ, List}
 use Rattle.std.specs.List.{flat_map}
@@ -12,6 +12,6 @@ use Rattle.cascade_core.specs.Course.{Scripted}
 unfoldable pub trace_text : SceneView → Scripted → List ℕ
 trace_text scene w = flat_map (line_text scene) w.world.trace
 
--- the scene with its routes and what its nodes keep
+-- the scene with its routes and the current fields of its nodes
 unfoldable pub scene_text : SceneView → List Route → Scripted → List ℕ
 scene_text scene routes w = text_of_scene scene routes w.world.fields

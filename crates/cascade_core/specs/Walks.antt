@@ -7,20 +7,20 @@ use Rattle.cascade_world.specs.Pointer.{is_pressed, untracked}
 use Rattle.cascade_world.specs.declared.aim.Concerned.{Concerned}
 use Rattle.cascade_world.specs.declared.world.WorldData.{WorldData}
 
--- what is done at a number that passes; nothing happens at another
+-- what is done at a number that passes; nothing is done at another
 abbrev pub where_passes : {S : Type 0} → (ℕ → Bool) → (S → ℕ → S) → S → ℕ → S
 where_passes p f s i = if p i then f s i else s
 
--- the same at each number of a block, of so many numbers in all
+-- what is done at each number of a block, of `count` numbers in all
 abbrev pub over_block : {S : Type 0} → (S → ℕ → S) → S → ℕ → ℕ → S
 over_block g s block count =
     fold g s (range_with_len (block * 32) (min (count - block * 32) 32))
 
--- what is done at a sensor that a pointer concerns, at one that its viewer doesn't drag
+-- what is done at a sensor that a pointer concerns and that its viewer doesn't drag
 abbrev pub untracked_by : {S : Type 0} → (S → Concerned → S) → S → ℕ → S
 untracked_by f s node = f s (untracked node)
 
--- a viewer presses the node of that number, a pointing sensor
+-- the node of that number is a pointing sensor that a viewer presses
 abbrev pub presses : WorldData → List NodeType → ℕ → ℕ → Bool
 presses w kinds who node = is_pressed w who node && is_sensor kinds node
 

@@ -1,4 +1,4 @@
--- What an input gave rise to, by the lines that the trace gained.
+-- The work that an input caused, by the lines that the trace gained.
 use Rattle.std.specs.Prelude.{ℕ, ◌≡◌, true, ◌++◌, List, length, map, count_by}
 use Rattle.scene_core.specs.declared.scene.End.{End}
 use Rattle.scene_core.specs.declared.scene.Route.{Route}
@@ -11,8 +11,8 @@ use Rattle.cascade_trace.specs.declared.trace.TraceLine.{TraceLine}
 abbrev pub sources_of : List TraceLine → List End
 sources_of lines = map (λ line. line.source) lines
 
--- the trace gained these lines, of different outputs; the work counts them, and the routes whose
--- source sent; and the scripts that were settled, each once
+-- the trace gained these lines, of different outputs; the work counts the lines, the routes whose
+-- source sent, and the scripts that were settled, each once
 pub record IsWork (routes : List Route) (old new : List TraceLine) (settled : List ℕ) (work : Work)
     : Type 0 where
   pub lines : List TraceLine

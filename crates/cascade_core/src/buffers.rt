@@ -1,16 +1,16 @@
-//! What a stage works with beside its world.
+//! The working memory of a stage.
 
 use cascade_rules::CascadeTask;
 use cascade_world::Concerned;
 use pick_core::BoxCache;
 
-/// What a stage works with beside its world; no world depends on it.
+/// The working memory of a stage; no world depends on it.
 #[derive(Drop)]
 pub struct Buffers {
-    /// What is still to be done.
+    /// The remaining tasks.
     pub tasks: Vec<CascadeTask>,
-    /// The sensors that a viewer presses, while it points.
+    /// The sensors that a viewer presses, while its pointer is handled.
     pub pressed: Vec<Concerned>,
-    /// The boxes of the scene as its nodes are now.
+    /// The boxes of the scene, up to date with its nodes.
     pub boxes: BoxCache,
 }

@@ -1,5 +1,5 @@
-//! The clock ticks for each TimeSensor in number order; blocks of nodes of which it is known that
-//! nothing happens there are passed.
+//! The clock ticks for each TimeSensor in number order. Blocks of nodes where a tick is known to do
+//! nothing are skipped.
 
 ghost use Rattle.std.specs.Prelude.{◌≡◌, ◌*◌, ◌-◌, ◌≤◌, [], OnOk, true};
 ghost use Rattle.std.specs.List.{fold, range_with_len};
@@ -21,7 +21,7 @@ use script_host::Behaviour;
 use std::alloc::AllocError;
 use x3d_values::Stamped;
 
-/// A TimeSensor ticks, and what it sends is followed.
+/// Lets a TimeSensor tick and follows the events that it sends.
 fn tick_node<B: Behaviour>(
     routed: &RoutedScene,
     tasks: &mut Vec<CascadeTask>,
@@ -44,7 +44,7 @@ fn tick_node<B: Behaviour>(
     send_replies(routed, tasks, course, replies, boxes, node)
 }
 
-/// The node of that number ticks, where it is a TimeSensor.
+/// Lets the node of that number tick, if it is a TimeSensor.
 fn tick_any<B: Behaviour>(
     routed: &RoutedScene,
     tasks: &mut Vec<CascadeTask>,
@@ -69,7 +69,7 @@ fn tick_any<B: Behaviour>(
     tick_node(routed, tasks, course, replies, boxes, node, input)
 }
 
-/// Each TimeSensor of some nodes ticks at its turn.
+/// Lets each TimeSensor from node `start` to before `end` tick in turn.
 fn tick_all<B: Behaviour>(
     routed: &RoutedScene,
     tasks: &mut Vec<CascadeTask>,
@@ -96,8 +96,8 @@ fn tick_all<B: Behaviour>(
     Ok(())
 }
 
-/// The TimeSensors of a block of nodes tick, of so many nodes in all. A block is passed where it is
-/// known that nothing happens there.
+/// Lets the TimeSensors of a block tick, in a scene of `count` nodes. Skips a block where a tick is
+/// known to do nothing.
 fn tick_block<B: Behaviour>(
     routed: &RoutedScene,
     tasks: &mut Vec<CascadeTask>,
@@ -137,7 +137,7 @@ fn tick_block<B: Behaviour>(
     Ok(())
 }
 
-/// Each TimeSensor ticks at its turn.
+/// Lets each TimeSensor tick in turn. Fails with `AllocError` if memory runs out.
 pub fn clock<B: Behaviour>(
     routed: &RoutedScene,
     tasks: &mut Vec<CascadeTask>,

@@ -1,4 +1,4 @@
-//! The world of a scene with its scripts, in the course of one input.
+//! The world of a scene with its scripts, in the course of an input.
 
 ghost use Rattle.std.specs.Prelude.{◌≡◌, [], IfOk, OnOk, is_some};
 ghost use Rattle.pick_core.specs.Sites.{rows_of};
@@ -19,8 +19,8 @@ use script_slots::DueScripts;
 use std::alloc::{AllocError, Global};
 use x3d_values::Value;
 
-/// A world in the course of one input, its scripts, and which of them received in it and were
-/// settled.
+/// A world in the course of an input, its scripts, and which of them have received an event and
+/// which were settled.
 #[derive(Drop)]
 pub struct Course<B: Behaviour> {
     pub live: Live,
@@ -29,7 +29,8 @@ pub struct Course<B: Behaviour> {
 }
 
 impl<B: Behaviour> Course<B> {
-    /// An event comes to the script of its target: whether there is one that receives it.
+    /// Delivers an event to the script of its target. Returns whether there is a script that
+    /// receives it.
     fn receive(
         &mut self,
         routed: &RoutedScene,
@@ -61,8 +62,8 @@ impl<B: Behaviour> Course<B> {
         Ok(true)
     }
 
-    /// An event comes to its target, whatever has sent before: to its script, or else to the node,
-    /// if there is such a node.
+    /// Delivers an event to its target, whatever has sent before: to the target's script if it
+    /// receives the event, and otherwise to the node, if there is such a node.
     #[tactic(auto, unfolding(crate::specs::Cascade::reached))]
     pub(crate) fn deliver(
         &mut self,

@@ -1,4 +1,4 @@
-//! What may be refused.
+//! The faults of a stage.
 
 ghost use Rattle.std.specs.Prelude.{◌≡◌};
 ghost use Rattle.cascade_core.specs.FaultNames.{load_fault_name, apply_fault_name, text_fault_name, states_fault_name, place_fault_name};
@@ -100,7 +100,7 @@ impl From<ReplaceFault> for PlaceFault {
 }
 
 impl LoadFault {
-    /// The name of the variant.
+    /// Returns the name of the variant.
     pub fn name(self) -> &'static str
         ensures { result.now ≡ load_fault_name self }
     {
@@ -111,7 +111,7 @@ impl LoadFault {
 }
 
 impl ApplyFault {
-    /// The name of the variant.
+    /// Returns the name of the variant.
     pub fn name(self) -> &'static str
         ensures { result.now ≡ apply_fault_name self }
     {
@@ -125,7 +125,7 @@ impl ApplyFault {
 }
 
 impl TextFault {
-    /// The name of the variant.
+    /// Returns the name of the variant.
     pub fn name(self) -> &'static str
         ensures { result.now ≡ text_fault_name self }
     {
@@ -137,7 +137,7 @@ impl TextFault {
 }
 
 impl StatesFault {
-    /// The name of the variant.
+    /// Returns the name of the variant.
     pub fn name(self) -> &'static str
         ensures { result.now ≡ states_fault_name self }
     {
@@ -149,7 +149,7 @@ impl StatesFault {
 }
 
 impl PlaceFault {
-    /// The name of the variant.
+    /// Returns the name of the variant.
     pub fn name(self) -> &'static str
         ensures { result.now ≡ place_fault_name self }
     {

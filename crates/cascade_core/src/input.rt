@@ -1,4 +1,4 @@
-//! An input happens: it goes to the nodes that it concerns, scripts settle, and the world moves on.
+//! Handles an input: it goes to the nodes that it concerns, scripts settle, and the world advances.
 
 ghost use Rattle.std.specs.Prelude.{◌≡◌, ◌+◌, [], IfOk, OnOk, length};
 ghost use Rattle.script_running.specs.Acting.{kinds_of};
@@ -23,7 +23,7 @@ use std::alloc::AllocError;
 use x3d_values::{Cause, Stamped};
 
 impl<B: Behaviour> Course<B> {
-    /// An input begins: no output has sent, and no script has received.
+    /// Begins an input: no output has sent, and no script has received an event.
     fn begin(&mut self, input: &Stamped)
         requires next { input.now.number ≡ self.old.live.world.applied + 1 }
         requires counted { self.old.settling.count ≡ length self.old.scripts }
@@ -37,7 +37,7 @@ impl<B: Behaviour> Course<B> {
     }
 }
 
-/// What happened at an input goes to the nodes that it concerns.
+/// Hands the cause of an input to the nodes that it concerns.
 fn happen<B: Behaviour>(
     routed: &RoutedScene,
     buffers: &mut Buffers,
@@ -65,7 +65,8 @@ fn happen<B: Behaviour>(
     }
 }
 
-/// The world moves on by one input.
+/// Advances the world by one input. Fails with `AllocError` if memory runs out; the world is then
+/// unusable.
 #[tactic(auto, unfolding(crate::specs::Apply::apply))]
 pub fn advance<B: Behaviour>(
     routed: &RoutedScene,

@@ -1,8 +1,8 @@
-//! What holds of worlds with scripts.
+//! Laws of worlds with scripts.
 
 ghost use Rattle.cascade_core.specs.ScriptLaws.{KindsStand, PlacesOne, SettlesAll, StatesStand};
 
-/// No input changes the kind of a script, or how many there are.
+/// No input changes the kind of a script or the number of scripts.
 pub fn kinds_law()
     ensures { KindsStand }
 {}
@@ -12,12 +12,13 @@ pub fn states_law()
     ensures { StatesStand }
 {}
 
-/// Settling leaves no script due, and settles each once at most.
+/// Settling leaves no script due, and settles each script at most once.
 pub fn settling_law()
     ensures { SettlesAll }
 {}
 
-/// A stage has one answer to a box that is to take the place of a script, memory aside.
+/// There is at most one reason why a stage refuses a box that is to replace a script, unless memory
+/// runs out.
 pub fn places_law()
     ensures { PlacesOne }
 {}

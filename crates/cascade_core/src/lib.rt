@@ -1,5 +1,5 @@
-//! One viewer's world: inputs start event cascades, which change what the nodes keep and are told
-//! in a trace (ISO/IEC 19775-1, event model).
+//! One viewer's world. Inputs start event cascades, which change what the nodes keep and are
+//! recorded in a trace (ISO/IEC 19775-1, event model).
 #![tactic(auto)]
 
 mod buffers;

@@ -1,4 +1,4 @@
-//! Input 0: all scripts are initialized, then what they sent is sent, and then they settle.
+//! Input 0: all scripts are initialized, then their events are sent, and then they settle.
 
 ghost use Rattle.std.specs.Prelude.{◌≡◌, ◌<◌, [], IfOk, OnOk, true, length};
 ghost use Rattle.std.specs.List.{list_all};
@@ -28,7 +28,7 @@ use script_slots::DueScripts;
 use std::alloc::{AllocError, Global};
 use std::marker::Model;
 
-/// What the node of a script is to send.
+/// The events that the node of a script is to send.
 #[derive(Drop)]
 struct Sending {
     node: u32,
@@ -43,7 +43,7 @@ impl Model for Sending {
     ghost view = { λ s. record { node = s.node; replies = s.replies.items } };
 }
 
-/// Initializes the k-th script: what its node is to send.
+/// Initializes the k-th script and returns the events that its node is to send.
 #[tactic(auto, using(crate::proofs::Openings::script_run))]
 fn initialize_one<B: Behaviour>(routed: &RoutedScene, scripts: &mut Scripts<B>, k: usize) -> Sending
     requires there { k < length scripts.old }
@@ -65,7 +65,7 @@ fn initialize_one<B: Behaviour>(routed: &RoutedScene, scripts: &mut Scripts<B>, 
     }
 }
 
-/// Initializes all scripts in the order of their numbers: what their nodes are to send.
+/// Initializes all scripts in number order and returns the events that their nodes are to send.
 fn initialize_all<B: Behaviour>(
     alloc: Global,
     routed: &RoutedScene,
@@ -86,7 +86,7 @@ fn initialize_all<B: Behaviour>(
     Ok(sendings)
 }
 
-/// What the node of one script is to send is sent.
+/// Sends the events of one script's node.
 fn send_one<B: Behaviour>(
     routed: &RoutedScene,
     tasks: &mut Vec<CascadeTask>,
@@ -106,7 +106,7 @@ fn send_one<B: Behaviour>(
     send_replies(routed, tasks, course, &mut replies, boxes, node)
 }
 
-/// What the nodes of scripts are to send is sent, in order.
+/// Sends the events of the scripts' nodes, in order.
 fn send_all<B: Behaviour>(
     routed: &RoutedScene,
     tasks: &mut Vec<CascadeTask>,
@@ -128,7 +128,7 @@ fn send_all<B: Behaviour>(
     Ok(())
 }
 
-/// What the nodes of scripts are to send is sent, and then the scripts settle.
+/// Sends the events of the scripts' nodes, and then lets the scripts settle.
 fn send_and_settle<B: Behaviour>(
     routed: &RoutedScene,
     buffers: &mut Buffers,
@@ -156,7 +156,8 @@ fn send_and_settle<B: Behaviour>(
     Ok(())
 }
 
-/// The course of input 0 of these scripts, over a world in which nothing has happened.
+/// Runs input 0 of these scripts, on a world in which nothing has happened, and returns its course.
+/// Fails with `AllocError` if memory runs out.
 pub fn open<B: Behaviour>(
     alloc: Global,
     routed: &RoutedScene,
@@ -175,7 +176,7 @@ pub fn open<B: Behaviour>(
         IsAtRest routed.now buffers.new.tasks.items [] buffers.new.boxes (seen course)) }
     ensures scene { IfOk result (λ course. HasSceneScripts routed.now (seen course)) }
 {
-    // Each exit drops by calls: a drop in place is proved anew at each.
+    // For the prover: each exit drops by calls; an in-place drop is proved again at each exit.
     let Ok(settling) = DueScripts::new(alloc, scripts.len()) else {
         drop(scripts);
         drop(live);

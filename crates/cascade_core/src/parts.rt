@@ -1,4 +1,4 @@
-//! What a stage makes of its scene.
+//! The parts that a stage makes from its scene.
 
 ghost use Rattle.std.specs.Prelude.{◌≡◌, [], IfOk, List, None, map, replicate};
 ghost use Rattle.script_running.specs.Acting.{kinds_of};
@@ -25,7 +25,7 @@ use sensor_core::TimeState;
 use sensor_plane::PointingSlot;
 use std::alloc::{AllocError, Global};
 
-/// No node runs a cycle.
+/// Makes the states of `nodes` nodes, none of which runs a cycle.
 fn idle_sensors(alloc: Global, nodes: usize) -> Result<Watched<TimeState>, AllocError>
     ensures { IfOk result (λ sensors. sensors ≡ replicate nodes None) }
 {
@@ -33,7 +33,7 @@ fn idle_sensors(alloc: Global, nodes: usize) -> Result<Watched<TimeState>, Alloc
     Ok(Watched::from_vec(sensors))
 }
 
-/// What is kept of each node where viewers point, before any does.
+/// Makes the pointing state of each node, before any viewer points.
 fn pointing_of(alloc: Global, scene: &Scene) -> Result<Watched<PointingSlot>, AllocError>
     ensures { IfOk result (λ pointing. pointing ≡ map start_of (types_of scene.now)) }
 {
@@ -49,12 +49,12 @@ fn pointing_of(alloc: Global, scene: &Scene) -> Result<Watched<PointingSlot>, Al
     Ok(Watched::from_vec(slots))
 }
 
-/// The world of a scene in which nothing has happened.
+/// Makes the world of a scene in which nothing has happened.
 fn untold(alloc: Global, scene: &Scene) -> Result<WorldData, AllocError>
     ensures { IfOk result (λ w. w ≡ untold scene.now) }
 {
     let fields = scene.state(alloc)?;
-    // Each exit drops by calls: a drop in place is proved anew at each.
+    // For the prover: each exit drops by calls; an in-place drop is proved again at each exit.
     let Ok(sensors) = idle_sensors(alloc, fields.len()) else {
         drop(fields);
         return Err(AllocError);
@@ -75,7 +75,7 @@ fn untold(alloc: Global, scene: &Scene) -> Result<WorldData, AllocError>
     })
 }
 
-/// What a stage works with: no task is left, and the boxes are those of the world.
+/// Makes the working memory of a stage: no tasks, and the boxes of the world.
 fn buffers_of(alloc: Global, scene: &Scene, world: &WorldData) -> Result<Buffers, AllocError>
     ensures boxes { IfOk result (λ buffers. buffers.boxes ≡ rows_of scene.now world.now.fields) }
     ensures tasks { IfOk result (λ buffers. buffers.tasks.items ≡ []) }
@@ -88,7 +88,7 @@ fn buffers_of(alloc: Global, scene: &Scene, world: &WorldData) -> Result<Buffers
     })
 }
 
-/// The world of a scene in which nothing has happened, with no output that has sent.
+/// Makes the world of a scene in which nothing has happened and no output has sent.
 fn turn_of(alloc: Global, scene: &Scene) -> Result<Live, AllocError>
     ensures world { IfOk result (λ live. live.world ≡ untold scene.now) }
     ensures sent { IfOk result (λ live. live.sent ≡ []) }
@@ -98,14 +98,14 @@ fn turn_of(alloc: Global, scene: &Scene) -> Result<Live, AllocError>
     Ok(Live { world, sent })
 }
 
-/// What a stage has beside its scene, its routes and its scripts.
+/// The parts of a stage other than its scene, its routes and its scripts.
 #[derive(Drop)]
 pub(crate) struct Parts {
     pub(crate) live: Live,
     pub(crate) buffers: Buffers,
 }
 
-/// The parts of a stage before any input.
+/// Makes the parts of a stage before any input.
 pub(crate) fn parts_of(alloc: Global, scene: &Scene) -> Result<Parts, AllocError>
     ensures world { IfOk result (λ parts. parts.live.world ≡ untold scene.now) }
     ensures sent { IfOk result (λ parts. parts.live.sent ≡ []) }
@@ -113,7 +113,7 @@ pub(crate) fn parts_of(alloc: Global, scene: &Scene) -> Result<Parts, AllocError
     ensures boxes { IfOk result
         (λ parts. parts.buffers.boxes ≡ rows_of scene.now parts.live.world.fields) }
 {
-    // Each exit drops by calls: a drop in place is proved anew at each.
+    // For the prover: each exit drops by calls; an in-place drop is proved again at each exit.
     let live = turn_of(alloc, scene)?;
     let Ok(buffers) = buffers_of(alloc, scene, &live.world) else {
         drop(live);
@@ -122,7 +122,7 @@ pub(crate) fn parts_of(alloc: Global, scene: &Scene) -> Result<Parts, AllocError
     Ok(Parts { live, buffers })
 }
 
-/// The scripts that a scene runs.
+/// Returns the scripts that a scene runs.
 fn runs_in(alloc: Global, scene: &Scene) -> Result<Runs, AllocError>
     ensures { IfOk result (λ runs. runs ≡ runs_of scene.now) }
 {
@@ -132,7 +132,8 @@ fn runs_in(alloc: Global, scene: &Scene) -> Result<Runs, AllocError>
     Runs::new(alloc, listed?, scene)
 }
 
-/// What events go by in a scene with these routes.
+/// Returns the scene with its routes and the scripts that it runs. Fails with `AllocError` if
+/// memory runs out.
 pub fn routed_of(alloc: Global, scene: Scene, routes: Routes) -> Result<RoutedScene, AllocError>
     ensures scene { IfOk result (λ made. made.scene ≡ scene) }
     ensures routes { IfOk result (λ made. made.routes ≡ routes) }
@@ -141,7 +142,7 @@ pub fn routed_of(alloc: Global, scene: Scene, routes: Routes) -> Result<RoutedSc
         → Fits (script_list scene) scripts
         → IsSound (wiring_at made) (kinds_of scripts)) }
 {
-    // Each exit drops by calls: a drop in place is proved anew at each.
+    // For the prover: each exit drops by calls; an in-place drop is proved again at each exit.
     let Ok(runs) = runs_in(alloc, &scene) else {
         drop(routes);
         drop(scene);

@@ -1,5 +1,5 @@
-//! A viewer points: what that concerns is fixed first, and then each sensor meets the pointer at
-//! its turn (ISO/IEC 19775-1, pointing device sensor component).
+//! Handles a viewer's pointer: what it concerns is fixed first, and then each sensor gets the
+//! pointer in turn (ISO/IEC 19775-1, pointing device sensor component).
 
 ghost use Rattle.std.specs.Prelude.{◌≡◌, ◌*◌, ◌-◌, ◌≤◌, [], OnOk, map};
 ghost use Rattle.std.specs.List.{fold, range_with_len};
@@ -25,7 +25,7 @@ use script_host::Behaviour;
 use std::alloc::AllocError;
 use x3d_values::Pointer;
 
-/// A pointing sensor meets a pointer, and what it sends is followed.
+/// Hands a pointer to a pointing sensor and follows the events that it sends.
 fn point_node<B: Behaviour>(
     routed: &RoutedScene,
     tasks: &mut Vec<CascadeTask>,
@@ -55,7 +55,7 @@ fn point_node<B: Behaviour>(
     send_replies(routed, tasks, course, replies, boxes, concerned.sensor)
 }
 
-/// Each of these sensors meets a pointer at its turn.
+/// Hands a pointer to each of these sensors in turn.
 fn point_all<B: Behaviour>(
     routed: &RoutedScene,
     sensors: &[Concerned],
@@ -82,7 +82,7 @@ fn point_all<B: Behaviour>(
     Ok(())
 }
 
-/// The node of that number meets a pointer, where it is a pointing sensor.
+/// Hands a pointer to the node of that number, if it is a pointing sensor.
 fn point_any<B: Behaviour>(
     routed: &RoutedScene,
     tasks: &mut Vec<CascadeTask>,
@@ -112,7 +112,7 @@ fn point_any<B: Behaviour>(
     point_node(routed, tasks, course, replies, boxes, concerned, aim)
 }
 
-/// Each pointing sensor of some nodes meets a pointer at its turn.
+/// Hands a pointer to each pointing sensor from node `start` to before `end`, in turn.
 fn point_some<B: Behaviour>(
     routed: &RoutedScene,
     tasks: &mut Vec<CascadeTask>,
@@ -140,8 +140,8 @@ fn point_some<B: Behaviour>(
     Ok(())
 }
 
-/// The pointing sensors of a block of nodes meet a pointer, of so many nodes in all. A block is
-/// passed where it is known that nothing happens there.
+/// Hands a pointer to the pointing sensors of a block, in a scene of `count` nodes. Skips a block
+/// where the pointer is known to do nothing.
 fn point_block<B: Behaviour>(
     routed: &RoutedScene,
     tasks: &mut Vec<CascadeTask>,
@@ -182,7 +182,7 @@ fn point_block<B: Behaviour>(
     Ok(())
 }
 
-/// Each pointing sensor meets a pointer at its turn.
+/// Hands a pointer to each pointing sensor in turn.
 fn point_each<B: Behaviour>(
     routed: &RoutedScene,
     tasks: &mut Vec<CascadeTask>,
@@ -219,8 +219,7 @@ fn point_each<B: Behaviour>(
     Ok(())
 }
 
-/// Each of those that are pressed meets a pointer at its turn, or each pointing sensor where none
-/// is.
+/// Hands a pointer to each pressed sensor in turn, or to each pointing sensor if none is pressed.
 fn point_concerned<B: Behaviour>(
     routed: &RoutedScene,
     pressed: &[Concerned],
@@ -247,7 +246,7 @@ fn point_concerned<B: Behaviour>(
     }
 }
 
-/// A viewer points.
+/// Handles a viewer's pointer. Fails with `AllocError` if memory runs out.
 #[tactic(auto, unfolding(crate::specs::Apply::point, cascade_world::specs::Pointer::concerned))]
 pub fn point<B: Behaviour>(
     routed: &RoutedScene,

@@ -1,5 +1,5 @@
-//! Which sensors a viewer presses, and where it drags them; blocks of nodes of which none is
-//! touched are passed.
+//! The sensors that a viewer presses, and where the viewer drags them. Blocks of nodes in which
+//! none is pressed are skipped.
 
 ghost use Rattle.std.specs.Prelude.{◌≡◌, ◌*◌, ◌-◌, ◌≤◌, OnOk};
 ghost use Rattle.std.specs.List.{fold, range_with_len};
@@ -13,14 +13,14 @@ use scene_core::Scene;
 use std::alloc::AllocError;
 use x3d_values::Pointer;
 
-/// Whether a viewer presses the node of that number, a pointing sensor.
+/// Reports whether the node of that number is a pointing sensor that a viewer presses.
 fn presses(world: &WorldData, scene: &Scene, who: u8, node: u32) -> bool
     ensures { result ≡ presses world.now (types_of scene.now) who node }
 {
     world.is_pressed(who, node) && is_sensor(scene, node)
 }
 
-/// Appends a node, where a viewer presses it.
+/// Appends a node, if a viewer presses it.
 fn push_pressed(
     world: &WorldData,
     scene: &Scene,
@@ -42,7 +42,7 @@ fn push_pressed(
     Ok(())
 }
 
-/// Appends those of some nodes that a viewer presses.
+/// Appends the nodes from `start` to before `end` that a viewer presses.
 fn push_some(
     world: &WorldData,
     scene: &Scene,
@@ -62,8 +62,8 @@ fn push_some(
     Ok(())
 }
 
-/// Appends those of a block of nodes that a viewer presses, of so many nodes in all.
-/// A block is passed where it is known that nobody presses any of it.
+/// Appends the nodes of a block that a viewer presses, in a scene of `count` nodes. Skips a block
+/// in which it is known that no viewer presses a node.
 fn push_block(
     world: &WorldData,
     scene: &Scene,
@@ -86,8 +86,9 @@ fn push_block(
     push_some(world, scene, pointer, start, start + many, pressed)
 }
 
-/// Lists the pointing sensors that a viewer presses, in number order, each with where its ray meets
-/// the plane of a drag.
+/// Lists the pointing sensors that a viewer presses, in number order, each with where the viewer's
+/// ray meets the plane of a drag. Replaces the content of `pressed`. Fails with `AllocError` if
+/// memory runs out.
 pub fn list_pressed(
     world: &WorldData,
     scene: &Scene,

@@ -31,7 +31,8 @@ impl<B: Behaviour> Stage<B> {
     }
 }
 
-/// The stage of a scene after these inputs, up to the first that is refused.
+/// Makes the stage of a scene and applies these inputs. Returns the fault of the first input that
+/// is refused, or `Memory` if memory runs out.
 #[tactic(auto, using(crate::proofs::Runs::after_all_running))]
 pub fn run<B: Behaviour>(
     alloc: Global,
@@ -48,7 +49,7 @@ pub fn run<B: Behaviour>(
           routes = routes;
           held = Running (world scene routes inputs.now);
         }) }
-    // It answers no input's fault but that of the first that is refused.
+    // The only fault of an input is that of the first refused one.
     ensures taken { OnOk result
         (refusal_in
         (record { scene = scene; routes = routes; held = Running (opening scene routes) })
@@ -57,7 +58,7 @@ pub fn run<B: Behaviour>(
         ⊎ (refusal_in
         (record { scene = scene; routes = routes; held = Running (opening scene routes) })
         inputs.now ≡ Some fault)) }
-    // Of inputs in turn none is refused.
+    // Inputs in order are not refused.
     ensures in_order { AreInOrder inputs.now → IfErr result (λ fault. fault ≡ ApplyFault.Memory) }
 {
     let Ok(mut stage) = Stage::load(alloc, scene, routes, scripts) else {

@@ -1,4 +1,4 @@
-//! Scripts settle behind the events of a timestamp, the lowest first.
+//! Scripts settle after the events of a timestamp, the lowest number first.
 
 ghost use Rattle.std.specs.Prelude.{◌≡◌, ◌<◌, [], OnOk, true, length};
 ghost use Rattle.script_slots.specs.Settling.{is_due};
@@ -15,7 +15,7 @@ use react_core::Outbox;
 use script_host::Behaviour;
 use std::alloc::AllocError;
 
-/// A script that is due settles, and what its node sends is followed.
+/// Settles a script that is due and follows the events that its node sends.
 fn settle_one<B: Behaviour>(
     routed: &RoutedScene,
     tasks: &mut Vec<CascadeTask>,
@@ -39,7 +39,7 @@ fn settle_one<B: Behaviour>(
     send_replies(routed, tasks, course, replies, boxes, routed.runs.node(k))
 }
 
-/// Scripts settle until none is due.
+/// Settles scripts until none is due. Fails with `AllocError` if memory runs out.
 pub fn settle<B: Behaviour>(
     routed: &RoutedScene,
     tasks: &mut Vec<CascadeTask>,

@@ -1,4 +1,4 @@
-//! A cascade by a stack of tasks, whose depth is bounded by memory alone.
+//! A cascade with a stack of tasks, whose depth only memory limits.
 
 ghost use Rattle.std.specs.Prelude.{◌≡◌, ◌+◌, ◌≤◌, ◌<◌, ◌^◌, [], true, false, None, Some, IfNone, IfSome, OnOk, map, reverse, slice_get};
 ghost use Rattle.std.specs.List.{AllByRecursion};
@@ -22,7 +22,8 @@ use script_host::Behaviour;
 use std::alloc::AllocError;
 use x3d_values::Value;
 
-/// What a node answers is sent, in its order, and followed to its end.
+/// Sends the replies of a node in order, each with all its consequences. Fails with `AllocError` if
+/// memory runs out.
 pub fn send_replies<B: Behaviour>(
     routed: &RoutedScene,
     tasks: &mut Vec<CascadeTask>,
@@ -45,7 +46,7 @@ pub fn send_replies<B: Behaviour>(
     Ok(())
 }
 
-/// Does all tasks, the last first.
+/// Does all tasks, the last one first.
 fn run_tasks<B: Behaviour>(
     routed: &RoutedScene,
     tasks: &mut Vec<CascadeTask>,
@@ -67,7 +68,7 @@ fn run_tasks<B: Behaviour>(
     Ok(())
 }
 
-/// Does one task, which may leave others.
+/// Does one task, which may push others.
 fn step<B: Behaviour>(
     routed: &RoutedScene,
     tasks: &mut Vec<CascadeTask>,
@@ -101,7 +102,7 @@ fn step<B: Behaviour>(
     }
 }
 
-/// An output sends, unless it has sent before.
+/// Sends an event by an output, unless the output has sent before.
 fn begin<B: Behaviour>(
     routed: &RoutedScene,
     tasks: &mut Vec<CascadeTask>,
@@ -126,7 +127,7 @@ fn begin<B: Behaviour>(
         (IsWorking routed.now tasks.new.items replies.new.items boxes.new (seen course.new)) }
     ensures scripts { HasSameScripts (seen course.old) (seen course.new) }
 {
-    // A value is dropped by a call: left to the exits, its drop is proved once for each of them.
+    // For the prover: the value is dropped by a call; otherwise its drop is proved at each exit.
     let alloc = *tasks.allocator();
     let Ok(sends) = send(&mut course.live, alloc, source, &value) else {
         drop(value);
@@ -140,7 +141,7 @@ fn begin<B: Behaviour>(
     Ok(())
 }
 
-/// The route at this place among those of the output is followed, and the rest are left.
+/// Follows the route at this place among those of the output, and leaves the rest as a task.
 fn follow<B: Behaviour>(
     routed: &RoutedScene,
     tasks: &mut Vec<CascadeTask>,
@@ -166,7 +167,7 @@ fn follow<B: Behaviour>(
         (IsWorking routed.now tasks.new.items replies.new.items boxes.new (seen course.new)) }
     ensures scripts { HasSameScripts (seen course.old) (seen course.new) }
 {
-    // A value is dropped by a call: left to the exits, its drop is proved once for each of them.
+    // For the prover: the value is dropped by a call; otherwise its drop is proved at each exit.
     let Some(hop) = hop_at(&routed.routes, source, next) else {
         drop(value);
         return Ok(());
@@ -186,14 +187,14 @@ fn follow<B: Behaviour>(
     Ok(())
 }
 
-/// Where a route leads, and whether its output has more of them.
+/// The target of a route, and whether its output has more routes after it.
 #[derive(Clone, Copy)]
 struct Hop {
     target: End,
     more: bool,
 }
 
-/// Where the route at this place among those of the output leads, if there are so many.
+/// Returns the route at this place among those of the output, or `None` if there are fewer.
 fn hop_at(routes: &Routes, source: End, next: usize) -> Option<Hop>
     ensures none { IfNone result (slice_get (targets_of routes.now source) next ≡ None) }
     ensures target { IfSome result (λ hop. slice_get (targets_of routes.now source) next

@@ -20,7 +20,7 @@ use std::marker::Model;
 use std::mem;
 use x3d_values::{Items, Stamped};
 
-/// A scene with its world, which moves on by inputs.
+/// A scene with its world, which inputs advance.
 #[derive(Drop)]
 pub struct Stage<B: Behaviour> {
     routed: RoutedScene,
@@ -65,9 +65,9 @@ impl<B: Behaviour> Stage<B> {
     ghost use Rattle.script_running.specs.Scripts.{script_list};
     ghost use Rattle.script_host.specs.Attaching.{Fits};
 
-    /// The stage of a scene with its routes and the scripts that were attached for it, none of
-    /// which is initialized, behind input 0: all scripts are initialized in the order of their
-    /// numbers, then what they sent is sent, and then they settle.
+    /// Makes the stage of a scene with its routes and the scripts attached for it, and runs input
+    /// 0: all scripts are initialized in number order, then their events are sent, and then they
+    /// settle. None of the scripts may be initialized yet. Fails with `Memory` if memory runs out.
     pub fn load(
         alloc: Global,
         scene: Scene,
@@ -83,7 +83,7 @@ impl<B: Behaviour> Stage<B> {
               held = Running (opening scene routes);
             }) }
     {
-        // Each exit drops by calls: a drop in place is proved anew at each.
+        // For the prover: each exit drops by calls; an in-place drop is proved again at each exit.
         let Ok(routed) = routed_of(alloc, scene, routes) else {
             drop(scripts);
             return Err(LoadFault::Memory);
@@ -107,19 +107,19 @@ impl<B: Behaviour> Stage<B> {
         })
     }
 
-    /// The scene.
+    /// Returns the scene.
     pub fn scene(&self) -> &Scene
         ensures { result.now ≡ self.now.scene }
     {
         &self.routed.scene
     }
 
-    /// The allocator that the stage takes its memory from.
+    /// Returns the allocator that the stage takes its memory from.
     pub fn allocator(&self) -> Global {
         *self.buffers.tasks.allocator()
     }
 
-    /// The world, unless the stage is spoiled.
+    /// Returns the world, or `None` if the stage is spoiled.
     pub fn world(&self) -> Option<&WorldData>
         ensures { option_copied result ≡ world_in self.now.held }
     {
@@ -129,7 +129,8 @@ impl<B: Behaviour> Stage<B> {
         Some(&self.course.live.world)
     }
 
-    /// How many inputs were applied, or had been when the stage was spoiled.
+    /// Returns the number of inputs applied. For a spoiled stage, the number applied before it was
+    /// spoiled.
     pub fn applied(&self) -> u32
         ensures { result ≡ applied_of self.now.held }
     {
@@ -139,14 +140,14 @@ impl<B: Behaviour> Stage<B> {
         }
     }
 
-    /// Whether memory was refused at an input.
+    /// Reports whether the stage is spoiled: memory ran out at an input.
     pub fn spoiled(&self) -> bool
         ensures { result ≡ is_spoiled self.now.held }
     {
         self.spoiled.is_some()
     }
 
-    /// Why an input is refused as the next one, if it is.
+    /// Returns why an input is refused as the next one, if it is.
     fn refusal(&self, input: &Stamped) -> Option<ApplyFault>
         ensures { result ≡ refusal_of self.now.held input.now }
     {
@@ -163,21 +164,24 @@ impl<B: Behaviour> Stage<B> {
         None
     }
 
-    /// Applies the next input.
+    /// Applies the next input. The first fault that holds is returned: `Spoiled` if the stage is
+    /// spoiled, `NotNext` if the input's number isn't the next one, `TimeNotLater` if its time
+    /// isn't later than that of the last input. The stage is then unchanged. Returns `Memory` if
+    /// memory runs out; the stage is then spoiled.
     #[tactic(auto, using(crate::proofs::Resting::has_scripts_then))]
     pub fn apply(&mut self, input: &Stamped) -> Result<Work, ApplyFault>
-        // Whatever can be said before the work starts is answered then, and the stage is as it was.
+        // A fault that is found before the work starts is returned, and the stage is unchanged.
         ensures refused { IfSome (refusal_of self.old.held input.now) (λ fault. (result ≡ Err fault)
             × (self.new ≡ self.old)) }
         ensures ok { OnOk result (self.new ≡ after self.old input.now) }
-        // It settled the scripts that the definition settles at this input.
+        // Counts the scripts that the definition settles at this input.
         ensures work { IfOk result
             (IsWork self.old.routes (trace_of self.old.held) (trace_of self.new.held)
             (settled_by self.old input.now)) }
         ensures taken { OnOk result (refusal_of self.old.held input.now ≡ None) }
         ensures err { IfErr result (λ fault. (fault ≡ ApplyFault.Memory)
             ⊎ (refusal_of self.old.held input.now ≡ Some fault)) }
-        // Where memory was refused the stage is spoiled, with the inputs that it had applied.
+        // If memory runs out, the stage is spoiled, with the number of inputs applied before.
         ensures memory { IfNone (refusal_of self.old.held input.now)
             (OnErr result ((result ≡ Err ApplyFault.Memory) × (self.new ≡ spoiled_of self.old))) }
     {
@@ -194,7 +198,8 @@ impl<B: Behaviour> Stage<B> {
         }
     }
 
-    /// Appends the text of the trace; on a refusal the buffer is as it was.
+    /// Appends the text of the trace. Returns `Spoiled` if the stage is spoiled and `Memory` if
+    /// memory runs out; the buffer is then unchanged.
     #[tactic(auto, unfolding(crate::specs::Texts::trace_text))]
     pub fn trace_text(&self, out: &mut Vec<u8>) -> Result<(), TextFault>
         ensures refused { IfSpoiled self.now.held (result ≡ Err TextFault.Spoiled) }
@@ -211,7 +216,8 @@ impl<B: Behaviour> Stage<B> {
         Ok(())
     }
 
-    /// Appends the text of the scene as it is now; on a refusal the buffer is as it was.
+    /// Appends the text of the scene in its current state. Returns `Spoiled` if the stage is
+    /// spoiled and `Memory` if memory runs out; the buffer is then unchanged.
     #[tactic(auto, unfolding(crate::specs::Texts::scene_text))]
     pub fn scene_text(&self, out: &mut Vec<u8>) -> Result<(), TextFault>
         ensures refused { IfSpoiled self.now.held (result ≡ Err TextFault.Spoiled) }
@@ -235,14 +241,15 @@ impl<B: Behaviour> Stage<B> {
         Ok(())
     }
 
-    /// How many scripts the scene runs.
+    /// Returns the number of scripts that the scene runs.
     pub fn script_count(&self) -> usize
         ensures { result ≡ length (kinds_in self.now.scene) }
     {
         self.course.scripts.len()
     }
 
-    /// Appends the states of the scripts by their numbers; on a refusal the buffer is as it was.
+    /// Appends the states of the scripts in number order. Returns `Spoiled` if the stage is spoiled
+    /// and `Memory` if memory runs out; the buffer is then unchanged.
     pub fn script_states(&self, out: &mut Vec<Items<i64>>) -> Result<(), StatesFault>
         ensures refused { IfSpoiled self.now.held (result ≡ Err StatesFault.Spoiled) }
         ensures ok { IfRunning self.now.held (λ w.
@@ -258,9 +265,10 @@ impl<B: Behaviour> Stage<B> {
         Ok(())
     }
 
-    /// Puts a world, with a state for each script, in place of what the stage held, also of a
-    /// spoiled one. Where there is no state for each script the stage is as it was; where memory is
-    /// refused it is spoiled, with the inputs that it had applied.
+    /// Replaces what the stage holds by a world with a state for each script. A spoiled stage is
+    /// repaired by this. Returns `StateLength` or `StateRange` if the states don't fit the scripts;
+    /// the stage is then unchanged. Returns `Memory` if memory runs out; the stage is then spoiled,
+    /// with the number of inputs applied before.
     #[tactic(auto, using(crate::proofs::Installs::installs))]
     pub fn install(&mut self, world: WorldData, states: &[Items<i64>]) -> Result<(), StateFault>
         ensures fit { OnOk result (StatesFit self.old.scene states.now) }
@@ -270,7 +278,8 @@ impl<B: Behaviour> Stage<B> {
             RefusesInstall fault self.old states.now self.new) }
     {
         let applied = self.applied();
-        // What is let go is dropped by calls: a drop in place is proved anew at each exit.
+        // For the prover: values are dropped by calls; an in-place drop is proved again at each
+        // exit.
         match self.course.scripts.restore(states) {
             Ok(()) => {}
             Err(StateFault::Memory) => {
@@ -299,8 +308,10 @@ impl<B: Behaviour> Stage<B> {
         Ok(())
     }
 
-    /// Puts a box of the same kind in the place of the k-th script, in its state: the world is as
-    /// it was, whatever the answer. Where the new box is refused it is dropped.
+    /// Replaces the k-th script by a box of the same kind, in the same state. The world never
+    /// changes. The first fault that holds is returned: `Spoiled` if the stage is spoiled,
+    /// `NoSuchScript` if there is no k-th script, `KindDiffers` if the box is of another kind,
+    /// `Memory` if memory runs out. A refused box is dropped.
     #[tactic(auto, using(crate::proofs::Installs::places_box))]
     pub fn replace_script(&mut self, k: usize, script: B) -> Result<(), PlaceFault>
         ensures same { self.new ≡ self.old }
@@ -318,15 +329,15 @@ impl<B: Behaviour> Stage<B> {
         Ok(())
     }
 
-    /// Marks the stage as spoiled, with the inputs that it had applied: for one who was refused
-    /// memory while making a world for it.
+    /// Marks the stage as spoiled, with the number of inputs applied so far. For a caller that ran
+    /// out of memory while making a world for the stage.
     pub fn spoil(&mut self)
         ensures { self.new ≡ spoiled_of self.old }
     {
         self.spoiled = Some(self.applied());
     }
 
-    /// Ends the stage with its scripts.
+    /// Closes the stage and drops its scripts.
     pub fn close(self) {
         drop(self);
     }

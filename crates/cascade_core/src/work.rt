@@ -1,7 +1,7 @@
-//! What an input gave rise to.
+//! The work that an input caused.
 
-/// What an input gave rise to: how many outputs sent, how many routes were followed, and how many
-/// scripts were settled.
+/// The work that an input caused: the number of outputs that sent, of routes that were followed,
+/// and of scripts that were settled.
 #[derive(Clone, Copy, Debug, PartialEq, Eq)]
 pub struct Work {
     pub sends: usize,

@@ -1,4 +1,4 @@
-//! The boxes that rays may hit stay those of the nodes as they are now.
+//! Keeps the boxes that rays may hit up to date with the nodes.
 
 ghost use Rattle.std.specs.Prelude.{◌≡◌, [], OnOk, slice_get};
 ghost use Rattle.pick_core.specs.Sites.{rows_of};
@@ -14,8 +14,9 @@ use std::alloc::{AllocError, Global};
 use std::mem;
 use x3d_values::{Fields, NodeType, Value};
 
-/// Whether an event at a node may move boxes, or show or hide them: where it is a Transform or a
-/// Switch. All fields that events set there do: `center`, `scale` and `translation`, `whichChoice`.
+/// Reports whether an event at a node may move boxes, or show or hide them: whether it is a
+/// Transform or a Switch. Every field that an event sets there does so: `center`, `scale`,
+/// `translation`, `whichChoice`.
 fn moves_boxes(scene: &Scene, node: u32) -> bool
     ensures { result ≡ moves_boxes (slice_get (types_of scene.now) node) }
 {
@@ -26,7 +27,8 @@ fn moves_boxes(scene: &Scene, node: u32) -> bool
     }
 }
 
-/// An event comes to the target, if there is such a node, whatever has sent before.
+/// Delivers an event to the target, if there is such a node, whatever has sent before. Puts the
+/// replies into `out` and updates the boxes. Fails with `AllocError` if memory runs out.
 pub fn deliver(
     live: &mut Live,
     alloc: Global,
@@ -47,7 +49,7 @@ pub fn deliver(
     answer(&mut live.world, alloc, scene, boxes, target, value, out)
 }
 
-/// An event comes to the target, if there is such a node.
+/// Delivers an event to the target, if there is such a node.
 fn answer(
     world: &mut WorldData,
     alloc: Global,
@@ -74,8 +76,8 @@ fn answer(
     Ok(())
 }
 
-/// The boxes of nodes in another state take the place of those that were kept, whatever these
-/// were.
+/// Replaces the boxes by those of the nodes in another state, whatever the old boxes were. Fails
+/// with `AllocError` if memory runs out.
 pub fn put_boxes(
     boxes: &mut BoxCache,
     alloc: Global,

@@ -1,6 +1,6 @@
-//! The steps that a stage is made of: the `tasks` of a cascade, an event that is sent once in
-//! the course of an input (`sending`) and one that comes to its node, whose `boxes` are kept, and
-//! the `nodes` of a scene by their types (ISO/IEC 19775-1, event model).
+//! The steps of a stage: the `tasks` of a cascade, an event that is sent once in the course of an
+//! input (`sending`), an event that comes to its node, with the `boxes` kept up to date, and the
+//! `nodes` of a scene by their types (ISO/IEC 19775-1, event model).
 #![tactic(auto)]
 
 mod boxes;

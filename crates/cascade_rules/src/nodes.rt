@@ -7,7 +7,7 @@ ghost use Rattle.cascade_world.specs.Nodes.{is_clock};
 use scene_core::Scene;
 use x3d_values::NodeType;
 
-/// Whether the node of that number is a TimeSensor.
+/// Reports whether the node of that number is a TimeSensor.
 pub fn is_clock(scene: &Scene, node: u32) -> bool
     ensures { result ≡ is_clock (types_of scene.now) node }
 {

@@ -1,4 +1,4 @@
-//! An output sends once in the course of an input.
+//! An output sends only once in the course of an input.
 
 ghost use Rattle.std.specs.Prelude.{◌≡◌, IfOk, OnOk, if◌then◌else◌, not};
 ghost use Rattle.cascade_trace.specs.Ends.{has_sent};
@@ -9,7 +9,8 @@ use scene_core::End;
 use std::alloc::{AllocError, Global};
 use x3d_values::Value;
 
-/// An output sends, unless it has sent before in the course of the input: whether it does.
+/// Sends an event by an output, unless the output has already sent in the course of the input.
+/// Returns whether it sends. Fails with `AllocError` if memory runs out.
 pub fn send(live: &mut Live, alloc: Global, source: End, value: &Value) -> Result<bool, AllocError>
     ensures first { IfOk result (λ sends. sends ≡ not (has_sent live.old.sent source)) }
     ensures live { OnOk result (live.new

@@ -1,4 +1,4 @@
-//! What is still to be done in a cascade, the last first.
+//! The remaining tasks of a cascade; the last is done first.
 
 ghost use Rattle.std.specs.Prelude.{◌≡◌, ◌≤◌, ◌++◌, [], ◌∷◌, OnOk, length, map, reverse};
 ghost use Rattle.cascade_rules.specs.Replies.{send_by};
@@ -8,17 +8,17 @@ use scene_core::End;
 use std::alloc::AllocError;
 use x3d_values::Value;
 
-/// Something that is still to be done.
+/// A task of a cascade.
 #[derive(Drop)]
 pub enum CascadeTask {
-    /// An event is sent by an output.
+    /// Send an event by an output.
     Send(End, Value),
-    /// The routes of an output are followed, from this place among them on.
+    /// Follow the routes of an output, from this place among them on.
     Follow(End, Value, usize),
 }
 
-/// Each reply is to be sent, the first of them next, and the rest is left until all of them and
-/// what follows from them are done.
+/// Pushes the sending of each reply, so that the first is sent next. `rest` waits until all replies
+/// and their consequences are done. Fails with `AllocError` if memory runs out.
 pub fn push_before(
     tasks: &mut Vec<CascadeTask>,
     rest: CascadeTask,
@@ -34,7 +34,8 @@ pub fn push_before(
     push_replies(tasks, node, replies)
 }
 
-/// Each reply is to be sent, the first of them next.
+/// Pushes the sending of each reply, so that the first is sent next. Fails with `AllocError` if
+/// memory runs out.
 pub fn push_replies(
     tasks: &mut Vec<CascadeTask>,
     node: u32,
@@ -45,7 +46,7 @@ pub fn push_replies(
     ensures none { OnOk result (replies.new.items ≡ []) }
     ensures few { length replies.old.items ≤ 5 }
 {
-    // The slice says how few they are.
+    // For the prover: the number of replies is small.
     let _few = replies.as_slice().len();
     while let Some(reply) = replies.pop() {
         tasks.push(CascadeTask::Send(

@@ -14,6 +14,6 @@ abbrev pub all_differ : List End → Bool
 all_differ [] = true
 all_differ (e ∷ es) = not (has_sent es e) && all_differ es
 
--- where the routes of an output lead, in order
+-- the targets of an output's routes, in order
 abbrev pub targets_of : List Route → End → List End
 targets_of routes source = map (λ r. r.target) (filter (λ r. same_end r.source source) routes)

@@ -14,7 +14,7 @@ stamp_text input time = decimal input ++ 32 ∷ value_text (SFTime time) ++ 32 �
 unfoldable pub source_text : SceneView → End → List ℕ
 source_text scene source = label_of scene source.node ++ 46 ∷ field_name scene source
 
--- the same, and a space
+-- `<label>.<field> `
 abbrev pub head_text : SceneView → End → List ℕ
 head_text scene source = source_text scene source ++ 32 ∷ []
 

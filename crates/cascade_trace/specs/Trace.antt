@@ -16,17 +16,17 @@ line input time source v = record { input = input; time = time; source = source;
 abbrev pub end_of : Entry → End
 end_of e = record { node = e.node; field = e.field }
 
--- the integer of 32 bits that is nearest to a word
+-- the 32-bit integer that is nearest to a word
 abbrev pub whole_of : ℤ → ℤ
 whole_of word = int_max (neg_ℤ (pos 2147483648)) (int_min word (pos 2147483647))
 
--- an event whose value is the next of those that stand aside; with none there is no line
+-- an event that takes the next of the separate values; there is no line without a value
 abbrev pub taking : (List Value → List TraceLine) → ℕ → ℤ → End → List Value → List TraceLine
 taking rest input time source [] = rest []
 taking rest input time source (v ∷ values) = line input time source v ∷ rest values
 
--- the line of an entry, and those of the entries behind it, by the number and the time of the input
--- that they are then of
+-- the line of an entry, followed by those of the later entries, at the input of this number and
+-- time
 abbrev pub lines_by : (ℕ → ℤ → List Value → List TraceLine) → ℕ → ℤ → List Value → Entry → EntryKind
     → List TraceLine
 lines_by rest input time values e entry_kind.Input = rest e.node e.word values
@@ -43,7 +43,7 @@ lines_by rest input time values e entry_kind.Time =
 lines_by rest input time values e entry_kind.Other =
     taking (rest input time) input time (end_of e) values
 
--- the lines of entries behind an input of this number and time, and of the values that stand aside
+-- the lines of the entries after an input of this number and time, with their separate values
 unfoldable pub lines_of : List Entry → ℕ → ℤ → List Value → List TraceLine
 lines_of [] input time values = []
 lines_of (e ∷ es) input time values = lines_by (lines_of es) input time values e e.kind
@@ -52,13 +52,13 @@ lines_of (e ∷ es) input time values = lines_by (lines_of es) input time values
 abbrev pub kept_lines : EntryList → List TraceLine
 kept_lines k = lines_of k.entries.items 0 (pos 0) k.values.items
 
--- whatever is appended gives lines of the input that is kept
+-- whatever is appended gives lines of the current input
 abbrev pub IsOpen : EntryList → Type 0
 IsOpen k = (es : List Entry) (vs : List Value) →
     lines_of (k.entries.items ++ es) 0 (pos 0) (k.values.items ++ vs)
     ≡ kept_lines k ++ lines_of es k.input k.time vs
 
--- the value that stands in an entry of this kind, if it is one of an event
+-- the value that an entry of this kind holds itself, if it is an event
 abbrev pub plain_value : EntryKind → ℤ → Option Value
 plain_value entry_kind.Input word = None
 plain_value entry_kind.True word = Some (SFBool true)
@@ -68,7 +68,7 @@ plain_value entry_kind.Number word = Some (SFFloat word)
 plain_value entry_kind.Time word = Some (SFTime word)
 plain_value entry_kind.Other word = None
 
--- the entry tells an event
+-- the entry is an event
 abbrev pub is_event : EntryKind → Bool
 is_event entry_kind.Input = false
 is_event _ = true
@@ -85,7 +85,7 @@ abbrev pub entry_of : End → EntryKind → ℤ → Entry
 entry_of source kind word =
     record { node = source.node; field = source.field; kind = kind; word = word }
 
--- the entry of an event with this value, where the value stands in it
+-- the entry of an event with this value, if the entry can hold the value itself
 abbrev pub plain_entry : End → Value → Option Entry
 plain_entry source (SFBool true) = Some (entry_of source entry_kind.True (pos 0))
 plain_entry source (SFBool false) = Some (entry_of source entry_kind.False (pos 0))
@@ -94,7 +94,7 @@ plain_entry source (SFFloat number) = Some (entry_of source entry_kind.Number nu
 plain_entry source (SFTime time) = Some (entry_of source entry_kind.Time time)
 plain_entry source _ = None
 
--- an integer that a value holds is one of 32 bits
+-- an integer in a value has 32 bits
 abbrev pub IsWhole : Value → Type 0
 IsWhole (SFInt32 number) = whole_of number ≡ number
 IsWhole _ = Unit {0}

@@ -1,5 +1,4 @@
-//! The texts of outputs, each with a space behind it: made once, and kept one behind the other in
-//! one buffer.
+//! The texts of outputs, each followed by a space. Each text is made once and kept in one buffer.
 
 ghost use Rattle.std.specs.Prelude.{◌≡◌, ◌-◌, ◌≤◌, ◌++◌, All, IfSome, OnOk, Some, drop, length, slice_get, take, true};
 ghost use Rattle.x3d_lists.specs.Extends.{Extends};
@@ -12,7 +11,7 @@ use scene_core::{End, Scene};
 use std::alloc::{AllocError, Global};
 use std::marker::Model;
 
-/// Where the text of an output stands in a buffer.
+/// The place of an output's text in a buffer.
 #[derive(Clone, Copy)]
 pub struct Span {
     pub source: End,
@@ -20,7 +19,8 @@ pub struct Span {
     pub end: usize,
 }
 
-/// Appends the label of a node and the name of its field; on a refusal perhaps a part of it.
+/// Appends the label of a node, a dot and the name of its field. On `AllocError`, `out` may hold a
+/// part of them.
 #[tactic(auto, unfolding(crate::specs::LineText::source_text))]
 pub fn push_source(scene: &Scene, source: End, out: &mut Vec<u8>) -> Result<(), AllocError>
     ensures ok { OnOk result (out.new.items ≡ out.old.items ++ source_text scene.now source) }
@@ -31,7 +31,7 @@ pub fn push_source(scene: &Scene, source: End, out: &mut Vec<u8>) -> Result<(), 
     out.extend_from_slice(scene.field_name(source).as_bytes())
 }
 
-/// Appends the text of an output and a space; on a refusal perhaps a part of it.
+/// Appends the text of an output and a space. On `AllocError`, `out` may hold a part of them.
 fn push_head(scene: &Scene, source: End, out: &mut Vec<u8>) -> Result<(), AllocError>
     ensures ok { OnOk result (out.new.items ≡ out.old.items ++ head_text scene.now source) }
     ensures kept { Extends out.old.items out.new.items }
@@ -41,7 +41,7 @@ fn push_head(scene: &Scene, source: End, out: &mut Vec<u8>) -> Result<(), AllocE
     Ok(())
 }
 
-/// The span of that number, if it is of this output.
+/// Returns the span of that number, if it belongs to this output.
 fn span_at(spans: &[Span], number: usize, source: End) -> Option<Span>
     ensures among { IfSome result (λ span. slice_get spans.now number ≡ Some span) }
     ensures source { IfSome result (λ span. same_end span.source source ≡ true) }
@@ -55,7 +55,7 @@ fn span_at(spans: &[Span], number: usize, source: End) -> Option<Span>
     Some(*span)
 }
 
-/// What a span has of a buffer.
+/// Returns the part of the buffer that a span covers.
 fn part_of(text: &[u8], span: Span) -> &[u8]
     requires ordered { span.start ≤ span.end }
     requires within { span.end ≤ length text.now }
@@ -64,7 +64,7 @@ fn part_of(text: &[u8], span: Span) -> &[u8]
     &text[span.start..span.end]
 }
 
-/// The text of an output, if it has the span of that number.
+/// Returns the text of an output, if the span of that number belongs to it.
 fn text_at<'a>(
     scene: &Scene,
     spans: &[Span],
@@ -81,7 +81,8 @@ fn text_at<'a>(
     Some(part_of(text, span))
 }
 
-/// Puts the text of an output behind the others; on a refusal perhaps a part of it.
+/// Appends the text of an output to the buffer, and its span to the spans. On `AllocError`, `text`
+/// may hold a part of the text.
 fn push_span(
     scene: &Scene,
     spans: &mut Vec<Span>,
@@ -98,13 +99,13 @@ fn push_span(
     Ok(())
 }
 
-/// The texts of the outputs of a scene that were asked for, each made once.
+/// The texts of a scene's outputs, each made when it is first requested.
 #[derive(Drop)]
 pub struct SourceTexts<'a> {
     scene: &'a Scene,
-    /// Where the places of each node's outputs start, and where those of the last one end.
+    /// Where the places of each node's outputs start, followed by where those of the last node end.
     starts: Vec<usize>,
-    /// The number of the span of each output, by its place, once there is one.
+    /// The number of each output's span, by the place of the output, once its text is made.
     numbers: Vec<u32>,
     spans: Vec<Span>,
     text: Vec<u8>,
@@ -127,7 +128,7 @@ impl<'a> SourceTexts<'a> {
     ghost use Rattle.x3d_lists.specs.Extends.{Extends};
     ghost use Rattle.cascade_trace.specs.LineText.{head_text};
 
-    /// No text is made.
+    /// Makes an object without any texts. Fails with `AllocError` if memory runs out.
     pub fn new(alloc: Global, scene: &'a Scene) -> Result<SourceTexts<'a>, AllocError>
         ensures { IfOk result (λ texts. texts ≡ scene.now) }
     {
@@ -144,7 +145,7 @@ impl<'a> SourceTexts<'a> {
         })
     }
 
-    /// The text of an output, if it was made.
+    /// Returns the text of an output, if it has been made.
     fn get(&self, source: End) -> Option<&[u8]>
         ensures { IfSome result (λ text. text.now ≡ head_text self.now source) }
     {
@@ -158,7 +159,7 @@ impl<'a> SourceTexts<'a> {
         text_at(self.scene, &self.spans, &self.text, number, source)
     }
 
-    /// Makes the text of an output, if it has a place.
+    /// Makes the text of an output, if the output has a place.
     fn make(&mut self, source: End) -> Result<(), AllocError>
         ensures { self.new ≡ self.old }
     {
@@ -173,7 +174,7 @@ impl<'a> SourceTexts<'a> {
         Ok(())
     }
 
-    /// Appends the text of an output and a space; on a refusal perhaps a part of it.
+    /// Appends the text of an output and a space. On `AllocError`, `out` may hold a part of them.
     pub fn push(&mut self, source: End, out: &mut Vec<u8>) -> Result<(), AllocError>
         ensures ok { OnOk result (out.new.items ≡ out.old.items ++ head_text self.old source) }
         ensures same { self.new ≡ self.old }

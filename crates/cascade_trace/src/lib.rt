@@ -1,7 +1,7 @@
-//! What was sent in a world: the `trace` of all events, its `lines`, those `since` an input, their
-//! `texts`, and whether all lines are `passing` a test; in the course of an input, the outputs that
-//! have `sent`, each with its bit at one of the `places`, and how many routes are `followed` from
-//! them.
+//! The events sent in a world: the `trace` of all events, its `lines`, the lines `since` an input,
+//! their `texts`, and whether all lines are `passing` a test. For the course of an input: the
+//! outputs that have `sent`, each with its bit at one of the `places`, and the number of routes
+//! `followed` from them.
 #![tactic(auto)]
 
 mod followed;

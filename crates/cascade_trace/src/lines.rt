@@ -1,4 +1,4 @@
-//! The lines of a trace, written one after the other.
+//! The lines of a trace, written one after another.
 
 ghost use Rattle.std.specs.Prelude.{◌≡◌, ◌++◌, [], ◌∷◌, ℕ, List, IfOk, OnOk, count_by, drop, pos, slice_get};
 ghost use Rattle.std.specs.List.{flat_map};
@@ -13,13 +13,13 @@ use scene_core::End;
 use std::alloc::AllocError;
 use x3d_values::Value;
 
-/// The least integer of 32 bits.
+/// The least 32-bit integer.
 const LEAST: i64 = -2_147_483_648;
 
-/// The greatest integer of 32 bits.
+/// The greatest 32-bit integer.
 const GREATEST: i64 = 2_147_483_647;
 
-/// What a line tells beside the value.
+/// The parts of a line other than the value.
 #[derive(Clone, Copy)]
 pub struct LineHead {
     /// The number of the input.
@@ -37,12 +37,12 @@ pub(crate) struct Moment {
     pub time: i64,
 }
 
-/// How the lines of a trace are written.
+/// A writer of the lines of a trace.
 pub trait WritesLines {
     /// The bytes of a line.
     ghost text: { Self → LineView → List ℕ };
 
-    /// Appends the bytes of a line; on a refusal perhaps a part of them.
+    /// Appends the bytes of a line. On `AllocError`, `out` may hold a part of them.
     fn write_line(
         &mut self,
         head: LineHead,
@@ -56,14 +56,15 @@ pub trait WritesLines {
         ensures kept { Extends out.old.items out.new.items };
 }
 
-/// The integer of 32 bits that is nearest to a word.
+/// Returns the 32-bit integer that is nearest to a word.
 fn whole_of(word: i64) -> i32
     ensures { result ≡ whole_of word }
 {
     word.clamp(LEAST, GREATEST) as i32
 }
 
-/// The value that stands in an entry of this kind, if it is one of an event.
+/// Returns the value that an entry of this kind holds itself. Returns `None` if the entry is an
+/// input or its value is kept separately.
 pub(crate) fn plain_value(kind: EntryKind, word: i64) -> Option<Value>
     ensures { result ≡ plain_value kind word }
 {
@@ -77,7 +78,7 @@ pub(crate) fn plain_value(kind: EntryKind, word: i64) -> Option<Value>
     }
 }
 
-/// The input that an entry tells.
+/// Returns the input that an entry records.
 #[tactic(auto, using(crate::proofs::Traces::passed))]
 pub(crate) fn moment_of(entry: Entry) -> Moment
     ensures { result ≡ record { input = entry.node; time = entry.word } }
@@ -88,7 +89,7 @@ pub(crate) fn moment_of(entry: Entry) -> Moment
     }
 }
 
-/// What the line of an entry tells beside the value, at an input.
+/// Returns the parts of an entry's line other than the value, at an input.
 #[tactic(auto, using(crate::proofs::Traces::passed))]
 pub(crate) fn head_of(moment: Moment, entry: Entry) -> LineHead
     ensures { result
@@ -104,7 +105,8 @@ pub(crate) fn head_of(moment: Moment, entry: Entry) -> LineHead
     }
 }
 
-/// Writes the line of an event whose value stands in its entry; on a refusal perhaps a part of it.
+/// Writes the line of an event whose entry holds the value. On `AllocError`, `out` may hold a part
+/// of it.
 fn write_plain<W: WritesLines>(
     writer: &mut W,
     head: LineHead,
@@ -128,8 +130,8 @@ fn write_plain<W: WritesLines>(
     }
 }
 
-/// Writes the line of an event whose value is the first of these, if there is one, and says which
-/// are left; on a refusal perhaps a part of it.
+/// Writes the line of an event whose value is the first of `values`, if there is one. Returns the
+/// remaining values. On `AllocError`, `out` may hold a part of the line.
 fn write_aside<'a, W: WritesLines>(
     writer: &mut W,
     head: LineHead,
@@ -153,8 +155,8 @@ fn write_aside<'a, W: WritesLines>(
     }
 }
 
-/// Writes the line of an entry, if it has one, and says which values are left; on a refusal
-/// perhaps a part of it.
+/// Writes the line of an entry, if it has one. Returns the remaining values. On `AllocError`, `out`
+/// may hold a part of the line.
 fn write_entry<'a, W: WritesLines>(
     writer: &mut W,
     moment: &mut Moment,
@@ -186,8 +188,8 @@ fn write_entry<'a, W: WritesLines>(
     }
 }
 
-/// Writes the lines of entries, with the values that stand aside; on a refusal perhaps a part of
-/// them.
+/// Writes the lines of entries, taking from `values` those that are kept separately. On
+/// `AllocError`, `out` may hold a part of the lines.
 #[tactic(auto, unfolding(crate::specs::Trace::lines_of))]
 pub(crate) fn write_lines<W: WritesLines>(
     writer: &mut W,
@@ -208,14 +210,14 @@ pub(crate) fn write_lines<W: WritesLines>(
     Ok(())
 }
 
-/// Whether an entry tells an event.
+/// Reports whether an entry is an event.
 fn tells_line(entry: &Entry) -> bool
     ensures { result ≡ tells_line entry.now }
 {
     !matches!(entry.kind, EntryKind::Input)
 }
 
-/// How many of the entries tell an event.
+/// Returns the number of entries that are events.
 pub(crate) fn lines_in(entries: &[Entry]) -> usize
     ensures { result ≡ count_by tells_line entries.now }
 {

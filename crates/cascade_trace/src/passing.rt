@@ -11,19 +11,19 @@ use crate::lines::{LineHead, Moment, head_of, moment_of, plain_value};
 use crate::trace::{Entry, EntryKind};
 use x3d_values::Value;
 
-/// A test of the lines of a trace.
+/// A test for the lines of a trace.
 pub trait TestsLines {
     /// The lines that pass.
     ghost passing: { Self → LineView → Bool };
 
-    /// Whether a line passes.
+    /// Reports whether a line passes.
     fn passes(&self, head: LineHead, value: &Value) -> bool
         ensures { result
             ≡ passing self.now (line head.input head.time head.source value.now) };
 }
 
-/// Whether the line of an event whose value stands in its entry passes; where there is none there
-/// is no line.
+/// Reports whether the line of an event whose entry holds the value passes. True if there is no
+/// such line.
 fn plain_passes<T: TestsLines>(test: &T, head: LineHead, entry: Entry) -> bool
     ensures { result
         ≡ option_map_or
@@ -40,8 +40,8 @@ fn plain_passes<T: TestsLines>(test: &T, head: LineHead, entry: Entry) -> bool
     }
 }
 
-/// Where the line of an event whose value is the first of these passes, or there is none, those
-/// that are left.
+/// Returns the remaining values if the line of an event whose value is the first of `values`
+/// passes. If there are no values there is no line, and `values` is returned.
 fn aside_passes<'a, T: TestsLines>(
     test: &T,
     head: LineHead,
@@ -65,8 +65,8 @@ fn aside_passes<'a, T: TestsLines>(
     }
 }
 
-/// Where the line of an entry passes, or it has none, the values that are left. The moment is then
-/// that of the lines behind it.
+/// Returns the remaining values if the line of an entry passes or the entry has no line. An input
+/// entry sets the moment, which the following lines then have.
 fn entry_passes<'a, T: TestsLines>(
     test: &T,
     moment: &mut Moment,
@@ -97,7 +97,7 @@ fn entry_passes<'a, T: TestsLines>(
     }
 }
 
-/// Whether the lines of entries pass, with the values that stand aside.
+/// Reports whether the lines of entries all pass; `values` are those that are kept separately.
 #[tactic(auto, unfolding(crate::specs::Trace::lines_of))]
 pub(crate) fn all_pass<T: TestsLines>(test: &T, entries: &[Entry], values: &[Value]) -> bool
     ensures { result

@@ -7,14 +7,15 @@ ghost use Rattle.cascade_trace.specs.Ends.{same_end};
 use scene_core::{End, Scene};
 use std::alloc::AllocError;
 
-/// Whether two ends are the same.
+/// Reports whether two ends are the same.
 pub fn same_end(one: End, other: End) -> bool
     ensures { result ≡ same_end one other }
 {
     one.node == other.node && one.field == other.field
 }
 
-/// The place of an end, where each node has a start.
+/// Returns the place of an end, or `None` if it has none. `starts` has the start of each node,
+/// followed by the end of the last node.
 #[tactic(auto, unfolding(crate::specs::Bits::place_of))]
 pub fn place_of(starts: &[usize], end: End) -> Option<usize>
     ensures { result ≡ place_of starts.now end }
@@ -30,7 +31,7 @@ pub fn place_of(starts: &[usize], end: End) -> Option<usize>
     }
 }
 
-/// Bits that aren't set are put at the end.
+/// Appends `count` unset bits.
 fn push_unset(bits: &mut Vec<bool>, count: usize) -> Result<(), AllocError>
     requires unset { All (λ bit. bit ≡ false) bits.old.items }
     ensures unset { OnOk result (All (λ bit. bit ≡ false) bits.new.items) }
@@ -42,7 +43,8 @@ fn push_unset(bits: &mut Vec<bool>, count: usize) -> Result<(), AllocError>
     Ok(())
 }
 
-/// A node with so many fields starts behind the bits that are there, and has one for each.
+/// Appends a node with `fields` fields: it starts after the existing bits and has an unset bit for
+/// each field.
 fn push_node(fields: usize, starts: &mut Vec<usize>, bits: &mut Vec<bool>) -> Result<(), AllocError>
     requires rising { IsRising starts.old.items (length bits.old.items) }
     requires unset { All (λ bit. bit ≡ false) bits.old.items }
@@ -53,7 +55,8 @@ fn push_node(fields: usize, starts: &mut Vec<usize>, bits: &mut Vec<bool>) -> Re
     push_unset(bits, fields)
 }
 
-/// The starts of all nodes, and where the bits of the last one end.
+/// Appends the starts of all nodes, followed by the end of the last node's bits, and an unset bit
+/// for each field. Fails with `AllocError` if memory runs out.
 pub fn push_starts(
     scene: &Scene,
     starts: &mut Vec<usize>,

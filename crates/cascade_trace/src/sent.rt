@@ -1,4 +1,4 @@
-//! The outputs that have sent, with one bit for each.
+//! The outputs that have sent, with a bit for each.
 
 ghost use Rattle.std.specs.Prelude.{◌≡◌, [], length};
 ghost use Rattle.cascade_trace.specs.Bits.{IsMarked, IsRising};
@@ -11,7 +11,7 @@ use std::marker::Model;
 /// The outputs that have sent in the course of an input, in order.
 #[derive(Drop)]
 pub struct SentBits {
-    /// Where the bits of each node start, and where those of the last one end.
+    /// Where the bits of each node start, followed by where those of the last node end.
     starts: Vec<usize>,
     bits: Vec<bool>,
     ends: Vec<End>,
@@ -33,7 +33,8 @@ impl SentBits {
     ghost use Rattle.std.specs.Prelude.{IfOk, ◌≡◌, ◌++◌, [], ◌∷◌, OnOk};
     ghost use Rattle.cascade_trace.specs.Ends.{has_sent};
 
-    /// No output of the scene has sent.
+    /// Makes the bits of a scene, of which no output has sent. Fails with `AllocError` if memory
+    /// runs out.
     pub fn new(alloc: Global, scene: &Scene) -> Result<SentBits, AllocError>
         ensures { IfOk result (λ s. s ≡ []) }
     {
@@ -47,12 +48,14 @@ impl SentBits {
         })
     }
 
+    /// Returns the outputs that have sent, in order.
     pub fn as_slice(&self) -> &[End]
         ensures { result.now ≡ self.now }
     {
         &self.ends
     }
 
+    /// Reports whether an output has sent.
     pub fn contains(&self, source: End) -> bool
         ensures { result ≡ has_sent self.now source }
     {
@@ -62,6 +65,7 @@ impl SentBits {
         }
     }
 
+    /// Records that an output has sent. Fails with `AllocError` if memory runs out.
     pub fn push(&mut self, source: End) -> Result<(), AllocError>
         ensures ok { OnOk result (self.new ≡ self.old ++ source ∷ []) }
     {
@@ -72,7 +76,7 @@ impl SentBits {
         Ok(())
     }
 
-    /// No output has sent.
+    /// Forgets all outputs: none has sent.
     pub fn clear(&mut self)
         ensures { self.new ≡ [] }
     {

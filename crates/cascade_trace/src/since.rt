@@ -1,4 +1,4 @@
-//! The lines of a trace of the inputs from a number on, found from the end.
+//! The lines of a trace for the inputs from a number on, found from the end.
 
 ghost use Rattle.std.specs.Prelude.{◌≡◌, ◌≤◌, ◌++◌, IfSome, OnOk, count_by, drop, length, pos, slice_get, take, true, false};
 ghost use Rattle.std.specs.List.{flat_map};
@@ -12,21 +12,21 @@ use crate::trace::{Entry, EntryKind};
 use std::alloc::AllocError;
 use x3d_values::Value;
 
-/// Whether the value of an entry stands aside.
+/// Reports whether the value of an entry is kept separately.
 fn takes_value(entry: &Entry) -> bool
     ensures { result ≡ takes_value entry.now }
 {
     matches!(entry.kind, EntryKind::Other)
 }
 
-/// How many of the values that stand aside entries take.
+/// Returns the number of separately kept values that the entries take.
 fn values_of(entries: &[Entry]) -> usize
     ensures { result ≡ count_by takes_value entries.now }
 {
     entries.iter().filter(|entry| takes_value(entry)).count()
 }
 
-/// Whether an entry tells an input whose number is at most `first`.
+/// Reports whether an entry is an input whose number is at most `first`.
 fn begins_by(entry: &Entry, first: u32) -> bool
     ensures { result ≡ begins_by first entry.now }
 {
@@ -36,8 +36,8 @@ fn begins_by(entry: &Entry, first: u32) -> bool
     }
 }
 
-/// The place of the last entry that tells an input whose number is at most `first`, if there is
-/// one.
+/// Returns the place of the last entry that is an input whose number is at most `first`, if there
+/// is one.
 pub(crate) fn start_of(entries: &[Entry], first: u32) -> Option<usize>
     ensures { IfSome result
         (λ at. option_map_or (begins_by first) (slice_get entries.now at) false ≡ true) }
@@ -52,7 +52,7 @@ pub(crate) fn start_of(entries: &[Entry], first: u32) -> Option<usize>
     None
 }
 
-/// The items from a place on.
+/// Returns the items from a place on.
 fn items_from<T>(items: &[T], at: usize) -> &[T]
     requires { at ≤ length items.now }
     ensures { result.now ≡ drop at items.now }
@@ -60,8 +60,9 @@ fn items_from<T>(items: &[T], at: usize) -> &[T]
     &items[at..]
 }
 
-/// Writes the lines of the entries from a place on, which begin with an input, where as many values
-/// stand aside as there are entries that take one; on a refusal perhaps a part of them.
+/// Writes the lines of the entries from `at` on. The entry there must be an input, and `values`
+/// must hold one value for each entry that takes one. On `AllocError`, `out` may hold a part of the
+/// lines.
 pub(crate) fn write_lines_at<W: WritesLines>(
     writer: &mut W,
     at: usize,

@@ -16,10 +16,10 @@ use std::marker::Model;
 use x3d_numerals::push_number;
 use x3d_values::{Value, show_value};
 
-/// The room that is taken for a line beforehand, in bytes; where lines are longer the buffer grows.
+/// The bytes reserved for a line in advance. The buffer grows if lines are longer.
 const LINE_ROOM: usize = 32;
 
-/// Appends the number and the time of an input; on a refusal perhaps a part of it.
+/// Appends the number and the time of an input. On `AllocError`, `out` may hold a part of them.
 #[tactic(auto, unfolding(crate::specs::LineText::stamp_text))]
 fn push_stamp(moment: Moment, out: &mut Vec<u8>) -> Result<(), AllocError>
     ensures ok { OnOk result (out.new.items
@@ -34,7 +34,7 @@ fn push_stamp(moment: Moment, out: &mut Vec<u8>) -> Result<(), AllocError>
     Ok(())
 }
 
-/// Appends the value of an event and a line feed; on a refusal perhaps a part of it.
+/// Appends the value of an event and a line feed. On `AllocError`, `out` may hold a part of them.
 fn push_end(value: &Value, out: &mut Vec<u8>) -> Result<(), AllocError>
     ensures ok { OnOk result (out.new.items ≡ out.old.items ++ value_text value.now ++ 10 ∷ []) }
     ensures kept { Extends out.old.items out.new.items }
@@ -44,7 +44,7 @@ fn push_end(value: &Value, out: &mut Vec<u8>) -> Result<(), AllocError>
     Ok(())
 }
 
-/// Appends the line of an event; on a refusal perhaps a part of it.
+/// Appends the line of an event. On `AllocError`, `out` may hold a part of it.
 fn push_line(
     stamp: &[u8],
     heads: &mut SourceTexts<'_>,
@@ -62,7 +62,7 @@ fn push_line(
     push_end(value, out)
 }
 
-/// The text of a stamp, which many lines share.
+/// The text of an input's number and time, which many lines share.
 #[derive(Drop)]
 struct Stamp {
     moment: Option<Moment>,
@@ -85,7 +85,7 @@ impl Stamp {
     ghost use Rattle.std.specs.Prelude.{◌≡◌, IfSome, None, OnOk, Some};
     ghost use Rattle.cascade_trace.specs.LineText.{stamp_text};
 
-    /// No stamp is written.
+    /// Makes a stamp without a text.
     fn new(alloc: Global) -> Stamp
         ensures { result ≡ None }
     {
@@ -95,7 +95,7 @@ impl Stamp {
         }
     }
 
-    /// The lines that come are of this input.
+    /// Sets the input of the following lines.
     fn set(&mut self, moment: Moment) -> Result<(), AllocError>
         ensures { OnOk result (self.new ≡ Some moment) }
     {
@@ -143,7 +143,8 @@ impl<'a> WritesLines for LineTexts<'a> {
     }
 }
 
-/// Appends the text of a trace; on a refusal the buffer is as it was.
+/// Appends the text of a trace: for each event a line `<input> <seconds> <label>.<field> <value>`.
+/// On `AllocError` the buffer is unchanged.
 pub fn push_trace(scene: &Scene, trace: &Trace, out: &mut Vec<u8>) -> Result<(), AllocError>
     ensures ok { OnOk result (out.new.items
         ≡ out.old.items ++ flat_map (line_text scene.now) trace.now) }

@@ -1,5 +1,5 @@
-//! The trace as it is kept: sixteen bytes for each event, and the number and the time of an input
-//! once for all its events.
+//! The trace as it is kept: 16 bytes for each event, and the number and the time of an input once
+//! for all its events.
 
 ghost use Rattle.std.specs.Prelude.{◌≡◌, ◌++◌, [], ◌∷◌, ◌&&◌, nat_lt, OnErr, OnOk};
 ghost use Rattle.cascade_trace.specs.Trace.{IsWhole, entry_of, plain_entry, whole_of};
@@ -12,7 +12,7 @@ use std::alloc::{AllocError, Global};
 use std::marker::Model;
 use x3d_values::{Value, clone_value};
 
-/// One event that was sent.
+/// An event that was sent.
 #[derive(Drop)]
 pub struct TraceLine {
     /// The number of the input.
@@ -24,10 +24,10 @@ pub struct TraceLine {
     pub value: Value,
 }
 
-/// What an entry says.
+/// The kind of an entry.
 #[derive(Clone, Copy)]
 pub enum EntryKind {
-    /// The number of an input, in the node's place, and its time: those of the events behind it.
+    /// An input, for the events after it: its number is in `node`, its time in `word`.
     Input,
     /// The value TRUE.
     True,
@@ -39,11 +39,11 @@ pub enum EntryKind {
     Number,
     /// A time.
     Time,
-    /// The next of the values that stand aside.
+    /// An event whose value is the next of the separately kept values.
     Other,
 }
 
-/// An event, or the input of those behind it.
+/// An event, or the input of the events after it.
 #[derive(Clone, Copy)]
 pub struct Entry {
     pub node: u32,
@@ -54,19 +54,19 @@ pub struct Entry {
 
 const _: () = prove!(size_of::<Entry>() == 16);
 
-/// The entries of a trace, and what stands aside.
+/// The entries of a trace, and the values that are kept separately.
 #[derive(Drop)]
 pub struct EntryList {
-    /// The number and the time of the input of the events that come.
+    /// The number and the time of the input of the next events.
     pub input: u32,
     pub time: i64,
-    /// Whether each input's number is above those before it.
+    /// Whether each input's number is above the numbers before it.
     pub in_order: bool,
     pub entries: Vec<Entry>,
     pub values: Vec<Value>,
 }
 
-/// The entry of an output.
+/// Returns the entry of an output.
 #[tactic(auto, using(crate::proofs::Traces::passed))]
 fn entry_of(source: End, kind: EntryKind, word: i64) -> Entry
     ensures { result ≡ entry_of source kind word }
@@ -79,7 +79,7 @@ fn entry_of(source: End, kind: EntryKind, word: i64) -> Entry
     }
 }
 
-/// The entry of an input.
+/// Returns the entry of an input.
 #[tactic(auto, using(crate::proofs::Traces::passed))]
 fn input_entry(input: u32, time: i64) -> Entry
     ensures { result ≡ record { node = input; field = 0; kind = EntryKind.Input; word = time } }
@@ -92,7 +92,7 @@ fn input_entry(input: u32, time: i64) -> Entry
     }
 }
 
-/// The entry of an integer.
+/// Returns the entry of an integer.
 #[tactic(auto, using(crate::proofs::Traces::passed))]
 fn whole_entry(source: End, number: i32) -> Entry
     ensures entry { result ≡ entry_of source EntryKind.Whole number }
@@ -101,7 +101,7 @@ fn whole_entry(source: End, number: i32) -> Entry
     entry_of(source, EntryKind::Whole, i64::from(number))
 }
 
-/// The entry of a value that needs no place aside.
+/// Returns the entry of a value that needs no separate place, or `None` for other values.
 #[tactic(auto, using(crate::proofs::Traces::passed))]
 fn plain_entry(source: End, value: &Value) -> Option<Entry>
     ensures entry { result ≡ plain_entry source value.now }
@@ -117,7 +117,7 @@ fn plain_entry(source: End, value: &Value) -> Option<Entry>
     }
 }
 
-/// Whether all inputs have risen, up to a next one.
+/// Reports whether the numbers of all inputs rise, `next` included.
 fn follows(in_order: bool, last: u32, next: u32) -> bool
     ensures { result ≡ (in_order && nat_lt last next) }
 {
@@ -131,7 +131,7 @@ impl EntryList {
     ghost use Rattle.cascade_trace.specs.Since.{IsCounted, IsInOrder, IsSilent};
     ghost use Rattle.cascade_trace.specs.Trace.{IsOpen, kept_lines, line};
 
-    /// The events that come are of this input.
+    /// Sets the input of the next events.
     fn begin(&mut self, input: u32, time: i64) -> Result<(), AllocError>
         requires open { IsOpen self.old }
         requires counted { IsCounted self.old }
@@ -154,7 +154,7 @@ impl EntryList {
         Ok(())
     }
 
-    /// An event of the input.
+    /// Appends an event of the current input.
     fn event(&mut self, alloc: Global, source: End, value: &Value) -> Result<(), AllocError>
         requires open { IsOpen self.old }
         requires counted { IsCounted self.old }
@@ -175,8 +175,8 @@ impl EntryList {
         Ok(())
     }
 
-    /// Writes the lines for a writer that writes nothing of an input below `first`; on a refusal
-    /// perhaps a part of them.
+    /// Writes the lines for a writer that writes nothing for inputs below `first`. On `AllocError`,
+    /// `out` may hold a part of them.
     fn write_from<W: WritesLines>(
         &self,
         first: u32,
@@ -203,7 +203,7 @@ impl EntryList {
     }
 }
 
-/// Appends an entry and a value; on a refusal both lists are as they were.
+/// Appends an entry and a value. On `AllocError` both lists are unchanged.
 fn push_both(
     entries: &mut Vec<Entry>,
     values: &mut Vec<Value>,
@@ -249,7 +249,7 @@ impl Trace {
     ghost use Rattle.cascade_trace.specs.Since.{IsSilent};
     ghost use Rattle.cascade_trace.specs.Trace.{line};
 
-    /// Nothing was sent.
+    /// Makes a trace without events.
     pub fn new(alloc: Global) -> Trace
         ensures { result ≡ [] }
     {
@@ -264,7 +264,8 @@ impl Trace {
         }
     }
 
-    /// Appends an event.
+    /// Appends an event of the input of this number and time, in microseconds. Fails with
+    /// `AllocError` if memory runs out.
     pub fn push(
         &mut self,
         alloc: Global,
@@ -280,21 +281,21 @@ impl Trace {
         Ok(())
     }
 
-    /// How many lines there are.
+    /// Returns the number of lines.
     pub fn len(&self) -> u64
         ensures { result ≡ length self.now }
     {
         lines_in(&self.kept.entries) as u64
     }
 
-    /// Whether each line passes a test.
+    /// Reports whether every line passes a test.
     pub fn all_pass<T: TestsLines>(&self, test: &T) -> bool
         ensures { result ≡ list_all (T.passing test.now) self.now }
     {
         all_pass(test, &self.kept.entries, &self.kept.values)
     }
 
-    /// Writes the lines in order; on a refusal the buffer is as it was.
+    /// Writes the lines in order. On `AllocError` the buffer is unchanged.
     pub fn write<W: WritesLines>(&self, writer: &mut W, out: &mut Vec<u8>) -> Result<(), AllocError>
         ensures ok { OnOk result
             (out.new.items ≡ out.old.items ++ flat_map (W.text writer.old) self.now) }
@@ -308,9 +309,8 @@ impl Trace {
         written
     }
 
-    /// The same for a writer that writes nothing of an input below `first`: where the numbers of
-    /// the inputs rise it goes through the lines from there on, and through those of one input
-    /// before at most.
+    /// Does the same for a writer that writes nothing for inputs below `first`. If the numbers of
+    /// the inputs rise, it starts at the last input whose number is at most `first`.
     pub fn write_from<W: WritesLines>(
         &self,
         first: u32,

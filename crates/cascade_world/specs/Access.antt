@@ -1,5 +1,5 @@
--- Which fields of a node an event sets, and by which fields it sends, those that a Script declares
--- among them (ISO/IEC 19775-1, field semantics).
+-- The fields of a node that an event sets, and those by which a node sends, including the fields
+-- that a Script declares (ISO/IEC 19775-1, field semantics).
 use Rattle.std.specs.Prelude.{ℕ, Bool, false, not, ◌&&◌, Option, slice_get}
 use Rattle.std.specs.Option.{option_map_or}
 use Rattle.x3d_values.specs.declared.value.Value.{Value}
@@ -14,7 +14,7 @@ is_output shape field =
     option_map_or (λ row. is_sender row.access) (slice_get (rows_of shape) field) false
 
 -- an event with this value sets the field that it comes to: an inputOutput field of the value's
--- type, and no node field
+-- type that is not a node field
 abbrev pub is_set : Value → Option FieldRowView → Bool
 is_set value field =
     option_map_or

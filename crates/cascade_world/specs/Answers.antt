@@ -1,4 +1,4 @@
--- What one node does in a world, when an event comes to it, the clock ticks or a viewer points
+-- What one node does in a world at an event, at a tick of the clock or at a viewer's pointer
 -- (ISO/IEC 19775-1, event model; time and pointing device sensor components).
 use Rattle.std.specs.Option.{option_map_or}
 use Rattle.std.specs.Prelude.{ℕ, ℤ, Bool, false, not, ◌&&◌, ◌==◌, ◌++◌, List, [], Option, Some, None, slice_get, slice_set, if◌then◌else◌}
@@ -33,8 +33,8 @@ use Rattle.cascade_world.specs.Insides.{Insides, contact_in, place_in}
 use Rattle.cascade_world.specs.declared.world.WorldData.{WorldData}
 use Rattle.cascade_world.specs.declared.world.Live.{Live}
 
--- what the nodes keep, and the time sensors and the pointing sensors beside, after an answer, and
--- what is sent, in order
+-- the fields of the nodes and the states of the time sensors and pointing sensors after an answer,
+-- and the events sent, in order
 pub record NodeAnswer : Type 0 where
   pub fields : List Fields
   pub sensors : List (Option ℕ)
@@ -67,7 +67,7 @@ reacting w target v kind (Some fields) =
     }
 reacting w target v kind None = nothing w
 
--- a time sensor goes by rules of its own: it keeps these values, and this cycle runs or none
+-- a time sensor follows its own rules: it keeps these values, and runs this cycle or none
 abbrev pub setting : WorldData → End → Value → Fields → Option TimeFieldsView
     → Option (Option ℕ) → NodeAnswer
 setting w target v fields (Some timing) (Some cycle) =
@@ -91,13 +91,13 @@ abbrev pub enabled_field : NodeType → ℕ
 enabled_field PlaneSensor = PLANE_ENABLED
 enabled_field _ = TOUCH_ENABLED
 
--- the event turns a pointing sensor of this type off
+-- an event turns a pointing sensor of this type off
 abbrev pub turns_off : NodeType → ℕ → Value → Bool
 turns_off kind field (SFBool on) = (field == enabled_field kind) && not on
 turns_off kind field _ = false
 
--- what is kept of the pointing sensors after one of this type has forgotten its pointers, and what
--- that sends; what is kept of a sensor is of its type
+-- the states of the pointing sensors after one of this type has forgotten its pointers, and the
+-- events that this sends, if its state is of its type
 abbrev pub forgets : WorldData → ℕ → NodeType → Option PointingState → List PointingState
 forgets w node kind (Some state) =
     if is_state_of kind state then slice_set w.pointing node (forgotten state).state else w.pointing
@@ -107,7 +107,7 @@ abbrev pub forgotten_by : NodeType → Option PointingState → List SentEvent
 forgotten_by kind (Some state) = if is_state_of kind state then (forgotten state).replies else []
 forgotten_by kind None = []
 
--- a pointing sensor forgets its pointers, behind what it has answered
+-- a pointing sensor forgets its pointers, after what it has answered
 abbrev pub forgetting : WorldData → ℕ → NodeType → NodeAnswer → Option PointingState → NodeAnswer
 forgetting w node kind a state = record {
   fields = a.fields;
@@ -116,7 +116,7 @@ forgetting w node kind a state = record {
   replies = a.replies ++ forgotten_by kind state;
 }
 
--- a pointing sensor reacts as any node, and forgets its pointers where it is turned off, even if it
+-- a pointing sensor reacts like any node, and forgets its pointers if it is turned off, even if it
 -- was off before
 abbrev pub touching : WorldData → End → Value → NodeType → Option Fields → NodeAnswer
 touching w target v kind fields =
@@ -125,11 +125,11 @@ touching w target v kind fields =
     then forgetting w target.node kind a (slice_get w.pointing target.node)
     else a
 
--- a Script goes by the fields that it declares, beside those of its type
+-- a Script has the fields that it declares, in addition to those of its type
 abbrev pub is_script : NodeType → Bool
 is_script kind = sameb the_type kind Script
 
--- a node with these fields sets the one that an event comes to, and sends it
+-- a node with these fields sets the field that an event comes to, and sends the value
 abbrev pub keeping : WorldData → End → Value → Fields → NodeAnswer
 keeping w target v fields =
     let r = keeps fields target.field v in
@@ -140,14 +140,14 @@ keeping w target v fields =
       replies = r.replies;
     }
 
--- a Script that isn't run sets its inputOutput fields and sends them, its own and those that it
+-- a Script that isn't run sets and sends its inputOutput fields, both its own and those that it
 -- declares; an event at one of its inputOnly fields does nothing
 abbrev pub not_run : WorldData → End → Value → Option FieldRowView → Option Fields → NodeAnswer
 not_run w target v field (Some fields) =
     if is_set v field then keeping w target v fields else nothing w
 not_run w target v field None = nothing w
 
--- what a node of this type does at an event that comes to this field of it
+-- what a node of this type does at an event that comes to this field
 abbrev pub answer_by : WorldData → End → Value → NodeType → Option FieldRowView → NodeAnswer
 answer_by w target v kind field =
     if is_time_sensor kind
@@ -163,13 +163,13 @@ answer_as w target v (Some shape) =
     answer_by w target v shape.node_type (slice_get (rows_of shape) target.field)
 answer_as w target v None = nothing w
 
--- what the target of an event does; where there is no such node nothing happens
+-- what the target of an event does; nothing if there is no such node
 unfoldable pub answer : List Shape → WorldData → End → Value → NodeAnswer
 answer shapes w target v = answer_as w target v (slice_get shapes target.node)
 
 -- ---- the clock ticks
 
--- a time sensor ticks: it keeps these values, and this cycle runs or none
+-- a time sensor ticks: it keeps its values, and runs this cycle or none
 abbrev pub ticking : WorldData → ℕ → ℤ → Option TimeFieldsView → Option (Option ℕ) → NodeAnswer
 ticking w node now (Some timing) (Some cycle) =
     let t = tick cycle timing now in
@@ -187,13 +187,13 @@ ticking_at w node now (Some fields) =
     ticking w node now (timing_of fields) (slice_get w.sensors node)
 ticking_at w node now None = nothing w
 
--- what a time sensor does when the clock ticks, by the fields that it has then
+-- what a time sensor does at a tick of the clock, by its current fields
 unfoldable pub ticked : WorldData → ℕ → ℤ → NodeAnswer
 ticked w node now = ticking_at w node now (slice_get w.fields node)
 
 -- ---- a viewer points
 
--- a pointing sensor with these fields meets a viewer's pointer
+-- a pointing sensor with these fields handles a viewer's pointer
 abbrev pub meeting : WorldData → ℕ → SensorPointer → PointingState → Option Fields → NodeAnswer
 meeting w node at state (Some fields) =
     let p = pointed state fields at w.last_time in
@@ -205,8 +205,8 @@ meeting w node at state (Some fields) =
     }
 meeting w node at state None = nothing w
 
--- a viewer's pointer as a sensor meets it: whether its button was down until now, where it is
--- inside the sensor, and where its ray meets the plane of a drag, which was fixed before
+-- a viewer's pointer as a sensor sees it: whether its button was down before, where it is inside
+-- the sensor, and where its ray meets the plane of a drag, which was fixed before
 abbrev pub pointer_at : PointerView → Bool → Insides → Option Vec3 → ℕ → SensorPointer
 pointer_at p before is tracked node = record {
   who = p.who;
@@ -217,7 +217,7 @@ pointer_at p before is tracked node = record {
   tracked = tracked;
 }
 
--- the sensor is enabled by the fields that it has then, and what is kept of it is of its type
+-- the sensor is enabled by its current fields, and its state is of its type
 abbrev pub is_met : SceneView → WorldData → ℕ → PointingState → Bool
 is_met scene w node state =
     is_enabled scene w.fields node

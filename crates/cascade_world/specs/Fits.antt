@@ -1,4 +1,4 @@
--- Worlds of which a snapshot can be: each value is in the range of its field (ISO/IEC 19775-1,
+-- The worlds that a snapshot can be of: each value is in the range of its field (ISO/IEC 19775-1,
 -- field semantics; the ranges are our choice).
 use Rattle.std.specs.Prelude.{◌≡◌, ℕ, ◌+◌, ◌++◌, ◌^◌, ◌<◌, ◌≤◌, ◌==◌, ◌&&◌, is_none, nat_le, nat_lt, Bool, true, false, List, [], ◌∷◌, length, Option, Some, None, slice_get, if◌then◌else◌}
 use Rattle.std.specs.List.{list_all}
@@ -26,11 +26,11 @@ use Rattle.scene_core.specs.Shape.{Shape, rows_of}
 use Rattle.cascade_trace.specs.declared.trace.TraceLine.{TraceLine}
 use Rattle.cascade_world.specs.declared.world.WorldData.{WorldData}
 
--- ---- what a node keeps: it has the fields of its type, and behind them those that it declares, if
--- it is a Script
+-- -- the fields of a node: those of its type, followed by those that it declares, if it is a
+-- Script
 
--- a value for each of these rows, the first of which has number n: of the row's type, in the range
--- of the type, where the row is that of an inputOutput field, and else none
+-- a value for each of these rows, of which the first has number n: for an inputOutput field a value
+-- of the row's type, in the range of the type, and otherwise no value
 abbrev pub values_fit : NodeType → ℕ → List FieldRowView → List (Option Value) → Bool
 values_fit node_type n [] [] = true
 values_fit node_type n [] (value ∷ values) = false
@@ -39,7 +39,7 @@ values_fit node_type n (row ∷ others) (value ∷ values) =
     kept_fits (kept_field node_type n row.access row.field_type) value
     && values_fit node_type (n + 1) others values
 
--- sequencers alone have a position, of 32 bits
+-- only sequencers have a position, of 32 bits
 abbrev pub position_fits : NodeType → Position → Bool
 position_fits BooleanSequencer position = place_fits position.at
 position_fits IntegerSequencer position = place_fits position.at
@@ -53,18 +53,18 @@ fields_fit node_type declared fields =
 
 -- ---- the nodes
 
--- a TimeSensor alone runs cycles
+-- only a TimeSensor runs cycles
 abbrev pub time_fits : NodeType → Option ℕ → Bool
 time_fits TimeSensor cycle = cycle_fits cycle
 time_fits _ cycle = is_none cycle
 
--- and what is kept of it where viewers point is what a node of its type may keep
+-- a node of this shape may keep these fields, this cycle and this pointing state
 abbrev pub node_fits : Shape → Fields → Option ℕ → PointingState → Bool
 node_fits s fields cycle state =
     fields_fit s.node_type s.declared fields
     && (time_fits s.node_type cycle && pointing_fits s.node_type state)
 
--- node by node; each of the lists is as long
+-- node by node; each of the lists has one item for each node
 abbrev pub nodes_fit : List Shape → List Fields → List (Option ℕ) → List PointingState → Bool
 nodes_fit [] fields cycles pointing =
     (length fields == 0) && ((length cycles == 0) && (length pointing == 0))
@@ -76,7 +76,7 @@ nodes_fit (s ∷ shapes) (f ∷ fields) (c ∷ cycles) (u ∷ pointing) =
 
 -- ---- the drags
 
--- the way that is kept of a drag leads to a list that holds the sensor
+-- the path kept for a drag leads to a list that holds the sensor
 abbrev pub drag_leads : SceneView → ℕ → Option Drag → Bool
 drag_leads scene node None = true
 drag_leads scene node (Some drag) = leads_to scene None drag.path node
@@ -85,14 +85,14 @@ abbrev pub leads : SceneView → ℕ → PointingState → Bool
 leads scene node (Plane plane) = drag_leads scene node plane.drag
 leads scene node _ = true
 
--- node by node; the first of these has number n
+-- node by node; the first has number n
 abbrev pub all_lead : SceneView → ℕ → List PointingState → Bool
 all_lead scene n [] = true
 all_lead scene n (state ∷ states) = leads scene n state && all_lead scene (n + 1) states
 
 -- ---- the trace
 
--- the type of the events that leave by a field, if any do
+-- the type of the events that a field sends, if it sends any
 abbrev pub sent_type : FieldRowView → Option FieldType
 sent_type row = if sends row.access then Some row.field_type else None
 
@@ -102,7 +102,7 @@ output_type shapes node field =
     option_and_then sent_type
     (slice_get (option_map_or rows_of (slice_get shapes node) []) field)
 
--- an event that was sent: at 0 to 10^18 microseconds, with a value that may leave by its output
+-- an event that was sent: at 0 to 10^18 microseconds, with a value that its output may send
 abbrev pub line_fits : List Shape → TraceLine → Bool
 line_fits shapes line =
     nat_le line.input max_inputs

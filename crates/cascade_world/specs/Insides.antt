@@ -1,5 +1,5 @@
--- Where a pointer is inside sensors (ISO/IEC 19775-1, pointing device sensor component; what
--- concerns more than one viewer is our choice).
+-- Where a pointer is inside sensors (ISO/IEC 19775-1, pointing device sensor component; the rules
+-- for more than one viewer are our choice).
 use Rattle.std.specs.Prelude.{ℕ, ◌==◌, List, [], ◌∷◌, map, take, Option, Some, None, if◌then◌else◌}
 use Rattle.std.specs.Option.{option_and_then, option_map}
 use Rattle.x3d_values.specs.Pointing.{RayView}
@@ -22,12 +22,12 @@ pub record Insides : Type 0 where
   pub path : Option (List ℕ)
   pub sensors : List Inside
 
--- as the code has them
+-- as the code holds them
 abbrev pub seen : SensorsHit → Insides
 seen hit = record { path = hit.path; sensors = hit.sensors.items }
 
--- a sensor of a hit: the hit's place in its coordinates, and how many positions of the hit's path
--- lead to the list that holds it
+-- a sensor of a hit: the hit's place in its coordinates, and the number of positions of the hit's
+-- path that lead to the list that holds the sensor
 abbrev pub inside_by : SceneView → List Fields → RayView → Hit → ℕ → Inside
 inside_by scene state ray hit sensor = record {
   sensor = sensor;
@@ -43,20 +43,21 @@ inside_of scene state ray (Some hit) = record {
   sensors = map (inside_by scene state ray hit) (sensors_of scene state hit.path);
 }
 
--- the sensors that a ray is inside of, by the box that it hits first in a state, and where
+-- the sensors that a ray is inside of, by the box that it hits first in a state, and the hit's
+-- place in each
 unfoldable pub insides : SceneView → List Fields → RayView → Insides
 insides scene state ray = inside_of scene state ray (picked ray (boxes scene state))
 
--- how a pointer is inside a sensor, if it is
+-- the entry of a sensor, if the pointer is inside it
 unfoldable pub inside_at : List Inside → ℕ → Option Inside
 inside_at [] sensor = None
 inside_at (i ∷ is) sensor = if i.sensor == sensor then Some i else inside_at is sensor
 
--- where that is
+-- the pointer's place in the sensor
 abbrev pub place_in : Insides → ℕ → Option Vec3
 place_in is sensor = option_map (λ (i : Inside). i.point) (inside_at is.sensors sensor)
 
--- the same, with the way to the list that holds the sensor, where that can be kept
+-- that place and the path to the list that holds the sensor, if the path can be kept
 abbrev pub contact_by : List ℕ → Inside → ℕ → Option Contact
 contact_by path i depth =
     option_map (λ (way : List ℕ). record { point = i.point; path = way })

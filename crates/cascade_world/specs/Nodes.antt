@@ -7,7 +7,7 @@ use Rattle.x3d_values.specs.declared.node_type.NodeType.TheVariants.{Switch, Tra
 use Rattle.react_core.specs.Reaction.{is_time_sensor}
 use Rattle.scene_core.specs.Places.{is_pointing}
 
--- the type of the node of that number, if there is one, is one of these
+-- the node of that number exists and has one of these types
 abbrev pub is_of : (NodeType → Bool) → List NodeType → ℕ → Bool
 is_of wanted kinds node = option_map_or wanted (slice_get kinds node) false
 

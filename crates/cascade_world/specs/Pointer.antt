@@ -1,5 +1,5 @@
--- Which sensors a pointer concerns (ISO/IEC 19775-1, pointing device sensor component; what
--- concerns more than one viewer is our choice).
+-- The sensors that a pointer concerns (ISO/IEC 19775-1, pointing device sensor component; the rules
+-- for more than one viewer are our choice).
 use Rattle.std.specs.Prelude.{ℕ, Bool, false, List, [], ◌∷◌, map, Option, Some, None, slice_get}
 use Rattle.std.specs.List.{filter}
 use Rattle.std.specs.Option.{option_and_then, option_map_or}
@@ -21,12 +21,13 @@ is_pressed w who sensor =
     option_map_or (λ (state : PointingState). is_pressed_by state who) (slice_get w.pointing sensor)
     false
 
--- where a ray meets the plane of a drag, if there is one
+-- where a ray meets the plane of a drag, if there is a drag and the ray meets its plane
 abbrev pub tracked_by : SceneView → List Fields → RayView → Option Drag → Option Vec3
 tracked_by scene fields ray None = None
 tracked_by scene fields ray (Some drag) = track_of scene fields drag.path drag.start ray
 
--- where a viewer's ray meets the plane in which it drags the sensor of that number, if it does
+-- where a viewer's ray meets the plane in which the viewer drags the sensor of that number, if it
+-- does
 unfoldable pub tracked_at : SceneView → WorldData → PointerView → ℕ → Option Vec3
 tracked_at scene w p sensor =
     tracked_by scene w.fields p.ray
@@ -37,7 +38,7 @@ tracked_at scene w p sensor =
 abbrev pub tracking : SceneView → WorldData → PointerView → ℕ → Concerned
 tracking scene w p sensor = record { sensor = sensor; tracked = tracked_at scene w p sensor }
 
--- one that it doesn't
+-- a sensor that the viewer doesn't press
 abbrev pub untracked : ℕ → Concerned
 untracked sensor = record { sensor = sensor; tracked = None }
 
@@ -49,8 +50,8 @@ abbrev pub pressed : SceneView → WorldData → PointerView → List Concerned
 pressed scene w p =
     map (tracking scene w p) (filter (is_pressed w p.who) (pointing_sensors_of (types_of scene)))
 
--- those that a viewer presses, each with where its ray meets the plane of a drag; where it presses
--- none, all
+-- the sensors that a viewer presses, each with where the viewer's ray meets the plane of a drag;
+-- all sensors if the viewer presses none
 unfoldable pub concerned : SceneView → WorldData → PointerView → List Concerned
 concerned scene w p =
     or_all (pressed scene w p) (map untracked (pointing_sensors_of (types_of scene)))

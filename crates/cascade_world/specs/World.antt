@@ -7,7 +7,7 @@ use Rattle.scene_core.specs.declared.scene.End.{End}
 use Rattle.cascade_world.specs.declared.world.Live.{Live}
 use Rattle.cascade_world.specs.declared.world.WorldData.{WorldData}
 
--- the event stands in the trace, and its output has sent
+-- the event is in the trace, and its output has sent
 abbrev pub record_event : Live → End → Value → Live
 record_event live source v =
     record {
@@ -24,12 +24,12 @@ record_event live source v =
       sent = live.sent ++ source ∷ [];
     }
 
--- one input more, at its time; no output has sent yet
+-- one more input, at its time; no output has sent yet
 abbrev pub begin : WorldData → StampedView → Live
 begin w input =
     record { world = record w { applied = w.applied + 1; last_time = input.time }; sent = [] }
 
--- a viewer's button is as its pointer says
+-- a viewer's button has the state in its pointer
 abbrev pub with_button : Live → PointerView → Live
 with_button live p =
     let buttons = slice_set live.world.buttons p.who p.down in

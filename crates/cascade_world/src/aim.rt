@@ -1,4 +1,4 @@
-//! Where a viewer points: the sensors that its ray is inside of, and its button.
+//! Where a viewer points: the sensors that the viewer's ray is inside of, and the viewer's button.
 
 ghost use Rattle.std.specs.Prelude.{◌≡◌, ◌<◌, ◌≤◌, pos, map, length, take, None};
 ghost use Rattle.std.specs.Option.{option_copied, option_map};
@@ -16,8 +16,9 @@ use scene_core::Scene;
 use sensor_plane::{Contact, ListPath, SensorPointer};
 use x3d_values::{Fields, Pointer, Ray, Vec3};
 
-/// A sensor that a pointer is inside of, the place of its hit in the sensor's coordinates, in
-/// millionths, and how many positions of the hit's path lead to the list that holds the sensor.
+/// A sensor that a pointer is inside of: the place of the hit in the sensor's coordinates, in
+/// millionths, and the number of positions of the hit's path that lead to the list that holds the
+/// sensor.
 #[derive(Clone, Copy)]
 pub struct Inside {
     pub sensor: u32,
@@ -25,7 +26,7 @@ pub struct Inside {
     pub depth: Option<usize>,
 }
 
-/// What stands in an unused place.
+/// The content of an unused place.
 impl Default for Inside {
     ghost is_default = { λ inside. inside
         ≡ record {
@@ -43,32 +44,33 @@ impl Default for Inside {
     }
 }
 
-/// The sensors that a ray is inside of, in number order, and the path of its hit, if it hits a box.
+/// The sensors that a ray is inside of, in number order, and the path of the hit, if the ray hits a
+/// box.
 #[derive(Drop)]
 pub struct SensorsHit {
     pub path: Option<Path>,
     pub sensors: ArrayVec<Inside, MAX_SENSORS>,
 }
 
-/// What is fixed where a viewer points.
+/// What stays fixed while a viewer's input is handled.
 #[derive(Drop)]
 pub struct AimedAt {
     pub pointer: Pointer,
-    /// Whether the viewer's button was down until now.
+    /// Whether the viewer's button was down before this input.
     pub before: bool,
-    /// The sensors that its ray is inside of.
+    /// The sensors that the viewer's ray is inside of.
     pub inside: SensorsHit,
 }
 
-/// A sensor that a pointer concerns, and where the viewer's ray meets the plane in which it drags
-/// that sensor, in the sensor's coordinates in millionths, if it does.
+/// A sensor that a pointer concerns. `tracked` is where the viewer's ray meets the plane in which
+/// the viewer drags that sensor, in the sensor's coordinates in millionths, if it does.
 #[derive(Clone, Copy)]
 pub struct Concerned {
     pub sensor: u32,
     pub tracked: Option<Vec3>,
 }
 
-/// How a pointer is inside a sensor, if it is.
+/// Returns the entry of the sensor, if the pointer is inside it.
 #[tactic(auto, unfolding(crate::specs::Insides::inside_at))]
 pub fn inside_at(inside: &[Inside], sensor: u32) -> Option<&Inside>
     ensures { option_copied result ≡ inside_at inside.now sensor }
@@ -84,7 +86,7 @@ pub fn inside_at(inside: &[Inside], sensor: u32) -> Option<&Inside>
     }
 }
 
-/// The way that a hit's first positions lead, where it can be kept.
+/// Returns the path made of a hit's first `depth` positions, if it can be kept.
 fn way_of(path: &Path, depth: usize) -> Option<ListPath>
     ensures { result ≡ list_path (take depth path.now) }
 {
@@ -92,8 +94,8 @@ fn way_of(path: &Path, depth: usize) -> Option<ListPath>
     ListPath::new(&positions[..depth.min(positions.len())])
 }
 
-/// The place of a hit inside a sensor, with the way to the list that holds it, that many positions
-/// down.
+/// Returns the place of a hit inside a sensor, and the path to the list that holds the sensor: the
+/// first `depth` positions of the hit's path. Returns `None` if that path can't be kept.
 fn contact_by(path: &Path, inside: &Inside, depth: usize) -> Option<Contact>
     ensures { result ≡ contact_by path.now inside.now depth }
 {
@@ -106,7 +108,7 @@ fn contact_by(path: &Path, inside: &Inside, depth: usize) -> Option<Contact>
     })
 }
 
-/// The same, where there is such a list.
+/// Does the same with the sensor's own depth. Returns `None` if it has none.
 fn contact_of(path: &Path, inside: &Inside) -> Option<Contact>
     ensures { result ≡ contact_of (Some path.now) inside.now }
 {
@@ -120,7 +122,8 @@ impl SensorsHit {
     ghost use Rattle.std.specs.Prelude.{◌≡◌};
     ghost use Rattle.cascade_world.specs.Insides.{contact_in, place_in, seen};
 
-    /// The place of a pointer inside a sensor, in the sensor's coordinates, if it is inside.
+    /// Returns the place of the pointer in the sensor's coordinates, in millionths, if it is inside
+    /// the sensor.
     pub fn place(&self, sensor: u32) -> Option<Vec3>
         ensures { result ≡ place_in (seen self.now) sensor }
     {
@@ -130,7 +133,8 @@ impl SensorsHit {
         Some(inside.point)
     }
 
-    /// The same, with the way to the list that holds the sensor, where that can be kept.
+    /// Returns that place and the path to the list that holds the sensor, if the pointer is inside
+    /// the sensor and the path can be kept.
     pub fn contact(&self, sensor: u32) -> Option<Contact>
         ensures { result ≡ contact_in (seen self.now) sensor }
     {
@@ -150,7 +154,7 @@ impl AimedAt {
     ghost use Rattle.cascade_world.specs.Answers.{pointer_at};
     ghost use Rattle.cascade_world.specs.Insides.{seen};
 
-    /// The pointer as a sensor meets it.
+    /// Returns the pointer as the sensor sees it.
     pub fn at(&self, concerned: Concerned) -> SensorPointer
         ensures viewer { IsTrue (is_viewer result.who) }
         ensures value { result
@@ -168,7 +172,7 @@ impl AimedAt {
     }
 }
 
-/// How a hit is inside its sensors.
+/// Returns how a hit is inside its sensors.
 fn sensors_inside(
     scene: &Scene,
     state: &[Fields],
@@ -191,7 +195,8 @@ fn sensors_inside(
     inside
 }
 
-/// The sensors that a ray is inside of, and where.
+/// Returns the sensors that a ray is inside of, with the place of the hit in each. There are none
+/// if the ray hits no box.
 #[tactic(auto, unfolding(crate::specs::Insides::insides))]
 pub fn insides(scene: &Scene, state: &[Fields], boxes: &BoxCache, ray: Ray) -> SensorsHit
     requires boxes { boxes.now ≡ rows_of scene.now state.now }
@@ -216,7 +221,7 @@ impl WorldData {
     ghost use Rattle.x3d_values.specs.Ranges.{is_viewer};
     ghost use Rattle.cascade_world.specs.Pointer.{is_down};
 
-    /// Whether a viewer's button is down.
+    /// Reports whether a viewer's button is down.
     pub fn is_down(&self, who: u8) -> bool
         requires { IsTrue (is_viewer who) }
         ensures { result ≡ is_down self.now who }
@@ -229,7 +234,7 @@ impl Live {
     ghost use Rattle.std.specs.Prelude.{◌≡◌};
     ghost use Rattle.cascade_world.specs.World.{with_button};
 
-    /// A viewer's button is as its pointer says.
+    /// Sets a viewer's button to the state in its pointer.
     pub fn set_button(&mut self, pointer: Pointer)
         ensures { self.new ≡ with_button self.old pointer }
     {

@@ -1,4 +1,4 @@
-//! What one node does when an event comes to it, and when the clock ticks.
+//! What one node does at an event and at a tick of the clock.
 
 ghost use Rattle.std.specs.Prelude.{◌≡◌, ◌/◌, ℕ, [], IsTrue, OnOk, pos, ◌≤ℤ◌, ◌^◌, Some, slice_get};
 ghost use Rattle.scene_core.specs.Scene.{rows_at, shapes_of};
@@ -12,7 +12,7 @@ use std::alloc::{AllocError, Global};
 use x3d_values::{NodeType, Stamped, Value};
 
 impl WorldData {
-    /// An event comes to a TimeSensor.
+    /// Handles an event at a TimeSensor.
     fn set_sensor(&mut self, target: End, value: &Value, out: &mut Outbox)
         requires empty { out.old.items ≡ [] }
         ensures world { self.new
@@ -37,7 +37,7 @@ impl WorldData {
         self.sensors.set(target.node as usize, state);
     }
 
-    /// What the target of an event does, a node of this type.
+    /// Handles an event at the target, a node of this type.
     fn reply_by(
         &mut self,
         alloc: Global,
@@ -77,7 +77,8 @@ impl WorldData {
         )
     }
 
-    /// What the target of an event does, if there is such a node.
+    /// Handles an event at the target and puts the replies into `out`. Does nothing if there is no
+    /// such node. Fails with `AllocError` if memory runs out.
     pub fn reply_to(
         &mut self,
         alloc: Global,
@@ -98,7 +99,7 @@ impl WorldData {
         self.reply_by(alloc, scene, node_type, target, value, out)
     }
 
-    /// The clock ticks for a TimeSensor.
+    /// Handles a tick of the clock at a TimeSensor and puts the replies into `out`.
     #[tactic(auto, unfolding(crate::specs::Answers::ticked))]
     pub fn tick(&mut self, node: u32, input: &Stamped, out: &mut Outbox)
         requires empty { out.old.items ≡ [] }
@@ -119,8 +120,8 @@ impl WorldData {
         self.sensors.set(node as usize, state);
     }
 
-    /// Whether it was remembered of a block of nodes that a tick does nothing there: none is
-    /// active, and none starts at that time.
+    /// Reports whether the block is remembered as one where a tick does nothing: no node is active,
+    /// and none starts at that time.
     pub fn is_idle(&self, block: u32, input: &Stamped) -> bool
         ensures { (node : ℕ) → IsTrue result → node / 32 ≡ block
             → ticked self.now node input.now.time ≡ nothing self.now }
@@ -131,7 +132,7 @@ impl WorldData {
         self.fields.is_idle(block, input.time())
     }
 
-    /// Remembers of a block of nodes whether a tick does nothing there, and until when.
+    /// Remembers whether a tick does nothing at a block of nodes, and until when.
     pub fn remember_idle(&mut self, block: u32, input: &Stamped)
         ensures { self.new ≡ self.old }
     {

@@ -22,7 +22,7 @@ use snapshot_codec::kept_field;
 use snapshot_ranges::{is_moment, kept_fits, place_fits, typed_fits};
 use x3d_values::{FieldType, Fields, MAX_INPUTS, NodeType, Position, Value};
 
-/// Whether a node may keep this at its field of that number.
+/// Reports whether a node may keep this value in its field of that number.
 fn field_fits(
     scene: &Scene,
     node: u32,
@@ -44,14 +44,14 @@ fn field_fits(
     }
 }
 
-/// Whether there are so many values.
+/// Reports whether there are `count` values.
 fn are_many(values: &[Option<Value>], count: u32) -> bool
     ensures { result ≡ (length values.now == count) }
 {
     values.len() == count as usize
 }
 
-/// Whether a node may keep these at its fields.
+/// Reports whether a node may keep these values in its fields.
 fn values_fit(scene: &Scene, node: u32, node_type: NodeType, values: &[Option<Value>]) -> bool
     ensures { result ≡ values_fit node_type 0 (rows_at scene.now node) values.now }
 {
@@ -68,7 +68,7 @@ fn values_fit(scene: &Scene, node: u32, node_type: NodeType, values: &[Option<Va
     true
 }
 
-/// Whether a node of this type may have sent this one of its values last.
+/// Reports whether a node of this type may have sent the value at this position last.
 fn position_fits(node_type: NodeType, position: Position) -> bool
     ensures { result ≡ position_fits node_type position }
 {
@@ -79,7 +79,7 @@ fn position_fits(node_type: NodeType, position: Position) -> bool
     }
 }
 
-/// Whether a node of this type may run this cycle, or none.
+/// Reports whether a node of this type may run this cycle, or no cycle.
 fn time_fits(node_type: NodeType, time: TimeState) -> bool
     ensures { result ≡ time_fits node_type time }
 {
@@ -90,7 +90,7 @@ fn time_fits(node_type: NodeType, time: TimeState) -> bool
     }
 }
 
-/// Whether a node may keep these fields.
+/// Reports whether a node may keep these fields.
 fn fields_fit(scene: &Scene, node: u32, node_type: NodeType, fields: &Fields) -> bool
     ensures { result
         ≡ (values_fit node_type 0 (rows_at scene.now node) fields.now.values
@@ -100,14 +100,14 @@ fn fields_fit(scene: &Scene, node: u32, node_type: NodeType, fields: &Fields) ->
         && position_fits(node_type, fields.position)
 }
 
-/// Whether a node of this type may keep this beside its fields.
+/// Reports whether a node of this type may keep this state outside its fields.
 fn beside_fits(node_type: NodeType, time: TimeState, slot: &PointingSlot) -> bool
     ensures { result ≡ (time_fits node_type time && pointing_fits node_type slot.now) }
 {
     time_fits(node_type, time) && slot.fits(node_type)
 }
 
-/// Whether the node of that number, which is of this type, may keep this.
+/// Reports whether the node of that number and type may keep this state.
 fn typed_node_fits(
     scene: &Scene,
     node: u32,
@@ -124,7 +124,7 @@ fn typed_node_fits(
     fields_fit(scene, node, node_type, fields) && beside_fits(node_type, time, slot)
 }
 
-/// Whether the node of that number may keep this.
+/// Reports whether the node of that number may keep this state.
 fn node_fits(
     scene: &Scene,
     node: u32,
@@ -142,7 +142,7 @@ fn node_fits(
     }
 }
 
-/// Whether a world has what that many nodes keep.
+/// Reports whether a world has the state of exactly `count` nodes.
 fn has_nodes(world: &WorldData, count: usize) -> bool
     ensures { result
         ≡ ((length world.now.fields == count)
@@ -153,7 +153,7 @@ fn has_nodes(world: &WorldData, count: usize) -> bool
         && world.pointing.len() == count
 }
 
-/// Whether the nodes of a scene, so many, may keep what they keep in a world.
+/// Reports whether the `count` nodes of a scene may keep their state in a world.
 fn nodes_fit(scene: &Scene, count: u32, world: &WorldData) -> bool
     requires { count ≡ length scene.now.nodes }
     ensures { result
@@ -174,7 +174,7 @@ fn nodes_fit(scene: &Scene, count: u32, world: &WorldData) -> bool
     true
 }
 
-/// Whether the way that is kept of a drag leads to a list that holds the sensor.
+/// Reports whether the path kept for a drag leads to a list that holds the sensor.
 fn drag_leads(scene: &Scene, node: u32, drag: Option<Drag>) -> bool
     ensures { result ≡ drag_leads scene.now node drag }
 {
@@ -194,7 +194,7 @@ fn leads(scene: &Scene, node: u32, state: &PointingState) -> bool
     }
 }
 
-/// Whether the drags at the nodes of a scene, so many, lead to their sensors.
+/// Reports whether the drags at the `count` nodes of a scene lead to their sensors.
 pub fn all_lead(scene: &Scene, count: u32, pointing: &[PointingSlot]) -> bool
     requires { length pointing.now ≡ count }
     ensures { result ≡ all_lead scene.now 0 pointing.now }
@@ -207,7 +207,7 @@ pub fn all_lead(scene: &Scene, count: u32, pointing: &[PointingSlot]) -> bool
     true
 }
 
-/// The type of the events that leave by a field, if any do.
+/// Returns the type of the events that a field sends, if it sends any.
 fn sent_type(row: NodeField<'_>) -> Option<FieldType>
     ensures { result ≡ sent_type (row_entry row.entry) }
 {
@@ -218,7 +218,8 @@ fn sent_type(row: NodeField<'_>) -> Option<FieldType>
     }
 }
 
-/// The type of the events that a node sends by its field of that number, if it sends any.
+/// Returns the type of the events that a node sends by its field of that number, or `None` if it
+/// sends none.
 pub fn output_type(scene: &Scene, node: u32, field: u16) -> Option<FieldType>
     ensures { result ≡ output_type (shapes_of scene.now) node field }
 {
@@ -247,7 +248,7 @@ impl<'a> TestsLines for SceneLines<'a> {
     }
 }
 
-/// Whether a world may have come so far, with a button for each viewer.
+/// Reports whether a world may have advanced this far, with a button for each viewer.
 fn progress_fits(world: &WorldData) -> bool
     ensures counts { result
         ≡ (nat_le world.now.applied max_inputs && is_moment world.now.last_time) }
@@ -261,11 +262,11 @@ impl WorldData {
     ghost use Rattle.std.specs.Prelude.{◌≡◌, ◌↔◌, IsTrue, length};
     ghost use Rattle.cascade_world.specs.Fits.{FitsScene};
 
-    /// Whether a snapshot of the scene can be of this world: there is something for each node, each
-    /// value is one of its field, in the range of the field's type, TimeSensors alone run cycles,
-    /// pointers are over pointing sensors alone and drags lead to theirs, and each event of the
-    /// trace can have left by its output. It takes no memory, and time in proportion to the scene
-    /// and the world. No memory holds a scene of 2^32 nodes; no world would fit it.
+    /// Reports whether a snapshot of the scene can be of this world. There is state for each node,
+    /// each value is one of its field and in the range of the field's type, only TimeSensors run
+    /// cycles, pointers are only over pointing sensors, drags lead to their sensors, and each event
+    /// of the trace can have been sent by its output. The check takes no memory, and time in
+    /// proportion to the scene and the world. No world fits a scene of 2^32 nodes or more.
     pub fn fits_scene(&self, scene: &Scene) -> bool
         ensures { IsTrue result ↔ FitsScene scene.now self.now }
     {
@@ -275,7 +276,7 @@ impl WorldData {
         }
     }
 
-    /// The same, where the scene has so many nodes.
+    /// Does the same for a scene of `count` nodes.
     fn fits_nodes(&self, scene: &Scene, count: u32) -> bool
         requires { count ≡ length scene.now.nodes }
         ensures { IsTrue result ↔ FitsScene scene.now self.now }

@@ -1,4 +1,4 @@
-//! When TimeSensors that wait start next: before that a tick does nothing.
+//! When waiting TimeSensors start next. Before that time, a tick does nothing.
 
 ghost use Rattle.std.specs.Prelude.{◌≡◌, ◌/◌, ◌≤ℤ◌, ◌<ℤ◌, ℕ, ℤ, IfSome, IsTrue, Some, false, slice_get, slice_set};
 ghost use Rattle.x3d_values.specs.declared.fields.Fields.{Fields as FieldsView};
@@ -8,22 +8,23 @@ ghost use Rattle.cascade_world.specs.Idle.{IsIdle, no_time, starts_at};
 use sensor_core::TimeFields;
 use x3d_values::Fields;
 
-/// From the first of these times on, and before the second, a TimeSensor that is inactive doesn't
-/// start; in microseconds.
+/// A time span in microseconds in which an inactive TimeSensor doesn't start: from `from` on, and
+/// before `until`.
 #[derive(Clone, Copy)]
 pub struct Idle {
     pub from: i64,
     pub until: i64,
 }
 
-/// At no time.
+/// Returns the empty time span.
 pub(crate) fn no_time() -> Idle
     ensures { result ≡ no_time }
 {
     Idle { from: 0, until: 0 }
 }
 
-/// From when on a TimeSensor doesn't start again: its only cycle is over, or it is stopped.
+/// Returns the time from which on a TimeSensor doesn't start again, because its only cycle is over
+/// or it is stopped. Returns `None` if there is no such time.
 fn last_start(timing: &TimeFields) -> Option<i64>
     ensures { IfSome result (λ end. (t : ℤ) → end ≤ℤ t → is_started timing.now t ≡ false) }
 {
@@ -38,7 +39,7 @@ fn last_start(timing: &TimeFields) -> Option<i64>
     None
 }
 
-/// Until when a TimeSensor doesn't start, from a time on.
+/// Returns the time before which a TimeSensor doesn't start, from `now` on.
 fn wait_of(timing: &TimeFields, now: i64) -> i64
     ensures { (t : ℤ) → now ≤ℤ t → t <ℤ result → is_started timing.now t ≡ false }
 {
@@ -55,7 +56,8 @@ fn wait_of(timing: &TimeFields, now: i64) -> i64
     }
 }
 
-/// Until when a node with these fields doesn't start, from a time on, if it is a TimeSensor.
+/// Returns the time before which a node with these fields doesn't start, from `now` on. A node that
+/// isn't a TimeSensor never starts.
 fn start_of(fields: &Fields, now: i64) -> i64
     ensures { (t : ℤ) → now ≤ℤ t → t <ℤ result → starts_at fields.now t ≡ false }
 {
@@ -65,7 +67,7 @@ fn start_of(fields: &Fields, now: i64) -> i64
     }
 }
 
-/// The earlier of two times.
+/// Returns the earlier of two times.
 fn earlier(one: i64, other: i64) -> i64
     ensures first { result ≤ℤ one }
     ensures second { result ≤ℤ other }
@@ -73,7 +75,7 @@ fn earlier(one: i64, other: i64) -> i64
     if one < other { one } else { other }
 }
 
-/// Until when none of some nodes starts, from a time on.
+/// Returns the time before which none of the nodes starts, from `now` on.
 fn first_start(nodes: &[Fields], now: i64) -> i64
     ensures { (i : ℕ) (fields : FieldsView) → slice_get nodes.now i ≡ Some fields → (t : ℤ)
         → now ≤ℤ t → t <ℤ result → starts_at fields t ≡ false }
@@ -84,7 +86,7 @@ fn first_start(nodes: &[Fields], now: i64) -> i64
     }
 }
 
-/// When none of some nodes starts, from a time on.
+/// Returns the time span from `now` on in which none of the nodes starts.
 pub(crate) fn idle_of(nodes: &[Fields], now: i64) -> Idle
     ensures { (i : ℕ) (fields : FieldsView) → slice_get nodes.now i ≡ Some fields
         → IsIdle fields result }
@@ -95,7 +97,7 @@ pub(crate) fn idle_of(nodes: &[Fields], now: i64) -> Idle
     }
 }
 
-/// Whether a time is one of these.
+/// Reports whether a time is in the time span.
 pub(crate) fn is_among(idle: Idle, time: i64) -> bool
     ensures { (fields : FieldsView) → IsIdle fields idle → IsTrue result
         → starts_at fields time ≡ false }
@@ -103,7 +105,7 @@ pub(crate) fn is_among(idle: Idle, time: i64) -> bool
     idle.from <= time && time < idle.until
 }
 
-/// Nothing is known of a block any more.
+/// Forgets what is known of a block.
 pub(crate) fn wake(idles: &mut Vec<Idle>, block: usize)
     ensures { idles.new.items ≡ slice_set idles.old.items block no_time }
 {

@@ -1,7 +1,7 @@
 //! The `state` of a scene after some inputs, its `world`, and what a node does in it: the `answer`
-//! to an event or a clock, what a `pointing` sensor does, also at an `aim` and where it is turned
-//! off, and what a Script does that is `unrun` (ISO/IEC 19775-1, event model); and which world
-//! `fits` a scene.
+//! to an event or a clock, what a `pointing` sensor does, also at an `aim` and when it is turned
+//! off, and what an `unrun` Script does (ISO/IEC 19775-1, event model). Also which world `fits` a
+//! scene.
 #![tactic(auto)]
 
 mod aim;

@@ -1,4 +1,4 @@
-//! What a pointing sensor does when an event comes to it, and when a viewer points.
+//! What a pointing sensor does at an event, and when a viewer points.
 
 ghost use Rattle.std.specs.Prelude.{◌≡◌, ◌+◌, ◌/◌, ◌<◌, ◌≤◌, ℕ, true, false, [], ◌++◌, IsTrue, OnOk, Some, is_none, length, not, option_copied, slice_get, slice_set};
 ghost use Rattle.std.specs.Option.{option_and_then, option_map_or};
@@ -25,7 +25,7 @@ use sensor_plane::{Drag, PLANE_ENABLED, PointingSlot, PointingState};
 use std::alloc::{AllocError, Global};
 use x3d_values::{Fields, NodeType, Pointer, Ray, Value, Vec3};
 
-/// The number of the field `enabled` of a pointing sensor.
+/// Returns the number of the field `enabled` of a pointing sensor.
 fn enabled_field(node_type: NodeType) -> u16
     ensures { result ≡ enabled_field node_type }
 {
@@ -35,7 +35,7 @@ fn enabled_field(node_type: NodeType) -> u16
     }
 }
 
-/// Whether an event turns a pointing sensor of this type off.
+/// Reports whether an event turns a pointing sensor of this type off.
 fn turns_off(node_type: NodeType, field: u16, value: &Value) -> bool
     ensures { result ≡ turns_off node_type field value.now }
 {
@@ -45,28 +45,28 @@ fn turns_off(node_type: NodeType, field: u16, value: &Value) -> bool
     }
 }
 
-/// Whether a pointer isn't inside a sensor.
+/// Reports whether a pointer isn't inside a sensor.
 fn is_outside(aim: &AimedAt, sensor: u32) -> bool
     ensures { result ≡ is_none (inside_at aim.now.inside.sensors.items sensor) }
 {
     inside_at(aim.inside.sensors.as_slice(), sensor).is_none()
 }
 
-/// Whether a pointer is inside a sensor of a block.
+/// Reports whether a pointer is inside a sensor of a block.
 fn is_near(inside: &[Inside], block: u32) -> bool
     ensures { result ≡ list_any (is_near block) inside.now }
 {
     inside.iter().any(|i| i.sensor / BLOCK == block)
 }
 
-/// Whether a pointer is inside no sensor of a block.
+/// Reports whether a pointer is inside no sensor of a block.
 fn is_beside(aim: &AimedAt, block: u32) -> bool
     ensures { result ≡ not (list_any (is_near block) aim.now.inside.sensors.items) }
 {
     !is_near(aim.inside.sensors.as_slice(), block)
 }
 
-/// Where a ray meets the plane of a drag, if there is one.
+/// Returns where a ray meets the plane of a drag, if there is a drag and the ray meets its plane.
 fn tracked_by(scene: &Scene, fields: &[Fields], ray: Ray, drag: Option<Drag>) -> Option<Vec3>
     ensures { result ≡ tracked_by scene.now fields.now ray drag }
 {
@@ -76,7 +76,7 @@ fn tracked_by(scene: &Scene, fields: &[Fields], ray: Ray, drag: Option<Drag>) ->
     track_point(scene, fields, drag.path.as_slice(), drag.start, ray)
 }
 
-/// Whether this is what is kept of a node of the type of that node.
+/// Reports whether this is the state of a node of that node's type.
 fn is_suited(scene: &Scene, node: u32, state: &PointingState) -> bool
     ensures { result
         ≡ option_map_or (λ kind. is_state_of kind state.now) (type_at scene.now node) false }
@@ -87,8 +87,8 @@ fn is_suited(scene: &Scene, node: u32, state: &PointingState) -> bool
     }
 }
 
-/// Keeps this state of the node of that number from now on; that of a sensor only where one is
-/// kept.
+/// Keeps this state for the node of that number from now on. The state of a sensor is kept only if
+/// the node has one.
 fn keep(pointing: &mut Watched<PointingSlot>, node: usize, state: PointingState)
     requires place { node < length pointing.old }
     requires sensor { (kept : StateView) → slice_get pointing.old node ≡ Some kept
@@ -101,7 +101,7 @@ fn keep(pointing: &mut Watched<PointingSlot>, node: usize, state: PointingState)
 }
 
 impl WorldData {
-    /// A pointing sensor of this type forgets its pointers.
+    /// Lets a pointing sensor of this type forget its pointers.
     fn forget(&mut self, node_type: NodeType, node: u32, out: &mut Outbox)
         requires room { array_vec_len out.old + 2 ≤ 5 }
         ensures world { self.new ≡ record self.old {
@@ -121,7 +121,7 @@ impl WorldData {
         keep(&mut self.pointing, node as usize, state);
     }
 
-    /// An event comes to a pointing sensor of this type.
+    /// Handles an event at a pointing sensor of this type.
     pub(crate) fn touch(
         &mut self,
         alloc: Global,
@@ -157,7 +157,8 @@ impl WorldData {
         Ok(())
     }
 
-    /// A pointing sensor meets a pointer; one that isn't enabled is skipped.
+    /// Handles a pointer at a pointing sensor and puts the replies into `out`. A sensor that isn't
+    /// enabled is skipped.
     #[tactic(auto, unfolding(crate::specs::Answers::met))]
     pub fn meet(&mut self, scene: &Scene, concerned: Concerned, aim: &AimedAt, out: &mut Outbox)
         requires empty { out.old.items ≡ [] }
@@ -185,15 +186,15 @@ impl WorldData {
         keep(&mut self.pointing, node as usize, state);
     }
 
-    /// Whether a sensor of which this is kept is enabled, and is of its type.
+    /// Reports whether a sensor with this state is enabled and of the state's type.
     fn is_met(&self, scene: &Scene, node: u32, state: &PointingState) -> bool
         ensures { result ≡ is_met scene.now self.now node state.now }
     {
         is_enabled(scene, self.fields.as_slice(), node) && is_suited(scene, node, state)
     }
 
-    /// Whether a pointer passes a pointing sensor, so that nothing happens: it isn't inside, and no
-    /// pointer is over the sensor or presses it.
+    /// Reports whether a pointer does nothing at a pointing sensor: it isn't inside the sensor, and
+    /// no pointer is over the sensor or presses it.
     pub fn passes(&self, concerned: Concerned, aim: &AimedAt) -> bool
         ensures { (scene : SceneView) → IsTrue result
             → met scene self.now concerned.sensor
@@ -207,8 +208,8 @@ impl WorldData {
         }
     }
 
-    /// Whether a pointer passes a block of nodes, so that nothing happens at any pointing sensor of
-    /// it.
+    /// Reports whether it is known that a pointer does nothing at any pointing sensor of a block of
+    /// nodes.
     pub fn passes_block(&self, block: u32, aim: &AimedAt) -> bool
         ensures { (scene : SceneView) (sensor : ℕ) → IsTrue result → sensor / 32 ≡ block
             → met scene self.now sensor
@@ -221,7 +222,8 @@ impl WorldData {
         is_beside(aim, block)
     }
 
-    /// Whether it is known of a block of nodes that nobody presses any of its pointing sensors.
+    /// Reports whether it is remembered that no viewer presses any pointing sensor of a block of
+    /// nodes.
     pub fn is_untouched(&self, block: u32) -> bool
         ensures { (who : ℕ) (sensor : ℕ) → IsTrue result → sensor / 32 ≡ block
             → is_pressed self.now who sensor ≡ false }
@@ -229,15 +231,15 @@ impl WorldData {
         self.pointing.is_resting(block)
     }
 
-    /// Remembers of a block of nodes whether no pointer is over any of its pointing sensors, and
-    /// nobody presses one.
+    /// Remembers whether no pointer is over any pointing sensor of a block of nodes and no viewer
+    /// presses one.
     pub fn remember_pointing(&mut self, block: u32)
         ensures { self.new ≡ self.old }
     {
         self.pointing.look_at(block);
     }
 
-    /// Whether a viewer presses the sensor of that number.
+    /// Reports whether a viewer presses the sensor of that number.
     pub fn is_pressed(&self, who: u8, sensor: u32) -> bool
         ensures { result ≡ is_pressed self.now who sensor }
     {
@@ -247,7 +249,7 @@ impl WorldData {
         }
     }
 
-    /// The drag of a viewer at the sensor of that number, if there is one.
+    /// Returns the drag of a viewer at the sensor of that number, if there is one.
     fn drag_at(&self, who: u8, sensor: u32) -> Option<Drag>
         ensures { result
             ≡ option_and_then (λ state. drag_by state who) (slice_get self.now.pointing sensor) }
@@ -258,8 +260,9 @@ impl WorldData {
         slot.drag_by(who)
     }
 
-    /// Where a viewer's ray meets the plane in which it drags the sensor of that number, in the
-    /// sensor's coordinates in millionths, if it does.
+    /// Returns where a viewer's ray meets the plane in which the viewer drags the sensor of that
+    /// number, in the sensor's coordinates in millionths. Returns `None` if the viewer doesn't drag
+    /// it or the ray doesn't meet the plane.
     #[tactic(auto, unfolding(crate::specs::Pointer::tracked_at))]
     pub fn tracked_at(&self, scene: &Scene, pointer: Pointer, sensor: u32) -> Option<Vec3>
         ensures { result ≡ tracked_at scene.now self.now pointer sensor }

@@ -1,4 +1,4 @@
-//! What the nodes of a scene keep, by their numbers.
+//! The state of the nodes of a scene, by their numbers.
 
 ghost use Rattle.std.specs.Prelude.{◌≡◌, ◌/◌, ℕ, [], IsTrue, OnOk, Some, None, false, option_copied, slice_get, slice_set};
 ghost use Rattle.std.specs.Option.{option_map_or};
@@ -21,11 +21,11 @@ use std::alloc::{AllocError, Global};
 use std::marker::Model;
 use x3d_values::{Fields, NodeType, Value};
 
-/// What each node keeps, by its number.
+/// The fields that each node keeps, by its number.
 #[derive(Drop)]
 pub struct State {
     items: Vec<Fields>,
-    /// When none of a block of nodes starts, as far as was remembered.
+    /// When no node of a block starts, if it is remembered.
     idles: Vec<Idle>,
 }
 
@@ -41,7 +41,8 @@ impl Model for State {
     ghost invariant = { λ s. AreIdle s.items.items s.idles.items };
 }
 
-/// A node of this type reacts to an event, where there is such a node; the others are as they were.
+/// Lets a node of this type react to an event, if there is such a node. The other nodes are
+/// unchanged.
 fn react_at(
     items: &mut Vec<Fields>,
     alloc: Global,
@@ -69,8 +70,8 @@ fn react_at(
     react(alloc, node_type, &mut items[node], input, value, time, out)
 }
 
-/// A node sets the field that an event comes to, and sends it, where there is such a node; the
-/// others are as they were.
+/// Sets the field of a node that an event comes to and sends the value, if there is such a node.
+/// The other nodes are unchanged.
 fn keep_at(
     items: &mut Vec<Fields>,
     alloc: Global,
@@ -105,7 +106,7 @@ fn keep_at(
     Ok(())
 }
 
-/// A TimeSensor keeps these values, where there is such a node; the others are as they were.
+/// Stores these values in a TimeSensor, if there is such a node. The other nodes are unchanged.
 fn time_at(items: &mut Vec<Fields>, node: u32, timing: &TimeFields)
     ensures fields { items.new.items
         ≡ option_map_or (λ fields. slice_set items.old.items node (with_timing fields timing.now))
@@ -119,8 +120,8 @@ fn time_at(items: &mut Vec<Fields>, node: u32, timing: &TimeFields)
     timing.write_to(&mut items[node]);
 }
 
-/// A pointing sensor that is enabled meets a viewer's pointer, where there is such a node; the
-/// others are as they were.
+/// Handles a viewer's pointer at an enabled pointing sensor, if there is such a node. The other
+/// nodes are unchanged.
 fn point_at(
     items: &mut Vec<Fields>,
     node: u32,
@@ -151,6 +152,7 @@ fn point_at(
 }
 
 impl State {
+    /// Makes a state of these fields, by the numbers of the nodes.
     pub fn from_vec(items: Vec<Fields>) -> State
         ensures { result ≡ items.items }
     {
@@ -158,20 +160,22 @@ impl State {
         State { items, idles }
     }
 
+    /// Returns the fields of all nodes, by their numbers.
     pub fn as_slice(&self) -> &[Fields]
         ensures { result.now ≡ self.now }
     {
         &self.items
     }
 
-    /// What a node keeps, where there is such a node.
+    /// Returns the fields of a node, if there is such a node.
     pub fn get(&self, node: u32) -> Option<&Fields>
         ensures { option_copied result ≡ slice_get self.now node }
     {
         self.items.get(node as usize)
     }
 
-    /// A node of this type reacts to an event, where there is such a node.
+    /// Lets a node of this type react to an event at a time in microseconds, if there is such a
+    /// node, and puts the replies into `out`. Fails with `AllocError` if memory runs out.
     pub fn react(
         &mut self,
         alloc: Global,
@@ -204,7 +208,8 @@ impl State {
         )
     }
 
-    /// A node sets the field that an event comes to, and sends it, where there is such a node.
+    /// Sets the field of a node that an event comes to and sends the value, if there is such a
+    /// node. Fails with `AllocError` if memory runs out.
     pub fn keep(
         &mut self,
         alloc: Global,
@@ -225,7 +230,7 @@ impl State {
         keep_at(&mut self.items, alloc, target, value, out)
     }
 
-    /// A TimeSensor keeps these values, where there is such a node.
+    /// Stores these values in a TimeSensor, if there is such a node.
     pub fn keep_timing(&mut self, node: u32, timing: &TimeFields)
         ensures { self.new
             ≡ option_map_or (λ fields. slice_set self.old node (with_timing fields timing.now))
@@ -235,8 +240,8 @@ impl State {
         time_at(&mut self.items, node, timing);
     }
 
-    /// A pointing sensor that is enabled meets a viewer's pointer, at a time in microseconds, where
-    /// there is such a node, and puts what it sends into the outbox.
+    /// Handles a viewer's pointer at an enabled pointing sensor, at a time in microseconds, if
+    /// there is such a node. Puts the events sent into the outbox.
     pub fn point(
         &mut self,
         node: u32,
@@ -262,7 +267,8 @@ impl State {
         point_at(&mut self.items, node, state, pointer, time, out);
     }
 
-    /// Takes room to remember of each block when none of it starts; nothing is known of any then.
+    /// Makes room to remember when no node of a block starts. If room is made, nothing is known of
+    /// any block afterwards.
     fn make_room(&mut self) -> Result<(), AllocError>
         ensures { self.new ≡ self.old }
     {
@@ -275,8 +281,8 @@ impl State {
         Ok(())
     }
 
-    /// Remembers of a block of nodes until when none of them starts, as their fields are now, from
-    /// a time in microseconds on. Where memory for that is refused nothing is remembered.
+    /// Remembers until when no node of a block starts, with their current fields, from a time in
+    /// microseconds on. Remembers nothing if memory for that is refused.
     pub(crate) fn look_at(&mut self, block: u32, now: i64)
         ensures { self.new ≡ self.old }
     {
@@ -293,7 +299,7 @@ impl State {
         self.idles[block] = idle;
     }
 
-    /// Whether it was remembered that none of a block of nodes starts at a time in microseconds.
+    /// Reports whether it is remembered that no node of a block starts at a time in microseconds.
     pub(crate) fn is_idle(&self, block: u32, time: i64) -> bool
         ensures { (node : ℕ) (fields : FieldsView) → IsTrue result → node / 32 ≡ block
             → slice_get self.now node ≡ Some fields → starts_at fields time ≡ false }

@@ -1,4 +1,4 @@
-//! What a Script that isn't run does when an event comes to it.
+//! What a Script that isn't run does at an event.
 
 ghost use Rattle.std.specs.Prelude.{◌≡◌, [], OnOk, option_map, slice_get};
 ghost use Rattle.react_core.specs.Access.{names_nodes};
@@ -19,8 +19,8 @@ fn names_nodes(value: &Value) -> bool
     matches!(value, Value::SFNode(_) | Value::MFNode(_))
 }
 
-/// Whether an event with this value sets the field that it comes to: an inputOutput field of the
-/// value's type, and no node field.
+/// Reports whether an event with this value sets the field that it comes to: an inputOutput field
+/// of the value's type that is not a node field.
 fn is_set(field: Option<NodeField<'_>>, value: &Value) -> bool
     ensures { result ≡ is_set value.now (option_map row_entry field.entry) }
 {
@@ -33,7 +33,7 @@ fn is_set(field: Option<NodeField<'_>>, value: &Value) -> bool
 }
 
 impl WorldData {
-    /// An event comes to a Script that isn't run: one of its inputOutput fields is set and sent.
+    /// Handles an event at a Script that isn't run: sets and sends one of its inputOutput fields.
     pub(crate) fn set_script(
         &mut self,
         alloc: Global,

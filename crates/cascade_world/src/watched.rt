@@ -1,4 +1,4 @@
-//! Items by their numbers, most of which are at rest: that is told of many at once.
+//! Items by their numbers, most of which are at rest. One mark says so for many items at once.
 
 ghost use Rattle.std.specs.Prelude.{◌≡◌, ◌<◌, ◌^◌, ◌/◌, ℕ, Bool, IsTrue, Some, true, false, length, option_copied, slice_get, slice_set};
 ghost use Rattle.std.specs.List.{list_all};
@@ -7,25 +7,25 @@ use std::alloc::AllocError;
 use std::marker::Model;
 use std::mem;
 
-/// How many items one mark stands for.
+/// The number of items that one mark covers.
 pub const BLOCK: u32 = 32;
 
 pub(crate) const WIDTH: usize = BLOCK as usize;
 
-/// What is at rest, or isn't.
+/// An item that may be at rest.
 pub trait Rests: Drop {
-    /// Whether it is at rest.
+    /// Whether the item is at rest.
     ghost rests: { Self → Bool };
 
     fn is_at_rest(&self) -> bool
         ensures { result ≡ rests self.now };
 }
 
-/// Items by their numbers, and which of them are known to be at rest. Contracts see the items.
+/// Items by their numbers, with marks for those known to be at rest. Contracts see only the items.
 #[derive(Drop)]
 pub struct Watched<T: Rests> {
     items: Vec<T>,
-    /// Of each 32 items whether all are known to be at rest.
+    /// For each block of 32 items, whether all of them are known to be at rest.
     resting: Vec<bool>,
 }
 
@@ -43,7 +43,7 @@ impl<T: Rests> Model for Watched<T> {
     ghost invariant = { λ w. AreResting T.rests w.items.items w.resting.items };
 }
 
-/// Whether each of them is at rest.
+/// Reports whether every item is at rest.
 fn all_rest<T: Rests>(items: &[T]) -> bool
     ensures { result ≡ list_all T.rests items.now }
 {
@@ -58,7 +58,7 @@ fn all_rest<T: Rests>(items: &[T]) -> bool
     }
 }
 
-/// Nothing is known of a block any more.
+/// Forgets what is known of a block.
 fn unmark(resting: &mut [bool], block: usize)
     ensures { resting.new ≡ slice_set resting.old block false }
 {
@@ -68,6 +68,7 @@ fn unmark(resting: &mut [bool], block: usize)
 }
 
 impl<T: Rests> Watched<T> {
+    /// Makes a list of these items; none is known to be at rest.
     pub fn from_vec(items: Vec<T>) -> Watched<T>
         ensures { result ≡ items.items }
     {
@@ -75,25 +76,28 @@ impl<T: Rests> Watched<T> {
         Watched { items, resting }
     }
 
+    /// Returns the items.
     pub fn as_slice(&self) -> &[T]
         ensures { result.now ≡ self.now }
     {
         self.items.as_slice()
     }
 
+    /// Returns the number of items.
     pub fn len(&self) -> usize
         ensures { result ≡ length self.now }
     {
         self.items.len()
     }
 
+    /// Returns the item at a place, if there is one.
     pub fn get(&self, at: usize) -> Option<&T>
         ensures { option_copied result ≡ slice_get self.now at }
     {
         self.items.get(at)
     }
 
-    /// Puts the item in place of the one at that place.
+    /// Replaces the item at a place.
     pub fn set(&mut self, at: usize, item: T)
         requires { at < length self.old }
         ensures { self.new ≡ slice_set self.old at item }
@@ -101,7 +105,7 @@ impl<T: Rests> Watched<T> {
         drop(self.replace(at, item));
     }
 
-    /// Puts the item in place of the one at that place, and gives that back.
+    /// Replaces the item at a place and returns the old one.
     pub fn replace(&mut self, at: usize, item: T) -> T
         requires { at < length self.old }
         ensures before { Some result ≡ slice_get self.old at }
@@ -111,7 +115,7 @@ impl<T: Rests> Watched<T> {
         mem::replace(&mut self.items[at], item)
     }
 
-    /// Whether each item of a block is known to be at rest.
+    /// Reports whether every item of a block is known to be at rest.
     pub fn is_resting(&self, block: u32) -> bool
         ensures { (i : ℕ) (x : T) → IsTrue result → i / 32 ≡ block
             → slice_get self.now i ≡ Some x → T.rests x ≡ true }
@@ -122,7 +126,7 @@ impl<T: Rests> Watched<T> {
         }
     }
 
-    /// Takes room for the marks; nothing is known of any block then.
+    /// Makes room for the marks. If room is made, nothing is known of any block afterwards.
     fn make_room(&mut self) -> Result<(), AllocError>
         ensures { self.new ≡ self.old }
     {
@@ -135,8 +139,8 @@ impl<T: Rests> Watched<T> {
         Ok(())
     }
 
-    /// Remembers of a block whether each of its items is at rest. Where memory for that is refused
-    /// nothing is remembered.
+    /// Remembers whether every item of a block is at rest. Remembers nothing if memory for that is
+    /// refused.
     pub fn look_at(&mut self, block: u32)
         ensures { self.new ≡ self.old }
     {

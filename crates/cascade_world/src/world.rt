@@ -1,4 +1,4 @@
-//! The state of a scene after some inputs, and in the course of one.
+//! The state of a scene after some inputs, and in the course of an input.
 
 ghost use Rattle.std.specs.Prelude.{◌≡◌, ◌+◌, OnOk, is_none};
 ghost use Rattle.sensor_plane.specs.Pointing.{is_resting};
@@ -13,21 +13,21 @@ use sensor_plane::PointingSlot;
 use std::alloc::{AllocError, Global};
 use x3d_values::{MAX_VIEWERS, Stamped, Value};
 
-/// How many viewers have buttons.
+/// The number of viewers that have buttons.
 pub const VIEWERS: usize = MAX_VIEWERS as usize;
 
 /// The state of a scene after some inputs.
 #[derive(Drop)]
 pub struct WorldData {
-    /// How many inputs were applied.
+    /// The number of inputs applied.
     pub applied: u32,
-    /// The time of the last of them in microseconds, or 0.
+    /// The time of the last input in microseconds, or 0.
     pub last_time: i64,
     pub fields: State,
-    /// Which cycle each node runs, by its number: none but a TimeSensor runs one.
+    /// The cycle that each node runs, by its number. Only TimeSensors run cycles.
     pub sensors: Watched<TimeState>,
-    /// Whose pointers are over each node, and who presses it, by its number: nothing is kept of a
-    /// node that is no pointing sensor.
+    /// The viewers whose pointers are over each node, and the viewer that presses it, by the node's
+    /// number. Nothing is kept for a node that isn't a pointing sensor.
     pub pointing: Watched<PointingSlot>,
     /// Whether each viewer's button is down, by its number.
     pub buttons: [bool; VIEWERS],
@@ -44,7 +44,7 @@ impl Rests for TimeState {
     }
 }
 
-/// A pointing sensor is at rest while no pointer is over it, and nobody presses it.
+/// A pointing sensor is at rest while no pointer is over it and no viewer presses it.
 impl Rests for PointingSlot {
     ghost rests = { is_resting };
 
@@ -61,7 +61,7 @@ pub struct Live {
 }
 
 impl Live {
-    /// An input begins: no output has sent yet.
+    /// Begins an input: no output has sent yet.
     pub fn begin(&mut self, input: &Stamped)
         requires next { input.now.number ≡ self.old.world.applied + 1 }
         ensures { self.new ≡ begin_of self.old.world input.now }
@@ -71,7 +71,8 @@ impl Live {
         self.sent.clear();
     }
 
-    /// Records an event: it stands in the trace, and its output has sent.
+    /// Records an event: appends it to the trace, and marks its output as having sent. Fails with
+    /// `AllocError` if memory runs out.
     pub fn record_event(
         &mut self,
         alloc: Global,

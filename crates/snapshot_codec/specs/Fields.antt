@@ -1,4 +1,4 @@
--- What a node keeps of its fields, as bytes (our choice).
+-- The kept fields of a node, as bytes (our choice).
 use Rattle.std.specs.Prelude.{ℕ, ◌==◌, ◌&&◌, pos, Bool, true, false, List, [], Option, Some, None, int_lt, if◌then◌else◌}
 use Rattle.std.specs.List.{flat_map}
 use Rattle.byte_codec.specs.Codec.{Codec, ◌>>?◌, only_if, rows_at, rows_fit}
@@ -14,9 +14,9 @@ use Rattle.snapshot_codec.specs.declared.kept.KeptField.{KeptField}
 use Rattle.snapshot_codec.specs.declared.kept.KeptField.TheVariants.{Absent, Interval, Typed}
 use Rattle.snapshot_codec.specs.Values.{value_text, value_at, value_fits}
 
--- ---- which fields stand in a snapshot
+-- -- which fields a snapshot holds
 
--- node fields and rotations don't
+-- all but node fields and rotations
 abbrev pub has_bytes : FieldType → Bool
 has_bytes types.SFNode = false
 has_bytes types.MFNode = false
@@ -28,7 +28,7 @@ abbrev pub is_interval : NodeType → ℕ → Bool
 is_interval TimeSensor number = number == 1
 is_interval _ number = false
 
--- what a snapshot has of the field of that number of a node: inputOutput fields stand in it
+-- what a snapshot holds of a node's field of that number: only inputOutput fields
 abbrev pub kept_field : NodeType → ℕ → Access → FieldType → KeptField
 kept_field node_type number InputOutput field_type =
     if is_interval node_type number then Interval
@@ -65,7 +65,7 @@ kept_fits (Typed t) (Some v) = value_fits t v
 abbrev pub kept_codec : KeptField → Codec (Option Value)
 kept_codec kept = record { write = kept_text; read = kept_at kept; fits = kept_fits kept }
 
--- what a node keeps at each field's number, one after the other
+-- what a node keeps of each field, in order
 abbrev pub fields_codec : List KeptField → Codec (List (Option Value))
 fields_codec fields = record {
   write = flat_map kept_text;

@@ -25,11 +25,11 @@ progress_codec = named (λ t. record { boot = t.0; applied = t.1.0; last_time = 
 abbrev pub front : ℕ → List ℕ → List ℕ
 front version mark = codes "X3DW" ++ version ∷ mark
 
--- bytes, and their SHA-256 behind them
+-- bytes followed by their SHA-256
 abbrev pub sealed : List ℕ → List ℕ
 sealed bytes = bytes ++ sha256 bytes
 
--- the one snapshot with this body: all that stands behind the mark and before the digest
+-- the one snapshot with this body: the bytes between the mark and the digest
 abbrev pub snapshot : ℕ → List ℕ → List ℕ → List ℕ
 snapshot version mark body = sealed (front version mark ++ body)
 
@@ -39,7 +39,7 @@ snapshot version mark body = sealed (front version mark ++ body)
 abbrev pub unsealed : List ℕ → List ℕ
 unsealed bytes = take (length bytes - 32) bytes
 
--- what is wrong before the body: the first of these that holds
+-- what is wrong with the head or the digest: the first of these that holds
 abbrev pub head_fault : ℕ → List ℕ → List ℕ → Option HeadFault
 head_fault version mark bytes =
     if nat_lt (length bytes) 85 then Some Short
@@ -52,7 +52,7 @@ head_fault version mark bytes =
     else Some BadVersion)
     else Some BadMagic)
 
--- the body, or what is wrong before it
+-- the body, or the fault
 abbrev pub body_or : List ℕ → Option HeadFault → Result (List ℕ) HeadFault
 body_or bytes None = Ok (slice_range bytes 37 (length bytes - 32))
 body_or bytes (Some fault) = Err fault

@@ -1,4 +1,5 @@
--- What stands behind a node's fields, and what a world has beside its nodes, as bytes (our choice).
+-- The parts after a node's fields, and the parts of a world other than its nodes, as bytes (our
+-- choice).
 use Rattle.std.specs.Prelude.{ℕ, ◌-◌, ◌^◌, ◌++◌, ◌==◌, ◌&&◌, ℤ, pos, Bool, true, false, List, length, Option, Some, None, nat_le, nat_lt, int_lt, unsigned_abs, if◌then◌else◌}
 use Rattle.std.specs.Int.{Width, w16, w32, w64}
 use Rattle.std.specs.List.{flat_map}
@@ -12,7 +13,7 @@ use Rattle.snapshot_codec.specs.declared.viewers.Viewers.TheVariants.{Sixteen, S
 use Rattle.snapshot_codec.specs.declared.viewers.Touch.{Touch}
 use Rattle.snapshot_codec.specs.Values.{list_of, restricted, vector3}
 
--- ---- a TimeSensor: whether it is active, and the number of its cycle, which is 0 where it isn't
+-- -- a TimeSensor: whether it is active, and the number of its cycle, 0 if it is inactive
 
 abbrev pub cycle_in : Bool × ℤ → Option (Option ℕ)
 cycle_in parts =
@@ -28,7 +29,7 @@ abbrev pub cycle_fits : Option ℕ → Bool
 cycle_fits None = true
 cycle_fits (Some n) = nat_lt n (2 ^ 63)
 
--- the number of the cycle that runs, if one does
+-- the number of the cycle that runs, if there is one
 unfoldable pub cycle_codec : Codec (Option ℕ)
 cycle_codec = refined cycle_in cycle_parts cycle_fits (pair truth (signed w64))
 
@@ -45,8 +46,7 @@ set_width SixtyFour = w64
 unfoldable pub viewer_set_codec : Viewers → Codec ℕ
 viewer_set_codec viewers = number (set_width viewers)
 
--- ---- a TouchSensor: the viewers over it, and the one that presses it, which is 255 where none
--- does
+-- -- a TouchSensor: the viewers over it, and the one that presses it, 255 if there is none
 
 abbrev pub presser_in : ℕ → ℕ → Option (Option ℕ)
 presser_in count n =
@@ -84,7 +84,7 @@ path_codec = record {
   fits = λ path. path_length.fits (length path) && all_fit (number w32) path;
 }
 
--- where a viewer pressed, the last translation, and the way to the list with the sensor
+-- where the press began, the last translation, and the path to the list with the sensor
 abbrev pub Held : Type 0
 Held = Vec3 × (Vec3 × List ℕ)
 
@@ -98,7 +98,7 @@ abbrev pub drag_with : ℕ → Held → Drag
 drag_with presser held =
     record { presser = presser; start = held.0; last = held.1.0; path = held.1.1 }
 
--- the viewer that presses, which is 255 where none does, and what is kept of its drag
+-- the viewer that presses, 255 if there is none, and what is kept of its drag
 abbrev pub drag_text : Option Drag → List ℕ
 drag_text None = (presser_codec SixtyFour).write None
 drag_text (Some drag) =
@@ -125,8 +125,7 @@ unfoldable pub plane_codec : Codec Plane
 plane_codec = named (λ t. record { over = t.0; drag = t.1 }) (λ p. (p.over, p.drag))
     (pair (viewer_set_codec SixtyFour) drag_codec)
 
--- ---- a sequencer: the position of the value that it sent last, which is 2^32 - 1 where it sent
--- none
+-- -- a sequencer: the position of the value that it sent last, 2^32 - 1 if it sent none
 
 abbrev pub position_in : ℕ → Option Position
 position_in n =
@@ -148,6 +147,6 @@ position_codec = refined position_in (λ p. place_number p.at) (λ p. place_fits
 unfoldable pub state_codec : Codec (List ℤ)
 state_codec = list_of (signed w64)
 
--- the states of so many scripts
+-- the states of `count` scripts
 abbrev pub states_codec : ℕ → Codec (List (List ℤ))
 states_codec count = times count state_codec

@@ -22,7 +22,7 @@ sent_at_codec = named (λ t. record { input = t.0; time = t.1.0; node = t.1.1.0;
     (λ s. (s.input, (s.time, (s.node, s.field))))
     (pair (number w32) (pair moment_codec (pair (number w32) (number w16))))
 
--- a value of that type; where no type is given there is none
+-- a value of that type; no value without a type
 abbrev pub typed_at : Option FieldType → List ℕ → Option (Value × List ℕ)
 typed_at None bytes = None
 typed_at (Some t) bytes = value_at t bytes
@@ -34,8 +34,8 @@ typed_fits (Some t) v = value_fits t v
 abbrev pub typed_codec : Option FieldType → Codec Value
 typed_codec t = record { write = value_text; read = typed_at t; fits = typed_fits t }
 
--- where and when an event was sent, and its value, by the types of the outputs: that of a node's
--- field, if events of it can be sent
+-- where and when an event was sent, and its value; `types` gives the type of a node's output, if
+-- the field sends events
 unfoldable pub entry_codec : (ℕ → ℕ → Option FieldType) → Codec TraceEntry
 entry_codec types = named (λ x. record { sent = x.0; value = x.1 }) (λ e. (e.sent, e.value))
     (depends sent_at_codec (λ s. typed_codec (types s.node s.field)))

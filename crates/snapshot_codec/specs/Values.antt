@@ -1,5 +1,5 @@
--- The values of fields as bytes (our choice). Which bytes a value has is said for all values; which
--- values are read again, by the type of their field, for those in the ranges of that type.
+-- The values of fields as bytes (our choice). Every value has defined bytes. A value is read back,
+-- by the type of its field, if it is in the range of that type.
 use Rattle.std.specs.Prelude.{ℕ, ◌^◌, ℤ, Bool, false, List, [], Option, Some, None, nat_le, unsigned_abs}
 use Rattle.std.specs.Int.{w32, w64}
 use Rattle.std.specs.Str.{is_utf8}
@@ -13,7 +13,7 @@ use Rattle.x3d_values.specs.declared.field_type.FieldType.TheVariants as types
 use Rattle.x3d_values.specs.declared.value.Value.{Value}
 use Rattle.x3d_values.specs.declared.value.Value.TheVariants.{SFBool, SFInt32, SFFloat, SFTime, SFString, SFVec2f, SFVec3f, SFColor, SFNode, MFBool, MFInt32, MFFloat, MFTime, MFString, MFVec2f, MFVec3f, MFColor, MFNode}
 
--- the values that pass a test, which says that they have bytes
+-- only the values that pass a test
 abbrev pub restricted : {A : Type 0} → (A → Bool) → Codec A → Codec A
 restricted p c = refined (only_if p) (λ x. x) p c
 
@@ -34,9 +34,9 @@ number = within max_coordinate
 abbrev pub time : Codec ℤ
 time = within max_time
 
--- ---- what is made of numbers and of bytes
+-- -- values made of numbers and bytes
 
--- its bytes are UTF-8
+-- a string whose bytes are UTF-8
 unfoldable pub text : Codec (List ℕ)
 text = checked is_utf8 string
 
@@ -82,11 +82,11 @@ value_text (MFVec3f items) = (list_of vector3).write items
 value_text (MFColor items) = (list_of color).write items
 value_text (MFNode _) = []
 
--- what is read by a codec, as a value
+-- what a codec reads, as a value
 abbrev pub read_as : {A : Type 0} → Codec A → (A → Value) → List ℕ → Option (Value × List ℕ)
 read_as c make bytes = c.read bytes >>? at_front (λ x. Some (make x))
 
--- the value of a field of lists of that type; a list of nodes has none
+-- the value of a field of lists of that type; none for a list of nodes
 unfoldable pub list_at : FieldType → List ℕ → Option (Value × List ℕ)
 list_at types.MFBool bytes = read_as (list_of truth) (λ x. MFBool x) bytes
 list_at types.MFInt32 bytes = read_as (list_of (signed w32)) (λ x. MFInt32 x) bytes
@@ -98,7 +98,7 @@ list_at types.MFVec3f bytes = read_as (list_of vector3) (λ x. MFVec3f x) bytes
 list_at types.MFColor bytes = read_as (list_of color) (λ x. MFColor x) bytes
 list_at _ bytes = None
 
--- the value of a field of that type; a field of nodes, and a rotation, has none
+-- the value of a field of that type; none for a field of nodes or a rotation
 unfoldable pub value_at : FieldType → List ℕ → Option (Value × List ℕ)
 value_at types.SFBool bytes = read_as truth (λ x. SFBool x) bytes
 value_at types.SFInt32 bytes = read_as (signed w32) (λ x. SFInt32 x) bytes
@@ -110,7 +110,7 @@ value_at types.SFVec3f bytes = read_as vector3 (λ x. SFVec3f x) bytes
 value_at types.SFColor bytes = read_as color (λ x. SFColor x) bytes
 value_at t bytes = list_at t bytes
 
--- the value is one of that type, in the type's ranges
+-- the value is of that type and in the type's range
 unfoldable pub value_fits : FieldType → Value → Bool
 value_fits types.SFBool (SFBool x) = truth.fits x
 value_fits types.SFInt32 (SFInt32 x) = (signed w32).fits x

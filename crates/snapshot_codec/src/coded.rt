@@ -1,4 +1,4 @@
-//! What has bytes of its own, and lists of it.
+//! Values that have their own bytes, and lists of such values.
 
 ghost use Rattle.std.specs.Prelude.{◌≡◌, ◌++◌, OnOk};
 ghost use Rattle.std.specs.Int.{w32, w64};
@@ -15,21 +15,21 @@ use std::alloc::{AllocError, Global};
 use x3d_lists::{Items, Text};
 use x3d_values::{Color, Vec2, Vec3};
 
-/// What has bytes.
+/// A value that has its own bytes.
 pub(crate) trait Coded: Drop {
     ghost codec: { Codec Self };
 
-    /// The value at the front of the bytes, and the bytes behind it.
+    /// Reads the value at the front of the bytes and returns it with the rest.
     fn read(alloc: Global, bytes: &[u8]) -> Result<(Self, &[u8]), PartFault>
         ensures { ReadsPart (λ x. (x.0, x.1.now)) result (codec.read bytes.now) };
 
-    /// Appends the bytes; on a refusal perhaps a part of them.
+    /// Appends the bytes of the value. On `AllocError`, `out` may hold a part of them.
     fn push_to(&self, out: &mut Vec<u8>) -> Result<(), AllocError>
         ensures ok { OnOk result (out.new.items ≡ out.old.items ++ codec.write self.now) }
         ensures kept { Extends out.old.items out.new.items };
 }
 
-/// That many values.
+/// Reads `count` values.
 pub(crate) fn many_of<T: Coded>(
     alloc: Global,
     count: u32,
@@ -56,7 +56,7 @@ pub(crate) fn many_of<T: Coded>(
     Ok((items, rest))
 }
 
-/// A count, and that many values.
+/// Reads a u32 count and that many values.
 pub(crate) fn list_of<T: Coded>(alloc: Global, bytes: &[u8]) -> Result<(Items<T>, &[u8]), PartFault>
     ensures { ReadsPart (λ x. (x.0, x.1.now)) result ((list_of T.codec).read bytes.now) }
 {
@@ -66,7 +66,7 @@ pub(crate) fn list_of<T: Coded>(alloc: Global, bytes: &[u8]) -> Result<(Items<T>
     many_of::<T>(alloc, count, rest)
 }
 
-/// That many numbers of sizes up to the limit.
+/// Reads `count` numbers, each of a size up to `limit`.
 pub(crate) fn many_within(
     alloc: Global,
     limit: u64,
@@ -87,7 +87,7 @@ pub(crate) fn many_within(
     Ok((items, rest))
 }
 
-/// A count, and that many numbers of sizes up to the limit.
+/// Reads a u32 count and that many numbers, each of a size up to `limit`.
 pub(crate) fn list_within(
     alloc: Global,
     limit: u64,
@@ -101,7 +101,7 @@ pub(crate) fn list_within(
     many_within(alloc, limit, count, rest)
 }
 
-/// Appends the items; on a refusal perhaps a part of them.
+/// Appends the items. On `AllocError`, `out` may hold a part of them.
 pub(crate) fn push_many<T: Coded>(items: &[T], out: &mut Vec<u8>) -> Result<(), AllocError>
     ensures ok { OnOk result (out.new.items ≡ out.old.items ++ flat_map T.codec.write items.now) }
     ensures kept { Extends out.old.items out.new.items }
@@ -112,7 +112,7 @@ pub(crate) fn push_many<T: Coded>(items: &[T], out: &mut Vec<u8>) -> Result<(), 
     Ok(())
 }
 
-/// Appends the count and the items; on a refusal perhaps a part of them.
+/// Appends the count and the items. On `AllocError`, `out` may hold a part of them.
 pub(crate) fn push_list<T: Coded>(items: &[T], out: &mut Vec<u8>) -> Result<(), AllocError>
     ensures ok { OnOk result (out.new.items ≡ out.old.items ++ (list_of T.codec).write items.now) }
     ensures kept { Extends out.old.items out.new.items }
@@ -158,7 +158,7 @@ impl Coded for u32 {
     }
 }
 
-/// A number of any size.
+/// Any 64-bit number.
 impl Coded for i64 {
     ghost codec = { signed w64 };
 

@@ -1,4 +1,4 @@
-//! That each codec is exact: it reads what it writes, and nothing else.
+//! Each codec is exact: it reads what it writes, and nothing else.
 
 ghost use Rattle.std.specs.Prelude.{ℕ, List, Option};
 ghost use Rattle.byte_codec.specs.Exact.{IsExact};
@@ -11,7 +11,7 @@ ghost use Rattle.snapshot_codec.specs.Parts.{cycle_codec, plane_codec, position_
 ghost use Rattle.snapshot_codec.specs.Trace.{entry_codec, trace_codec};
 ghost use Rattle.snapshot_codec.specs.Values.{value_codec};
 
-/// What a snapshot has of a node, and of the scripts.
+/// The codecs for the parts of a node and for the states of scripts are exact.
 pub fn nodes_are_exact()
     ensures value { (t : FieldType) → IsExact (value_codec t) }
     ensures fields { (fields : List KeptField) → IsExact (fields_codec fields) }
@@ -23,7 +23,7 @@ pub fn nodes_are_exact()
     ensures states { (count : ℕ) → IsExact (states_codec count) }
 {}
 
-/// What a snapshot has beside its nodes.
+/// The codecs for the other parts of a snapshot are exact.
 pub fn worlds_are_exact()
     ensures progress { IsExact progress_codec }
     ensures viewers { (viewers : Viewers) → IsExact (viewer_set_codec viewers) }

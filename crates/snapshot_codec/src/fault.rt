@@ -1,4 +1,4 @@
-//! Why bytes are no snapshot.
+//! Why bytes are not a snapshot.
 
 ghost use Rattle.snapshot_codec.specs.declared.fault.PartFault.TheVariants.{Memory};
 
@@ -6,7 +6,7 @@ use std::alloc::{AllocError, AllocFailed};
 use thiserror::Error;
 
 /// Why a part of a snapshot wasn't read: the bytes aren't those of a value in its range
-/// (`NotCanonical`), or memory was refused.
+/// (`NotCanonical`), or memory ran out (`Memory`).
 #[derive(Clone, Copy, Debug, PartialEq, Eq, Error)]
 pub enum PartFault {
     #[error("the bytes are not those of a value in its range")]

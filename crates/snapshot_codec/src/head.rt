@@ -21,9 +21,9 @@ const MAGIC: &[u8; 4] = b"X3DW";
 /// The least length of a snapshot: the head of 53 bytes and the digest of 32.
 const LEAST: usize = 85;
 
-/// Why bytes are no snapshot of a scene, before their body is looked at. Of these the first that
-/// holds is told: fewer than 85 bytes; another magic; another version; another scene's mark; a
-/// digest at the end that isn't that of the bytes before it.
+/// Why the head or the digest of a snapshot was rejected. The checks run in this order, and the
+/// first that fails is reported: fewer than 85 bytes; another magic; another version; another
+/// scene's mark; a digest at the end that isn't that of the bytes before it.
 #[derive(Clone, Copy, Debug, PartialEq, Eq, Error)]
 pub enum HeadFault {
     #[error("the bytes are too few for a snapshot")]
@@ -38,25 +38,25 @@ pub enum HeadFault {
     BadDigest,
 }
 
-/// Whose snapshot it is, and how far its world had come.
+/// Which start of a viewer a snapshot is from, and how far the world had advanced.
 #[derive(Clone, Copy, PartialEq, Eq)]
 pub struct Progress {
-    /// Which start of the viewer.
+    /// The number of the viewer's start.
     pub boot: u32,
-    /// How many inputs were applied, up to 2^20.
+    /// The number of inputs applied, up to 2^20.
     pub applied: u32,
-    /// The time of the last of them in microseconds, 0 to 10^18.
+    /// The time of the last input in microseconds, 0 to 10^18.
     pub last_time: i64,
 }
 
-/// The mark of a scene: the SHA-256 of its text.
+/// Returns the mark of a scene: the SHA-256 of its text.
 pub fn scene_mark(text: &[u8]) -> [u8; 32]
     ensures { result ≡ sha256 text.now }
 {
     Sha256::digest(text)
 }
 
-/// Whether the last 32 bytes are the digest of those before them.
+/// Reports whether the last 32 bytes are the digest of those before them.
 fn is_sealed(bytes: &[u8]) -> bool
     requires { 32 ≤ length bytes.now }
     ensures { result
@@ -66,7 +66,7 @@ fn is_sealed(bytes: &[u8]) -> bool
     digest == Sha256::digest(body).as_slice()
 }
 
-/// What is wrong before the body.
+/// Returns the first fault of the head or the digest, if there is one.
 fn head_fault(version: u8, mark: &[u8; 32], bytes: &[u8]) -> Option<HeadFault>
     ensures value { result ≡ head_fault version mark.now bytes.now }
     ensures long { IfNone result (85 ≤ length bytes.now) }
@@ -99,22 +99,23 @@ fn opened<'a>(version: u8, mark: &[u8; 32], bytes: &'a [u8]) -> Result<&'a [u8],
     }
 }
 
-/// The body of a snapshot of this version and scene: the bytes behind the mark, up to the digest.
+/// Returns the body of a snapshot of this version and scene: the bytes between the mark and the
+/// digest. Returns a `HeadFault` if a check of the head or the digest fails.
 pub fn open<'a>(version: u8, mark: &[u8; 32], bytes: &'a [u8]) -> Result<&'a [u8], HeadFault>
-    // The bytes are the snapshot with that body.
+    // Returned bytes are the body of exactly this snapshot.
     ensures found { IfOk result (λ body. bytes.now ≡ snapshot version mark.now body.now) }
-    // The snapshot with a body of 16 bytes or more is opened to that body.
+    // A snapshot whose body has 16 bytes or more is opened to that body.
     ensures only { (body : List ℕ) → 16 ≤ length body → bytes.now ≡ snapshot version mark.now body
         → result_map_both (λ body. body.now) (λ fault. fault) result ≡ Ok body }
-    // Which fault it is.
+    // The exact result, faults included.
     ensures exact { result_map_both (λ body. body.now) (λ fault. fault) result
         ≡ opened version mark.now bytes.now }
 {
     opened(version, mark, bytes)
 }
 
-/// Appends what stands before the body: `X3DW`, the version and the mark of the scene. On a refusal
-/// the buffer is as it was.
+/// Appends the bytes before the body: `X3DW`, the version and the mark of the scene. On
+/// `AllocError` the buffer is unchanged.
 pub fn push_front(version: u8, mark: &[u8; 32], out: &mut Vec<u8>) -> Result<(), AllocError>
     ensures ok { OnOk result (out.new.items ≡ out.old.items ++ front version mark.now) }
     ensures err { OnErr result (out.new.items ≡ out.old.items) }
@@ -123,8 +124,7 @@ pub fn push_front(version: u8, mark: &[u8; 32], out: &mut Vec<u8>) -> Result<(),
     push_pieces(&pieces, out)
 }
 
-/// Appends the SHA-256 of what stands behind the first `from` bytes. On a refusal the buffer is as
-/// it was.
+/// Appends the SHA-256 of the bytes from `from` on. On `AllocError` the buffer is unchanged.
 pub fn push_digest(from: usize, out: &mut Vec<u8>) -> Result<(), AllocError>
     requires { from ≤ length out.old.items }
     ensures ok { OnOk result (out.new.items ≡ out.old.items ++ sha256 (drop from out.old.items)) }
@@ -147,8 +147,9 @@ fn applied_of(bytes: &[u8]) -> Option<(u32, &[u8])>
     }
 }
 
-/// How far a world had come, at the front of the bytes, and the bytes behind it: boot u32, applied
-/// u32 (up to 2^20), last time i64 (0 to 10^18).
+/// Reads how far a world had advanced: boot u32, applied u32 (up to 2^20), last time i64 (0 to
+/// 10^18). Returns it with the rest of the bytes, or `None` if the bytes are too few or a number is
+/// out of its range.
 #[tactic(auto, unfolding(crate::specs::Head::progress_codec))]
 pub fn progress_of(bytes: &[u8]) -> Option<(Progress, &[u8])>
     ensures { option_map (λ x. (x.0, x.1.now)) result ≡ progress_codec.read bytes.now }
@@ -170,7 +171,7 @@ pub fn progress_of(bytes: &[u8]) -> Option<(Progress, &[u8])>
     Some((progress, rest))
 }
 
-/// Appends how far a world had come. On a refusal the buffer is as it was.
+/// Appends how far a world had advanced. On `AllocError` the buffer is unchanged.
 pub fn push_progress(progress: Progress, out: &mut Vec<u8>) -> Result<(), AllocError>
     ensures ok { OnOk result (out.new.items ≡ out.old.items ++ progress_codec.write progress) }
     ensures err { OnErr result (out.new.items ≡ out.old.items) }

@@ -1,4 +1,4 @@
-//! What a node keeps of its fields, as bytes.
+//! The kept fields of a node, as bytes.
 
 ghost use Rattle.std.specs.Prelude.{◌≡◌, ◌++◌, OnErr, OnOk};
 ghost use Rattle.std.specs.List.{flat_map};
@@ -17,10 +17,10 @@ use x3d_values::{Access, FieldType, Items, NodeType, Value};
 /// The number of a TimeSensor's `cycleInterval`.
 const CYCLE_INTERVAL: u16 = 1;
 
-/// What a snapshot has of a field.
+/// What a snapshot holds of a field.
 #[derive(Clone, Copy, PartialEq, Eq)]
 pub enum KeptField {
-    /// Nothing: the field keeps no value, or is one of nodes or of a rotation.
+    /// Nothing: the field keeps no value, or holds nodes or a rotation.
     Absent,
     /// A time above 0.
     Interval,
@@ -46,9 +46,9 @@ fn is_interval(node_type: NodeType, number: u16) -> bool
     }
 }
 
-/// What a snapshot has of a field, by the type of its node, its number there, its access and its
-/// type: inputOutput fields, but for those of nodes and rotations, and of a TimeSensor's
-/// `cycleInterval` a time above 0.
+/// Returns what a snapshot holds of a field, from the type of its node, its number there, its
+/// access and its type. A snapshot holds the inputOutput fields, except those of nodes and
+/// rotations. For a TimeSensor's `cycleInterval` it holds a time above 0.
 pub fn kept_field(
     node_type: NodeType,
     number: u16,
@@ -71,7 +71,7 @@ pub fn kept_field(
     }
 }
 
-/// A time above 0.
+/// Reads a time above 0.
 #[tactic(auto, unfolding(crate::specs::Fields::kept_at, crate::specs::Values::value_at))]
 fn interval_of(bytes: &[u8]) -> Result<(Option<Value>, &[u8]), PartFault>
     ensures { ReadsPart (λ x. (x.0, x.1.now)) result ((kept_codec Interval).read bytes.now) }
@@ -86,7 +86,7 @@ fn interval_of(bytes: &[u8]) -> Result<(Option<Value>, &[u8]), PartFault>
     }
 }
 
-/// What a node keeps of a field, at the front of the bytes.
+/// Reads what a node keeps of one field.
 #[tactic(auto, unfolding(crate::specs::Fields::kept_at))]
 fn kept_value_of(
     alloc: Global,
@@ -105,8 +105,9 @@ fn kept_value_of(
     }
 }
 
-/// What a node keeps of its fields, at the front of the bytes, and the bytes behind it: for each
-/// field in order its value, and nothing where a snapshot has nothing of it.
+/// Reads what a node keeps of its fields: for each field in order its value, and `None` for a field
+/// that a snapshot doesn't hold. Returns the values with the rest of the bytes. Returns
+/// `NotCanonical` if the bytes aren't values of these fields, and `Memory` if memory runs out.
 pub fn kept_fields_of<'a>(
     alloc: Global,
     fields: &[KeptField],
@@ -153,7 +154,7 @@ fn push_all_kept(values: &[Option<Value>], out: &mut Vec<u8>) -> Result<(), Allo
     Ok(())
 }
 
-/// Appends the bytes of what a node keeps of its fields. On a refusal the buffer is as it was.
+/// Appends the bytes of a node's kept fields. On `AllocError` the buffer is unchanged.
 pub fn push_kept_fields(values: &[Option<Value>], out: &mut Vec<u8>) -> Result<(), AllocError>
     ensures ok { OnOk result (out.new.items ≡ out.old.items ++ flat_map kept_text values.now) }
     ensures err { OnErr result (out.new.items ≡ out.old.items) }

@@ -1,10 +1,10 @@
-//! The parts of a world as bytes, and exactly back: what a snapshot is made of.
+//! The parts of a world as bytes, and back, exactly. A snapshot is made of these parts.
 //!
-//! Each part is described once by a codec (`specs/`): which bytes a value is written as, which
-//! value stands at the front of bytes, and which values are read again. The functions named `_of`
-//! read the front of bytes and give what stands behind; those named `push_` append, and leave the
-//! buffer as it was where a growth is refused. `open` tests the head and the digest of a whole
-//! snapshot.
+//! Each part is described once by a codec (`specs/`): the bytes that a value is written as, the
+//! value that is read from the front of bytes, and the values that are read back unchanged.
+//! Functions named `_of` read from the front of the bytes and return the rest. Functions named
+//! `push_` append, and leave the buffer unchanged if it can't grow. `open` checks the head and the
+//! digest of a whole snapshot.
 #![tactic(auto)]
 
 mod coded;

@@ -1,4 +1,4 @@
-//! Numbers at the end and at the front of bytes, the highest byte first.
+//! Numbers at the end and at the front of bytes, highest byte first.
 
 ghost use Rattle.std.specs.Prelude.{◌≡◌, ◌++◌, OnErr, OnOk};
 ghost use Rattle.std.specs.Int.{w16, w32, w64, cast_unsigned};
@@ -9,8 +9,8 @@ ghost use Rattle.snapshot_codec.specs.Values.{within};
 use byte_codec::i64_of;
 use std::alloc::AllocError;
 
-/// The bytes of a signed number. It is lent: what is passed by value, contracts see as a number of
-/// 64 bits that is read back, and `search` loses its way.
+/// Returns the bytes of a signed number. The number is a reference for the prover: by value, the
+/// contract sees a 64-bit number that is read back, and `search` fails.
 #[tactic(auto, unfolding(byte_codec::specs::Codec::number_text))]
 pub(crate) fn signed_bytes(number: &i64) -> [u8; 8]
     ensures { result ≡ number_text w64 (cast_unsigned w64 number.now) }
@@ -52,7 +52,7 @@ pub(crate) fn push_i64(signed: i64, out: &mut Vec<u8>) -> Result<(), AllocError>
     out.extend_from_slice(&signed.to_be_bytes())
 }
 
-/// The count of a list in 32 bits. A list of 2^32 items or more is none that is read again.
+/// Appends the count of a list in 32 bits. A list of 2^32 items or more is not read back.
 #[tactic(auto, unfolding(byte_codec::specs::Codec::number_text))]
 pub(crate) fn push_count(count: usize, out: &mut Vec<u8>) -> Result<(), AllocError>
     ensures ok { OnOk result (out.new.items ≡ out.old.items ++ number_text w32 count) }
@@ -62,7 +62,7 @@ pub(crate) fn push_count(count: usize, out: &mut Vec<u8>) -> Result<(), AllocErr
     out.extend_from_slice(&low.to_be_bytes())
 }
 
-/// The lowest 16 bits of a number.
+/// Appends the lowest 16 bits of a number.
 #[tactic(auto, unfolding(byte_codec::specs::Codec::number_text))]
 pub(crate) fn push_low_16(number: u64, out: &mut Vec<u8>) -> Result<(), AllocError>
     ensures ok { OnOk result (out.new.items ≡ out.old.items ++ number_text w16 number) }
@@ -72,7 +72,7 @@ pub(crate) fn push_low_16(number: u64, out: &mut Vec<u8>) -> Result<(), AllocErr
     out.extend_from_slice(&low.to_be_bytes())
 }
 
-/// The number at the front, where its size is up to the limit.
+/// Reads a number whose size is up to `limit`.
 pub(crate) fn within_of(limit: u64, bytes: &[u8]) -> Option<(i64, &[u8])>
     ensures { option_map (λ x. (x.0, x.1.now)) result ≡ (within limit).read bytes.now }
 {

@@ -1,4 +1,4 @@
-//! What else stands behind a node's fields, and the states of scripts, as bytes.
+//! The parts after a node's fields, and the states of scripts, as bytes.
 
 ghost use Rattle.std.specs.Prelude.{◌≡◌, ◌++◌, ◌<◌, ◌^◌, IfSome, OnErr, OnOk};
 ghost use Rattle.std.specs.Option.{option_map};
@@ -12,7 +12,8 @@ use byte_codec::{flag_of, i64_of, u32_of};
 use std::alloc::{AllocError, Global};
 use x3d_values::{Items, Position, push_pieces};
 
-/// The cycle that a TimeSensor runs, if it is active.
+/// Returns the cycle that a TimeSensor runs, or `Some(None)` if it is inactive. Returns `None` if
+/// the number is negative, or if it isn't 0 for an inactive sensor.
 fn cycle_in(active: bool, number: i64) -> Option<Option<u64>>
     ensures { result ≡ cycle_in (active, number) }
 {
@@ -29,9 +30,9 @@ fn cycle_in(active: bool, number: i64) -> Option<Option<u64>>
     }
 }
 
-/// The cycle that a TimeSensor runs, if it is active, at the front of the bytes, and the bytes
-/// behind it: a byte, 1 where it is active, and an i64 from 0, the number of its cycle, which is 0
-/// where it isn't active.
+/// Reads the cycle that a TimeSensor runs: a byte, 1 if it is active, and an i64 from 0, the number
+/// of its cycle, which is 0 if it is inactive. Returns the cycle (`None` if inactive) with the rest
+/// of the bytes. Returns `None` if the bytes don't encode one.
 #[tactic(auto, using(crate::proofs::Signed::passed), unfolding(crate::specs::Parts::cycle_codec))]
 pub fn cycle_of(bytes: &[u8]) -> Option<(Option<u64>, &[u8])>
     ensures { option_map (λ x. (x.0, x.1.now)) result ≡ cycle_codec.read bytes.now }
@@ -46,7 +47,8 @@ pub fn cycle_of(bytes: &[u8]) -> Option<(Option<u64>, &[u8])>
     Some((cycle, rest))
 }
 
-/// Appends the cycle that a TimeSensor runs, if it is active. On a refusal the buffer is as it was.
+/// Appends the cycle that a TimeSensor runs, if it is active. On `AllocError` the buffer is
+/// unchanged.
 #[tactic(auto, unfolding(crate::specs::Parts::cycle_codec, byte_codec::specs::Codec::number_text))]
 pub fn push_cycle(cycle: Option<u64>, out: &mut Vec<u8>) -> Result<(), AllocError>
     ensures ok { OnOk result (out.new.items ≡ out.old.items ++ cycle_codec.write cycle) }
@@ -58,8 +60,8 @@ pub fn push_cycle(cycle: Option<u64>, out: &mut Vec<u8>) -> Result<(), AllocErro
     }
 }
 
-/// A sequencer's position at the front of the bytes, and the bytes behind it: a u32, 2^32 - 1
-/// where there is none.
+/// Reads a sequencer's position: a u32, 2^32 - 1 if there is none. Returns it with the rest of the
+/// bytes, or `None` if the bytes are too few.
 #[tactic(auto, unfolding(crate::specs::Parts::position_codec))]
 pub fn position_of(bytes: &[u8]) -> Option<(Position, &[u8])>
     ensures { option_map (λ x. (x.0, x.1.now)) result ≡ position_codec.read bytes.now }
@@ -83,7 +85,7 @@ fn place_number(at: Option<u32>) -> u32
     }
 }
 
-/// Appends a sequencer's position. On a refusal the buffer is as it was.
+/// Appends a sequencer's position. On `AllocError` the buffer is unchanged.
 #[tactic(auto, unfolding(crate::specs::Parts::position_codec))]
 pub fn push_position(position: Position, out: &mut Vec<u8>) -> Result<(), AllocError>
     ensures ok { OnOk result (out.new.items ≡ out.old.items ++ position_codec.write position) }
@@ -106,8 +108,9 @@ impl Coded for Items<i64> {
     }
 }
 
-/// The states of that many scripts at the front of the bytes, and the bytes behind them: of each a
-/// u32 count and that many i64s.
+/// Reads the states of `scripts` scripts: for each a u32 count and that many i64s. Returns them
+/// with the rest of the bytes. Returns `NotCanonical` if the bytes are too few, and `Memory` if
+/// memory runs out.
 pub fn states_of(
     alloc: Global,
     scripts: u32,
@@ -118,7 +121,7 @@ pub fn states_of(
     many_of(alloc, scripts, bytes)
 }
 
-/// Appends the state of one script. On a refusal the buffer is as it was.
+/// Appends the state of one script. On `AllocError` the buffer is unchanged.
 #[tactic(auto, unfolding(crate::specs::Parts::state_codec))]
 pub fn push_state(numbers: &[i64], out: &mut Vec<u8>) -> Result<(), AllocError>
     ensures ok { OnOk result (out.new.items ≡ out.old.items ++ state_codec.write numbers.now) }

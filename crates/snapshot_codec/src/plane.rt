@@ -1,4 +1,4 @@
-//! Who is over a PlaneSensor, and what is kept of its drag, as bytes.
+//! The viewers over a PlaneSensor, and what is kept of a drag, as bytes.
 
 ghost use Rattle.std.specs.Prelude.{◌≡◌, ◌++◌, ◌≤◌, length, Some, OnErr, OnOk};
 ghost use Rattle.std.specs.Int.{w32};
@@ -34,6 +34,7 @@ impl Model for Path {
 impl Path {
     ghost use Rattle.std.specs.Prelude.{◌≡◌, ◌≤◌, length};
 
+    /// Makes a path of at most 64 positions.
     pub fn new(positions: &[u32]) -> Path
         requires { length positions.now ≤ 64 }
         ensures { result ≡ positions.now }
@@ -43,6 +44,7 @@ impl Path {
         Path { positions: all }
     }
 
+    /// Returns the positions, at most 64.
     pub fn as_slice(&self) -> &[u32]
         ensures value { result.now ≡ self.now }
         ensures fits { length result.now ≤ 64 }
@@ -51,8 +53,8 @@ impl Path {
     }
 }
 
-/// What is kept while a viewer drags: which viewer presses, where it pressed, how far the drag has
-/// translated, both in millionths, and the way to the list that holds the sensor.
+/// What is kept while a viewer drags: the viewer that presses, where the press began, the
+/// translation so far, both in millionths, and the path to the list that holds the sensor.
 #[derive(Drop)]
 pub struct Drag {
     pub presser: u8,
@@ -61,10 +63,10 @@ pub struct Drag {
     pub path: Path,
 }
 
-/// Who is over a PlaneSensor, and the drag, if a viewer presses it.
+/// The viewers over a PlaneSensor, and the drag, if a viewer presses it.
 #[derive(Drop)]
 pub struct Plane {
-    /// Bit v is set where viewer v's pointer is over the sensor.
+    /// Bit v is set if viewer v's pointer is over the sensor.
     pub over: u64,
     pub drag: Option<Drag>,
 }
@@ -83,7 +85,7 @@ fn path_length_of(bytes: &[u8]) -> Option<(u8, &[u8])>
     Some((length, rest))
 }
 
-/// That many positions.
+/// Reads `count` positions.
 fn positions_of(count: u8, bytes: &[u8]) -> Option<(Path, &[u8])>
     requires { count ≤ 64 }
     ensures { option_map (λ x. (x.0, x.1.now)) result ≡ many_at (number w32) count bytes.now }
@@ -127,7 +129,7 @@ fn held_of(bytes: &[u8]) -> Option<((Vec3, Vec3, Path), &[u8])>
     Some(((start, last, path), rest))
 }
 
-/// The drag of the viewer that presses.
+/// Reads the drag of the viewer that presses.
 fn drag_by(presser: u8, bytes: &[u8]) -> Option<(Option<Drag>, &[u8])>
     ensures { option_map (λ x. (x.0, x.1.now)) result ≡ drag_behind (Some presser) bytes.now }
 {
@@ -162,10 +164,11 @@ fn drag_of(bytes: &[u8]) -> Option<(Option<Drag>, &[u8])>
     drag_behind(presser, rest)
 }
 
-/// Who is over a PlaneSensor, and its drag, at the front of the bytes, and the bytes behind it: the
-/// set of viewers, a byte, 255 where nobody presses it and else below 64, and where somebody does,
-/// where it pressed and the last translation, three numbers each, a byte up to 64, and that many
-/// positions.
+/// Reads the viewers over a PlaneSensor and its drag: the set of viewers, then a byte, 255 if no
+/// viewer presses the sensor and otherwise the viewer, below 64. If a viewer presses, these follow:
+/// where the press began and the last translation, three numbers each, then a byte up to 64 and
+/// that many positions. Returns the parts with the rest of the bytes, or `None` if the bytes
+/// don't encode them.
 #[tactic(auto, unfolding(crate::specs::Parts::plane_codec))]
 pub fn plane_of(bytes: &[u8]) -> Option<(Plane, &[u8])>
     ensures { option_map (λ x. (x.0, x.1.now)) result ≡ plane_codec.read bytes.now }
@@ -181,7 +184,7 @@ pub fn plane_of(bytes: &[u8]) -> Option<(Plane, &[u8])>
 
 // ---- writing
 
-/// Appends a path; on a refusal perhaps a part of it.
+/// Appends a path. On `AllocError`, `out` may hold a part of it.
 #[tactic(auto, unfolding(crate::specs::Parts::path_codec))]
 fn push_path(path: &Path, out: &mut Vec<u8>) -> Result<(), AllocError>
     ensures ok { OnOk result (out.new.items ≡ out.old.items ++ path_codec.write path.now) }
@@ -192,7 +195,7 @@ fn push_path(path: &Path, out: &mut Vec<u8>) -> Result<(), AllocError>
     push_many(positions, out)
 }
 
-/// Appends what is kept while a viewer drags; on a refusal perhaps a part of it.
+/// Appends what is kept while a viewer drags. On `AllocError`, `out` may hold a part of it.
 #[tactic(auto, unfolding(crate::specs::Parts::held_codec))]
 fn push_held(drag: &Drag, out: &mut Vec<u8>) -> Result<(), AllocError>
     ensures ok { OnOk result (out.new.items
@@ -204,7 +207,7 @@ fn push_held(drag: &Drag, out: &mut Vec<u8>) -> Result<(), AllocError>
     push_path(&drag.path, out)
 }
 
-/// Appends a drag; on a refusal perhaps a part of it.
+/// Appends a drag. On `AllocError`, `out` may hold a part of it.
 #[tactic(auto, unfolding(crate::specs::Parts::presser_codec))]
 fn push_drag(drag: &Option<Drag>, out: &mut Vec<u8>) -> Result<(), AllocError>
     ensures ok { OnOk result (out.new.items ≡ out.old.items ++ drag_text drag.now) }
@@ -230,7 +233,7 @@ fn push_parts(plane: &Plane, out: &mut Vec<u8>) -> Result<(), AllocError>
     push_drag(&plane.drag, out)
 }
 
-/// Appends who is over a PlaneSensor, and its drag. On a refusal the buffer is as it was.
+/// Appends the viewers over a PlaneSensor, and its drag. On `AllocError` the buffer is unchanged.
 pub fn push_plane(plane: &Plane, out: &mut Vec<u8>) -> Result<(), AllocError>
     ensures ok { OnOk result (out.new.items ≡ out.old.items ++ plane_codec.write plane.now) }
     ensures err { OnErr result (out.new.items ≡ out.old.items) }

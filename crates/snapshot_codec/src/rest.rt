@@ -1,11 +1,11 @@
-//! What stands behind the last part.
+//! The end of the last part.
 
 ghost use Rattle.std.specs.Prelude.{◌≡◌, ◌≢◌, [], IfErr, OnErr, OnOk};
 ghost use Rattle.snapshot_codec.specs.declared.fault.PartFault.TheVariants.{NotCanonical};
 
 use crate::fault::PartFault;
 
-/// Whether nothing stands behind the last part: bytes that are left over are `NotCanonical`.
+/// Checks that no bytes follow the last part. Returns `NotCanonical` if bytes are left over.
 pub fn all_read(rest: &[u8]) -> Result<(), PartFault>
     ensures ok { OnOk result (rest.now ≡ []) }
     ensures err { OnErr result (rest.now ≢ []) }

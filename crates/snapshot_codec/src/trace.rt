@@ -43,16 +43,17 @@ pub struct TraceEntry {
 pub trait Outputs {
     ghost types: { Self → ℕ → ℕ → Option AFieldType };
 
-    /// The type of the events that a node sends by its field of that number, if it sends any.
+    /// Returns the type of the events that a node sends by its field of that number, or `None` if
+    /// it sends none.
     fn output_type(&self, node: u32, field: u16) -> Option<FieldType>
         ensures { result ≡ types self.now node field };
 }
 
-/// What takes the events of a trace as they are read.
+/// A sink for the events of a trace as they are read.
 pub trait TakesEntries {
     ghost entries: { Self → List AnEntry };
 
-    /// Puts the event behind those that it holds.
+    /// Appends the event.
     fn take_entry(&mut self, entry: TraceEntry) -> Result<(), AllocError>
         ensures { OnOk result (entries self.new ≡ entries self.old ++ entry ∷ []) };
 }
@@ -65,7 +66,7 @@ impl TakesEntries for Items<TraceEntry> {
     }
 }
 
-/// A time of 0 to 10^18 microseconds at the front of the bytes, and the bytes behind it.
+/// Reads a time of 0 to 10^18 microseconds.
 pub(crate) fn moment_of(bytes: &[u8]) -> Option<(i64, &[u8])>
     ensures { option_map (λ x. (x.0, x.1.now)) result ≡ moment_codec.read bytes.now }
 {
@@ -117,8 +118,9 @@ fn typed_of(
     }
 }
 
-/// An event at the front of the bytes, and the bytes behind it: the input's number u32, the time
-/// i64 (0 to 10^18), the node u32, the field u16, and a value of the field's type.
+/// Reads an event: the input's number u32, the time i64 (0 to 10^18), the node u32, the field u16,
+/// and a value of the field's type. Returns it with the rest of the bytes. Returns `NotCanonical`
+/// if the bytes don't encode one or the field sends no events, and `Memory` if memory runs out.
 #[tactic(auto, unfolding(crate::specs::Trace::entry_codec))]
 pub fn entry_of<'a, O: Outputs>(
     alloc: Global,
@@ -156,9 +158,9 @@ fn entries_of<'a, O: Outputs, T: TakesEntries>(
     Ok(rest)
 }
 
-/// Puts the events of the trace at the front of the bytes behind those that `taker` holds, and
-/// gives the bytes behind the trace: a u64 count and that many events. On a fault the taker may
-/// hold some of them.
+/// Reads a trace: a u64 count and that many events. Hands the events to `taker` in order and
+/// returns the rest of the bytes. Returns `NotCanonical` if the bytes don't encode one, and
+/// `Memory` if memory runs out. On an error, `taker` may hold some of the events.
 pub fn trace_of<'a, O: Outputs, T: TakesEntries>(
     alloc: Global,
     outputs: &O,
@@ -187,7 +189,7 @@ fn push_sent_at(sent: SentAt, out: &mut Vec<u8>) -> Result<(), AllocError>
     push_pieces(&pieces, out)
 }
 
-/// Appends an event. On a refusal the buffer is as it was.
+/// Appends an event. On `AllocError` the buffer is unchanged.
 pub fn push_entry(sent: SentAt, value: &Value, out: &mut Vec<u8>) -> Result<(), AllocError>
     ensures ok { OnOk result (out.new.items ≡ out.old.items ++ entry_text sent value.now) }
     ensures err { OnErr result (out.new.items ≡ out.old.items) }
@@ -201,8 +203,8 @@ pub fn push_entry(sent: SentAt, value: &Value, out: &mut Vec<u8>) -> Result<(), 
     pushed
 }
 
-/// Appends how many events a trace has; they are appended behind it, one after the other. On a
-/// refusal the buffer is as it was.
+/// Appends the number of events of a trace. The events are appended after it, one by one. On
+/// `AllocError` the buffer is unchanged.
 pub fn push_entry_count(count: u64, out: &mut Vec<u8>) -> Result<(), AllocError>
     ensures ok { OnOk result (out.new.items ≡ out.old.items ++ number_text w64 count) }
     ensures err { OnErr result (out.new.items ≡ out.old.items) }

@@ -15,10 +15,11 @@ use x3d_values::{Color, FieldType, MAX_COORDINATE, Text, Value, Vec2, Vec3};
 /// The largest size of a time, in microseconds.
 pub(crate) const MAX_TIME: u64 = x3d_values::MAX_TIME as u64;
 
-/// The value of a field of this type at the front of the bytes, and the bytes behind it. A truth
-/// value is a byte 0 or 1, an SFInt32 an i32, a number an i64 of a size up to 10^15 millionths, a
-/// time one up to 10^18 microseconds, a string a u32 count and that many bytes of UTF-8, a list a
-/// u32 count and that many items; a field of nodes, and a rotation, has no value.
+/// Reads the value of a field of this type. An SFBool is a byte 0 or 1, an SFInt32 an i32, a number
+/// an i64 of a size up to 10^15 millionths, a time an i64 of a size up to 10^18 microseconds, a
+/// string a u32 count and that many bytes of UTF-8, a list a u32 count and that many items. Returns
+/// the value with the rest of the bytes. Returns `NotCanonical` if the bytes don't encode one or
+/// the type is one of nodes or rotations, and `Memory` if memory runs out.
 #[tactic(auto, unfolding(crate::specs::Values::value_at))]
 pub fn value_of(
     alloc: Global,
@@ -46,7 +47,7 @@ pub fn value_of(
     }
 }
 
-/// The same for a field of lists.
+/// Does the same for a field of lists.
 #[tactic(auto, unfolding(crate::specs::Values::list_at))]
 fn list_value_of(
     alloc: Global,
@@ -68,7 +69,7 @@ fn list_value_of(
     }
 }
 
-/// What was read, as the value that is made of it.
+/// Turns what was read into a value.
 fn valued<'a, T: Drop, F: FnOnce(T) -> Value>(
     read: Result<(T, &'a [u8]), PartFault>,
     make: F,
@@ -84,7 +85,7 @@ fn valued<'a, T: Drop, F: FnOnce(T) -> Value>(
     }
 }
 
-/// Appends the bytes of the value; on a refusal perhaps a part of them.
+/// Appends the bytes of the value. On `AllocError`, `out` may hold a part of them.
 pub(crate) fn push_value_part(value: &Value, out: &mut Vec<u8>) -> Result<(), AllocError>
     ensures ok { OnOk result (out.new.items ≡ out.old.items ++ value_text value.now) }
     ensures kept { Extends out.old.items out.new.items }
@@ -110,8 +111,8 @@ pub(crate) fn push_value_part(value: &Value, out: &mut Vec<u8>) -> Result<(), Al
     }
 }
 
-/// Appends the bytes of the value, those that `value_of` reads where the value is in the ranges of
-/// its type. A node or a list of nodes has none. On a refusal the buffer is as it was.
+/// Appends the bytes of the value. `value_of` reads them back if the value is in the range of its
+/// type. A node or a list of nodes has no bytes. On `AllocError` the buffer is unchanged.
 pub fn push_value(value: &Value, out: &mut Vec<u8>) -> Result<(), AllocError>
     ensures ok { OnOk result (out.new.items ≡ out.old.items ++ value_text value.now) }
     ensures err { OnErr result (out.new.items ≡ out.old.items) }

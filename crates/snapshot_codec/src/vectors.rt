@@ -11,14 +11,14 @@ use crate::numbers::within_of;
 use std::alloc::{AllocError, Global};
 use x3d_values::{Color, MAX_COORDINATE, Vec2, Vec3};
 
-/// A number of millionths of a size up to 10^15.
+/// Reads a number of a size up to 10^15 millionths.
 pub(crate) fn number_of(bytes: &[u8]) -> Option<(i64, &[u8])>
     ensures { option_map (λ x. (x.0, x.1.now)) result ≡ number.read bytes.now }
 {
     within_of(MAX_COORDINATE, bytes)
 }
 
-/// Three numbers in a row.
+/// Reads three numbers.
 fn three_of(bytes: &[u8]) -> Option<((i64, i64, i64), &[u8])>
     ensures { option_map (λ x. ((x.0.0, (x.0.1, x.0.2)), x.1.now)) result
         ≡ (pair number (pair number number)).read bytes.now }

@@ -1,4 +1,4 @@
-//! Sets of viewers, and who is over a TouchSensor and presses it, as bytes.
+//! Sets of viewers, and the viewers over and pressing a TouchSensor, as bytes.
 
 ghost use Rattle.std.specs.Prelude.{◌≡◌, ◌++◌, OnErr, OnOk};
 ghost use Rattle.std.specs.Option.{option_map};
@@ -8,19 +8,19 @@ use crate::numbers::{push_low_16, push_u64};
 use byte_codec::{byte_of, u16_of, u64_of};
 use std::alloc::AllocError;
 
-/// How many viewers a world may have, and so how many bits a set of them has.
+/// The number of viewers that a world may have, and of the bits of a set of viewers.
 #[derive(Clone, Copy, PartialEq, Eq)]
 pub enum Viewers {
     Sixteen,
     SixtyFour,
 }
 
-/// Who is over a TouchSensor, and who presses it.
+/// The viewers over a TouchSensor, and the viewer that presses it.
 #[derive(Clone, Copy, PartialEq, Eq)]
 pub struct Touch {
-    /// Bit v is set where viewer v's pointer is over the sensor.
+    /// Bit v is set if viewer v's pointer is over the sensor.
     pub over: u64,
-    /// The viewer that presses it, if one does.
+    /// The viewer that presses the sensor, if there is one.
     pub presser: Option<u8>,
 }
 
@@ -33,8 +33,8 @@ fn viewer_count(viewers: Viewers) -> u8
     }
 }
 
-/// The set of viewers at the front of the bytes, and the bytes behind it: 16 or 64 bits, viewer v
-/// is bit v.
+/// Reads a set of viewers: 16 or 64 bits, where viewer v is bit v. Returns it with the rest of the
+/// bytes, or `None` if the bytes are too few.
 #[tactic(auto, unfolding(crate::specs::Parts::viewer_set_codec))]
 pub fn viewer_set_of(viewers: Viewers, bytes: &[u8]) -> Option<(u64, &[u8])>
     ensures { option_map (λ x. (x.0, x.1.now)) result ≡ (viewer_set_codec viewers).read bytes.now }
@@ -50,8 +50,8 @@ pub fn viewer_set_of(viewers: Viewers, bytes: &[u8]) -> Option<(u64, &[u8])>
     }
 }
 
-/// Appends a set of viewers; of 16 viewers the lowest 16 bits. On a refusal the buffer is as it
-/// was.
+/// Appends a set of viewers; for 16 viewers, the lowest 16 bits. On `AllocError` the buffer is
+/// unchanged.
 #[tactic(auto, unfolding(crate::specs::Parts::viewer_set_codec))]
 pub fn push_viewer_set(viewers: Viewers, set: u64, out: &mut Vec<u8>) -> Result<(), AllocError>
     ensures ok { OnOk result (out.new.items
@@ -90,9 +90,9 @@ fn presser_byte(presser: Option<u8>) -> u8
     }
 }
 
-/// Who is over a TouchSensor, and who presses it, at the front of the bytes, and the bytes behind
-/// it: the set of viewers, and a byte, 255 where nobody presses it and else below the number of
-/// viewers.
+/// Reads the viewers over a TouchSensor and the viewer that presses it: the set of viewers, then a
+/// byte, 255 if no viewer presses the sensor and otherwise below the number of viewers. Returns
+/// them with the rest of the bytes, or `None` if the bytes don't encode them.
 #[tactic(auto, unfolding(crate::specs::Parts::touch_codec))]
 pub fn touch_of(viewers: Viewers, bytes: &[u8]) -> Option<(Touch, &[u8])>
     ensures { option_map (λ x. (x.0, x.1.now)) result ≡ (touch_codec viewers).read bytes.now }
@@ -106,7 +106,8 @@ pub fn touch_of(viewers: Viewers, bytes: &[u8]) -> Option<(Touch, &[u8])>
     Some((Touch { over, presser }, rest))
 }
 
-/// Appends who is over a TouchSensor, and who presses it. On a refusal the buffer is as it was.
+/// Appends the viewers over a TouchSensor and the viewer that presses it. On `AllocError` the
+/// buffer is unchanged.
 #[tactic(auto, unfolding(crate::specs::Parts::touch_codec, crate::specs::Parts::presser_codec))]
 pub fn push_touch(viewers: Viewers, touch: Touch, out: &mut Vec<u8>) -> Result<(), AllocError>
     ensures ok { OnOk result (out.new.items ≡ out.old.items ++ (touch_codec viewers).write touch) }

@@ -26,12 +26,12 @@ fault_of head_fault.BadVersion = BadVersion
 fault_of head_fault.WrongScene = WrongScene
 fault_of head_fault.BadDigest = BadDigest
 
--- a snapshot of the boot or a later one is not new
+-- only a snapshot of an earlier boot is accepted
 abbrev pub newer : (boot : ℕ) → Option (ℕ × Scripted) → Result (ℕ × Scripted) SnapFault
 newer boot None = Err NotCanonical
 newer boot (Some x) = if nat_lt x.0 boot then Ok x else Err BootNotNew
 
--- the world of a body in a snapshot of a version, with the boot that it was taken as
+-- the world of a body in a snapshot of a version, with the boot that the snapshot names
 abbrev pub loaded_body : Version → SceneView → (boot : ℕ) → List ℕ
     → Result (ℕ × Scripted) SnapFault
 loaded_body version scene boot body = newer boot (whole ((body_codec version scene).read body))
@@ -43,7 +43,7 @@ behind_head version scene boot (Err fault) = Err (fault_of fault)
 
 -- ---- the states of scripts
 
--- as many states as kinds, each a state of a script of its kind
+-- there is one state for each kind, and each is a state of a script of its kind
 abbrev pub states_fit : List Kind → List (List ℤ) → Bool
 states_fit [] [] = true
 states_fit [] (state ∷ states) = false
@@ -59,9 +59,9 @@ with_states scene (Err fault) = Err fault
 
 -- ---- a snapshot
 
--- the boot and the world of a snapshot, by the version that it names, for one that starts again as
--- `boot`; else the first of these that holds: Short, BadMagic, BadVersion, WrongScene, BadDigest,
--- NotCanonical, BootNotNew, ScriptState
+-- the boot and the world of a snapshot, of the version that it names, for a viewer that starts
+-- again as `boot`; otherwise the first of these faults that holds: Short, BadMagic, BadVersion,
+-- WrongScene, BadDigest, NotCanonical, BootNotNew, ScriptState
 unfoldable pub loaded : (mark : List ℕ) → SceneView → (boot : ℕ) → (bytes : List ℕ)
     → Result (ℕ × Scripted) SnapFault
 loaded mark scene boot bytes =
@@ -74,7 +74,7 @@ pub record HasSnapshot (scene : SceneView) (w : Scripted) : Type 0 where
 
 -- ---- a stage
 
--- what is answered, and what the stage then holds
+-- the result, and what the stage holds afterwards
 abbrev pub load_outcome : StageView → Result (ℕ × Scripted) SnapFault
     → Result Saved SnapFault × StageView
 load_outcome stage (Ok x) =

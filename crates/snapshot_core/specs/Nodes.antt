@@ -1,5 +1,5 @@
--- What a snapshot has of the nodes of a scene, by their types and what Scripts declare (our
--- choice).
+-- What a snapshot holds of the nodes of a scene, by their types and the fields that Scripts declare
+-- (our choice).
 use Rattle.std.specs.Prelude.{ℕ, ◌+◌, ◌==◌, ◌&&◌, Bool, List, [], ◌∷◌, length, map, Option, Some, slice_index_or}
 use Rattle.byte_codec.specs.Codec.{Codec, checked, refined, named, pair, rows}
 use Rattle.x3d_values.specs.declared.fields.Fields.{Fields}
@@ -20,15 +20,15 @@ use Rattle.cascade_world.specs.Fits.{all_lead}
 use Rattle.snapshot_core.specs.declared.nodes.NodeLists.{NodeLists}
 use Rattle.snapshot_core.specs.declared.nodes.NodeState.{NodeState}
 
--- ---- the fields that stand in a snapshot
+-- -- the fields that a snapshot holds
 
--- of rows that are numbered from n on
+-- of rows, of which the first has number n
 abbrev pub kept_from : NodeType → ℕ → List FieldRowView → List KeptField
 kept_from node_type n [] = []
 kept_from node_type n (row ∷ others) =
     kept_field node_type n row.access row.field_type ∷ kept_from node_type (n + 1) others
 
--- of all fields of a node, those that a Script declares behind those of its type
+-- of all fields of a node: those of its type, followed by those that a Script declares
 unfoldable pub kept_fields : Shape → List KeptField
 kept_fields shape = kept_from shape.node_type 0 (rows_of shape)
 
@@ -52,7 +52,7 @@ node_parts node = (
   record { time = node.time; pointing = node.pointing; position = node.fields.position },
 )
 
--- the values of these fields, and what stands behind them in snapshots of a version
+-- the values of these fields, and the part after them in snapshots of a version
 unfoldable pub state_codec : Version → List KeptField → NodeType → Codec NodeState
 state_codec version kept node_type =
     named node_of node_parts (pair (fields_codec kept) (beside_codec version node_type))
@@ -81,20 +81,20 @@ by_lists nodes = record {
   pointing = map (λ (node : NodeState). node.pointing) nodes;
 }
 
--- the lists are as long, and each node has bytes
+-- the lists have the same length, and each node has bytes
 abbrev pub lists_fit : Version → List Shape → NodeLists → Bool
 lists_fit version shapes lists =
     ((length lists.sensors == length lists.fields)
     && (length lists.pointing == length lists.fields))
     && (rows (node_codec version) shapes).fits (by_nodes lists)
 
--- the nodes one after the other
+-- the nodes one after another
 unfoldable pub lists_codec : Version → List Shape → Codec NodeLists
 lists_codec version shapes =
     refined (λ nodes. Some (by_lists nodes)) by_nodes (lists_fit version shapes)
     (rows (node_codec version) shapes)
 
--- where the drags lead to their sensors
+-- the nodes, if the drags lead to their sensors
 unfoldable pub nodes_codec : Version → SceneView → Codec NodeLists
 nodes_codec version scene =
     checked (λ lists. all_lead scene 0 lists.pointing) (lists_codec version (shapes_of scene))

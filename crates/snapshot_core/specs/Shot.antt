@@ -9,15 +9,15 @@ use Rattle.snapshot_rules.specs.declared.version.Version.{Version}
 use Rattle.snapshot_rules.specs.Opening.{newest, version_number}
 use Rattle.snapshot_core.specs.WorldCodec.{world_codec}
 
--- all between the mark and the digest: the boot, and the world
+-- the bytes between the mark and the digest: the boot, and the world
 abbrev pub body_codec : Version → SceneView → Codec (ℕ × Scripted)
 body_codec version scene = pair (number w32) (world_codec version scene)
 
--- the snapshot of this version of a scene's world by the scene's mark, as a boot
+-- the snapshot of this version of a scene's world, with the scene's mark and a boot
 abbrev pub shot_as : Version → (mark : List ℕ) → (boot : ℕ) → SceneView → Scripted → List ℕ
 shot_as version mark boot scene w =
     snapshot (version_number version) mark ((body_codec version scene).write (boot, w))
 
--- the one that is written
+-- the snapshot that is written
 abbrev pub shot : (mark : List ℕ) → (boot : ℕ) → SceneView → Scripted → List ℕ
 shot mark boot scene w = shot_as newest mark boot scene w

@@ -1,4 +1,4 @@
--- What the head of a snapshot says (our choice).
+-- The content of a snapshot's head (our choice).
 use Rattle.std.specs.Prelude.{ℕ, ◌==◌, ◌&&◌, Bool, List, drop, length, Option, None, nat_le, nat_eq, slice_range, slice_index, if◌then◌else◌, codes}
 use Rattle.std.specs.Int.{w32}
 use Rattle.std.specs.Cmp.Lexicographic.{pointwise}
@@ -7,14 +7,14 @@ use Rattle.byte_codec.specs.Codec.{pair, number}
 use Rattle.snapshot_rules.specs.Opening.{version_in, version_number}
 use Rattle.snapshot_core.specs.declared.head.ShotHead.{ShotHead}
 
--- 85 bytes or more, that begin with X3DW and a version
+-- 85 bytes or more that begin with X3DW and a version
 abbrev pub begins_as_shot : List ℕ → Bool
 begins_as_shot bytes =
     nat_le 85 (length bytes)
     && (pointwise nat_eq (slice_range bytes 0 4) (codes "X3DW")
     && slice_index bytes 4 == version_number (version_in bytes))
 
--- behind the mark stand the boot and the number of the inputs applied
+-- the boot and the number of inputs applied follow the mark
 abbrev pub shot_head : List ℕ → Option ShotHead
 shot_head bytes =
     if begins_as_shot bytes then

@@ -22,9 +22,9 @@ use Rattle.snapshot_core.specs.declared.world.Found.{Found}
 use Rattle.snapshot_core.specs.declared.world.WorldParts.{WorldParts}
 use Rattle.snapshot_core.specs.Nodes.{nodes_codec}
 
--- ---- whose buttons are down
+-- -- the viewers whose buttons are down
 
--- of as many viewers as a world may have, and of those that a version has bits for
+-- a set of as many viewers as a world may have, with only viewers that a version has bits for
 abbrev pub set_has_bytes : Version → List Bool → Bool
 set_has_bytes version set =
     (length set == MAX_VIEWERS) && (viewer_set_codec (viewers_of version)).fits (number_of set)
@@ -64,7 +64,7 @@ lines_codec shapes = named (map line_of) (map entry_of) (trace_codec (output_typ
 
 -- ---- a world
 
--- nodes, buttons, the states of the scripts by their numbers, trace
+-- nodes, buttons, the states of the scripts in number order, trace
 unfoldable pub parts_codec : Version → SceneView → Codec WorldParts
 parts_codec version scene =
     named (λ t. record { nodes = t.0; buttons = t.1.0; states = t.1.1.0; trace = t.1.1.1 })
@@ -73,7 +73,7 @@ parts_codec version scene =
     (pair (buttons_codec version)
     (pair (states_codec (length (kinds_in scene))) (lines_codec (shapes_of scene)))))
 
--- inputs applied, time of the last, and the parts
+-- inputs applied, time of the last input, and the parts
 abbrev pub world_of : ℕ × (ℤ × WorldParts) → Scripted
 world_of x = record {
   world = record {
@@ -100,14 +100,14 @@ parts_in w = record {
 }
 
 -- the worlds of a scene in snapshots of a version, by the shapes of its nodes and the number of its
--- scripts: those that fit have bytes. Whether the numbers of a script are a state of it doesn't
--- show in them.
+-- scripts: the worlds that fit have bytes. Whether the numbers of a script are one of its states is
+-- not checked here.
 unfoldable pub world_codec : Version → SceneView → Codec Scripted
 world_codec version scene =
     named world_of (λ w. (w.world.applied, (w.world.last_time, parts_in w)))
     (pair applied_codec (pair moment_codec (parts_codec version scene)))
 
--- a world that had come so far, of these parts
+-- a world with this progress and these parts
 abbrev pub world_with : Progress → WorldParts → Scripted
 world_with progress parts = world_of (progress.applied, (progress.last_time, parts))
 

@@ -1,4 +1,4 @@
-//! Whose buttons are down, as bytes.
+//! The viewers whose buttons are down, as bytes.
 
 ghost use Rattle.std.specs.Prelude.{◌≡◌, ◌++◌, OnErr, OnOk};
 ghost use Rattle.std.specs.Option.{option_map};
@@ -9,7 +9,7 @@ use snapshot_codec::{push_viewer_set, viewer_set_of};
 use snapshot_rules::Version;
 use std::alloc::AllocError;
 
-/// Whose buttons are down, at the front of the bytes, and the bytes behind it.
+/// Reads which viewers' buttons are down. Returns them with the rest of the bytes.
 #[tactic(auto, unfolding(crate::specs::WorldCodec::buttons_codec))]
 pub(crate) fn buttons_of(version: Version, bytes: &[u8]) -> Option<([bool; VIEWERS], &[u8])>
     ensures { option_map (λ x. (x.0, x.1.now)) result ≡ (buttons_codec version).read bytes.now }
@@ -20,7 +20,7 @@ pub(crate) fn buttons_of(version: Version, bytes: &[u8]) -> Option<([bool; VIEWE
     Some((over_of(number), rest))
 }
 
-/// Appends whose buttons are down. On a refusal the buffer is as it was.
+/// Appends which viewers' buttons are down. On `AllocError` the buffer is unchanged.
 #[tactic(auto, unfolding(crate::specs::WorldCodec::buttons_codec))]
 pub(crate) fn push_buttons(
     version: Version,

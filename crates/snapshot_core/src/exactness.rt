@@ -1,4 +1,4 @@
-//! That snapshots are exact: each world that has a snapshot is loaded from it, and what loads is a
+//! Snapshots are exact: each world that has a snapshot is loaded from it, and whatever loads is a
 //! snapshot.
 
 ghost use Rattle.std.specs.Prelude.{◌≡◌, ◌<◌, ◌≤◌, ◌^◌, Err, List, Ok, length, ℕ};
@@ -10,9 +10,9 @@ ghost use Rattle.snapshot_rules.specs.Opening.{version_in};
 ghost use Rattle.snapshot_core.specs.Shot.{shot, shot_as};
 ghost use Rattle.snapshot_core.specs.declared.fault.SnapFault.TheVariants.{BootNotNew};
 
-/// A world that fits, with a state for each script, is loaded from its snapshot, for each higher
-/// boot; by no other boot. Whatever bytes load are the snapshot of what they load, of the version
-/// that they name, and that world has one.
+/// A world that fits, with a state for each script, is loaded from its snapshot for each higher
+/// boot, and for no other boot. Bytes that load are the snapshot of what they load, of the version
+/// that they name, and the loaded world has a snapshot.
 pub fn snapshots_are_exact()
     ensures loads { (mark : List ℕ) (scene : SceneView) (boot new : ℕ) (w : Scripted)
         → length mark ≡ 32 → boot < 2 ^ 32 → HasSnapshot scene w

@@ -1,4 +1,4 @@
-//! What may be refused, each in the order of precedence.
+//! The faults of saving and loading, each list in the order of precedence.
 
 ghost use Rattle.std.specs.Prelude.{◌≡◌};
 ghost use Rattle.snapshot_core.specs.Loading.{fault_of};
@@ -39,7 +39,7 @@ pub enum SnapFault {
     Memory,
 }
 
-/// What is wrong before the body of a snapshot.
+/// Returns the fault for a fault of the head or the digest.
 pub(crate) fn fault_of(fault: HeadFault) -> SnapFault
     ensures { result ≡ fault_of fault }
 {

@@ -1,4 +1,4 @@
-//! What the head of a snapshot says, with no look at the rest.
+//! The head of a snapshot, read without the rest.
 
 ghost use Rattle.std.specs.Prelude.{◌≡◌, ◌<◌, ◌^◌, ℕ, List, Some, length};
 ghost use Rattle.std.specs.Int.{w32};
@@ -20,13 +20,13 @@ const MAGIC: &[u8; 4] = b"X3DW";
 /// The least length of a snapshot.
 const LEAST: usize = 85;
 
-/// What the head of a snapshot says of it.
+/// The content of a snapshot's head.
 #[derive(Clone, Copy, PartialEq, Eq)]
 pub struct ShotHead {
     pub version: u8,
-    /// Which start of the viewer.
+    /// The number of the viewer's start.
     pub boot: u32,
-    /// How many inputs its world has had.
+    /// The number of inputs applied to the snapshot's world.
     pub applied: u32,
 }
 
@@ -37,7 +37,7 @@ fn begins_as_shot(bytes: &[u8]) -> bool
         && (&bytes[..4] == MAGIC.as_slice() && bytes[4] == version_in(bytes).number())
 }
 
-/// Two numbers of 32 bits.
+/// Reads two 32-bit numbers.
 fn words_of(bytes: &[u8]) -> Option<((u32, u32), &[u8])>
     ensures { option_map (λ r. (r.0, r.1.now)) result
         ≡ (pair (number w32) (number w32)).read bytes.now }
@@ -67,11 +67,12 @@ fn head_in(bytes: &[u8]) -> Option<ShotHead>
     })
 }
 
-/// What the head says, of bytes that begin as a snapshot does: at least 85, `X3DW` and a version
-/// that is read. The mark, the world and the digest are not looked at. Takes no memory.
+/// Returns the content of the head. Returns `None` if the bytes don't begin like a snapshot: at
+/// least 85 bytes, `X3DW` and a version that can be read. The mark, the world and the digest are
+/// not checked. Takes no memory.
 pub fn shot_head(bytes: &[u8]) -> Option<ShotHead>
     ensures value { result ≡ shot_head bytes.now }
-    // Of each snapshot it is told whose it is, and how far its world had come.
+    // Each snapshot's head has its boot and the number of inputs applied to its world.
     ensures shots { (mark : List ℕ) (boot : ℕ) (scene : SceneView) (w : Scripted)
         → length mark ≡ 32 → boot < 2 ^ 32 → HasSnapshot scene w
         → bytes.now ≡ shot mark boot scene w

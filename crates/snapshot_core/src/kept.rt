@@ -1,4 +1,4 @@
-//! Which fields of a node stand in a snapshot.
+//! The fields of a node that a snapshot holds.
 
 ghost use Rattle.std.specs.Prelude.{◌≡◌, ◌<◌, ◌++◌, [], ◌∷◌, OnOk, length, slice_get};
 ghost use Rattle.std.specs.Option.{option_map_or};
@@ -11,8 +11,8 @@ use snapshot_codec::{KeptField, kept_field};
 use std::alloc::AllocError;
 use x3d_values::NodeType;
 
-/// Appends what a snapshot has of the field of that number of a node of this type, if it has such a
-/// field.
+/// Appends what a snapshot holds of the field of that number of a node of this type, if the node
+/// has such a field.
 fn push_kept(
     scene: &Scene,
     node: u32,
@@ -35,7 +35,7 @@ fn push_kept(
     }
 }
 
-/// Lists what a snapshot has of each field of a node, in place of what was listed.
+/// Replaces the list by what a snapshot holds of each field of a node.
 pub(crate) fn list_kept(
     scene: &Scene,
     node: u32,

@@ -1,18 +1,18 @@
-//! Snapshots: a world as one byte list, and exactly back.
+//! Snapshots: a world as one byte list, and back, exactly.
 //!
 //! `save` writes the snapshot of a stage's world, and `load_into` puts the world of a snapshot into
 //! a stage. What a snapshot is, and which worlds have one, is described once, by a codec
-//! (`specs/WorldCodec.antt`, `specs/Shot.antt`); that it is exact both ways is the law
-//! `snapshots_are_exact`.
+//! (`specs/WorldCodec.antt`, `specs/Shot.antt`). The law `snapshots_are_exact` says that saving and
+//! loading are exact.
 //!
-//! | Module | Has |
+//! | Module | Content |
 //! |---|---|
 //! | `saving`, `loading` | the two calls |
-//! | `head` | what the head of a snapshot says |
-//! | `fault` | what may be refused |
+//! | `head` | the content of a snapshot's head |
+//! | `fault` | the faults |
 //! | `world` | a whole world, with its boot |
-//! | `nodes`, `kept` | nodes in turn: their fields, and what stands behind them |
-//! | `buttons`, `lines` | what a world has beside its nodes, and the states of its scripts |
+//! | `nodes`, `kept` | nodes in turn: their fields, and the part after them |
+//! | `buttons`, `lines` | the buttons and the trace of a world |
 //! | `exactness` | the law |
 #![tactic(auto)]
 

@@ -16,7 +16,7 @@ use snapshot_codec::{
 use std::alloc::{AllocError, Global};
 use x3d_values::{FieldType, Value};
 
-/// The type of the events that leave by a field, if any do.
+/// Returns the type of the events that a field sends, if it sends any.
 fn sent_type(row: NodeField<'_>) -> Option<FieldType>
     ensures { result ≡ sent_type (row_entry row.entry) }
 {
@@ -45,7 +45,7 @@ impl<'a> Outputs for SceneOutputs<'a> {
     }
 }
 
-/// A trace that is read.
+/// A trace that is being read.
 #[derive(Drop)]
 struct ReadTrace {
     alloc: Global,
@@ -72,7 +72,7 @@ impl TakesEntries for ReadTrace {
     }
 }
 
-/// The trace of the scene at the front of the bytes, and the bytes behind it.
+/// Reads the trace of the scene. Returns it with the rest of the bytes.
 pub(crate) fn lines_of<'a>(
     alloc: Global,
     scene: &Scene,
@@ -95,7 +95,7 @@ pub(crate) fn lines_of<'a>(
     }
 }
 
-/// Writes lines as bytes.
+/// A writer of lines as bytes.
 #[derive(Clone, Copy)]
 struct LineBytes;
 
@@ -120,7 +120,7 @@ impl WritesLines for LineBytes {
     }
 }
 
-/// Appends a trace; on a refusal perhaps a part of it.
+/// Appends a trace. On `AllocError`, `out` may hold a part of it.
 pub(crate) fn push_lines(trace: &Trace, out: &mut Vec<u8>) -> Result<(), AllocError>
     ensures ok { (shapes : List Shape)
         → OnOk result (out.new.items ≡ out.old.items ++ (lines_codec shapes).write trace.now) }

@@ -17,7 +17,7 @@ use snapshot_codec::PartFault;
 use snapshot_rules::{Version, body_in, is_older, version_in};
 use std::alloc::Global;
 
-/// Of which boot a snapshot was, and how many inputs its world had applied.
+/// The boot of a snapshot, and the number of inputs applied to its world.
 #[derive(Clone, Copy, PartialEq, Eq)]
 pub struct Saved {
     pub boot: u32,
@@ -25,8 +25,8 @@ pub struct Saved {
     pub applied: u32,
 }
 
-/// The boot and the world of a body in a snapshot of this version, for one that starts again as
-/// `boot`, of a scene that runs so many scripts.
+/// Reads the boot and the world from the body of a snapshot of this version, for a viewer that
+/// starts again as `boot`. The scene runs `scripts` scripts.
 fn loaded_body(
     alloc: Global,
     version: Version,
@@ -54,8 +54,8 @@ fn loaded_body(
     }
 }
 
-/// The boot and the world of a snapshot, by the version that it names, for one that starts again as
-/// `boot`, of a scene that runs so many scripts. The states of the scripts aren't looked at.
+/// Reads the boot and the world of a snapshot, of the version that it names, for a viewer that
+/// starts again as `boot`. The scene runs `scripts` scripts; their states aren't checked.
 fn behind_head(
     alloc: Global,
     scene: &Scene,
@@ -75,7 +75,7 @@ fn behind_head(
     }
 }
 
-/// Puts a world that was read into a stage, where there is a state for each script.
+/// Puts a world that was read into a stage, if it has a state for each script.
 fn put<B: Behaviour>(stage: &mut Stage<B>, found: Found) -> Result<Saved, SnapFault>
     ensures { (load_outcome stage.old (with_states stage.old.scene (Ok (booted found)))
         ≡ (result, stage.new))
@@ -107,12 +107,13 @@ fn put<B: Behaviour>(stage: &mut Stage<B>, found: Found) -> Result<Saved, SnapFa
     }
 }
 
-/// Puts the world of a snapshot into a stage, also a spoiled one: a snapshot of the scene with this
-/// mark, of a version that is read and of a boot below `boot`. The answer is the first of these
-/// that holds: `Short`, `BadMagic`, `BadVersion`, `WrongScene`, `BadDigest`, `NotCanonical` (also
-/// where bytes are left over), `BootNotNew`, `ScriptState` (there is no state for each script);
-/// each leaves the stage as it was. `Memory`, where a growth was refused, comes only behind a good
-/// head and digest, and spoils the stage.
+/// Puts the world of a snapshot into a stage; a spoiled stage is repaired by this. The snapshot
+/// must be of the scene with this mark, of a version that can be read and of a boot below `boot`.
+/// The first fault that holds is returned: `Short`, `BadMagic`, `BadVersion`, `WrongScene`,
+/// `BadDigest`, `NotCanonical` (also if bytes are left over), `BootNotNew`, `ScriptState` (there
+/// isn't a fitting state for each script). The stage is then unchanged. `Memory` is returned if
+/// memory runs out, which only happens after the head and the digest are checked; the stage is then
+/// spoiled.
 #[tactic(auto, unfolding(crate::specs::Loading::loaded))]
 pub fn load_into<B: Behaviour>(
     stage: &mut Stage<B>,

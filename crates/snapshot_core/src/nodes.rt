@@ -1,4 +1,4 @@
-//! The nodes of a world, one after the other.
+//! The nodes of a world, one after another.
 
 ghost use Rattle.std.specs.Prelude.{◌≡◌, ◌<◌, ◌++◌, [], ◌∷◌, List, IfErr, IfOk, OnErr, OnOk, false, length, min, true};
 ghost use Rattle.std.specs.Option.{option_map};
@@ -22,7 +22,7 @@ use snapshot_rules::{Beside, Version, beside_of, push_beside};
 use std::alloc::{AllocError, Global};
 use x3d_values::{Fields, Items, NodeType, Value};
 
-/// What one node keeps.
+/// The state of one node.
 #[derive(Drop)]
 pub(crate) struct NodeState {
     pub fields: Fields,
@@ -30,7 +30,7 @@ pub(crate) struct NodeState {
     pub pointing: PointingState,
 }
 
-/// What the nodes of a world keep, by their numbers.
+/// The states of the nodes of a world, by their numbers.
 #[derive(Drop)]
 pub(crate) struct NodeLists {
     pub fields: Items<Fields>,
@@ -38,7 +38,7 @@ pub(crate) struct NodeLists {
     pub pointing: Items<PointingSlot>,
 }
 
-/// Puts what is kept of a node where viewers point behind the others.
+/// Appends the pointing state of a node.
 fn push_slot(
     alloc: Global,
     slots: &mut Items<PointingSlot>,
@@ -62,7 +62,7 @@ impl NodeLists {
         }
     }
 
-    /// Puts a node behind those that are there.
+    /// Appends a node.
     fn push(&mut self, alloc: Global, node: NodeState) -> Result<(), AllocError>
         ensures { OnOk result (self.new ≡ record {
           fields = self.old.fields ++ node.fields ∷ [];
@@ -87,7 +87,7 @@ impl NodeLists {
     }
 }
 
-/// A node with the values of its fields, and what stands behind them.
+/// Makes a node of the values of its fields and the part after them.
 fn node_with(values: Items<Option<Value>>, beside: Beside) -> NodeState
     ensures { result ≡ node_of (values, beside) }
 {
@@ -101,8 +101,8 @@ fn node_with(values: Items<Option<Value>>, beside: Beside) -> NodeState
     }
 }
 
-/// What a node of this type keeps of these fields, in a snapshot of this version, at the front of
-/// the bytes, and the bytes behind it.
+/// Reads the state of a node of this type with these fields, in a snapshot of this version. Returns
+/// it with the rest of the bytes.
 #[tactic(auto, unfolding(crate::specs::Nodes::state_codec))]
 fn state_of<'a>(
     alloc: Global,
@@ -122,7 +122,7 @@ fn state_of<'a>(
     Ok((node_with(values, beside), rest))
 }
 
-/// What the node of that number keeps, at the front of the bytes, and the bytes behind it.
+/// Reads the state of the node of that number. Returns it with the rest of the bytes.
 fn node_of<'a>(
     alloc: Global,
     version: Version,
@@ -139,7 +139,7 @@ fn node_of<'a>(
     state_of(alloc, version, kept, scene.node_type(node), bytes)
 }
 
-/// What the nodes of the scene keep, at the front of the bytes, and the bytes behind it.
+/// Reads the states of the nodes of the scene. Returns them with the rest of the bytes.
 #[tactic(auto, unfolding(crate::specs::Nodes::lists_codec))]
 fn lists_of<'a>(
     alloc: Global,
@@ -171,8 +171,8 @@ fn lists_of<'a>(
     Ok((lists, rest))
 }
 
-/// Whether the drags at these nodes lead to their sensors; one that doesn't is `NotCanonical`. No
-/// memory holds 2^32 nodes.
+/// Checks that the drags at these nodes lead to their sensors. Returns `NotCanonical` if one
+/// doesn't, and `Memory` if there are 2^32 nodes or more.
 fn check_drags(scene: &Scene, pointing: &[PointingSlot]) -> Result<(), PartFault>
     ensures ok { OnOk result (all_lead scene.now 0 pointing.now ≡ true) }
     ensures err { IfErr result (λ fault. fault ≡ NotCanonical
@@ -188,8 +188,8 @@ fn check_drags(scene: &Scene, pointing: &[PointingSlot]) -> Result<(), PartFault
     }
 }
 
-/// What the nodes of the scene keep, at the front of the bytes, and the bytes behind it, where the
-/// drags lead to their sensors.
+/// Reads the states of the nodes of the scene and checks that the drags lead to their sensors.
+/// Returns the states with the rest of the bytes.
 #[tactic(auto, unfolding(crate::specs::Nodes::nodes_codec))]
 pub(crate) fn nodes_of<'a>(
     alloc: Global,
@@ -208,8 +208,8 @@ pub(crate) fn nodes_of<'a>(
     Ok((lists, rest))
 }
 
-/// Appends what a node of this type keeps, as a snapshot of this version has it; on a refusal
-/// perhaps a part of it.
+/// Appends the state of a node of this type, for a snapshot of this version. On `AllocError`, `out`
+/// may hold a part of it.
 #[tactic(auto, unfolding(crate::specs::Nodes::state_codec))]
 fn push_node(
     version: Version,
@@ -235,7 +235,7 @@ fn push_node(
     push_beside(version, node_type, &beside, out)
 }
 
-/// How many nodes the scene has, as far as the world has all that they keep.
+/// Returns the number of the scene's nodes for which the world has the whole state.
 fn shared_count(scene: &Scene, world: &WorldData) -> Result<u32, AllocError>
     ensures { IfOk result (λ count. count
         ≡ min (length scene.now.nodes)
@@ -248,7 +248,7 @@ fn shared_count(scene: &Scene, world: &WorldData) -> Result<u32, AllocError>
     Ok(count.min(lists) as u32)
 }
 
-/// Appends what the nodes of the scene keep; on a refusal perhaps a part of it.
+/// Appends the states of the scene's nodes. On `AllocError`, `out` may hold a part of them.
 #[tactic(auto, unfolding(crate::specs::Nodes::nodes_codec, crate::specs::Nodes::lists_codec))]
 pub(crate) fn push_nodes(
     version: Version,

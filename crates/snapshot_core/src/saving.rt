@@ -15,8 +15,8 @@ use snapshot_rules::newest;
 use std::alloc::AllocError;
 use x3d_values::Items;
 
-/// Appends the snapshot of a world, with the states of its scripts, of the newest version; on a
-/// refusal perhaps a part of it.
+/// Appends the newest version's snapshot of a world with the states of its scripts. On
+/// `AllocError`, `out` may hold a part of it.
 fn push_shot(
     scene: &Scene,
     world: &WorldData,
@@ -37,9 +37,9 @@ fn push_shot(
     push_digest(from, out)
 }
 
-/// Appends the snapshot of a stage's world, of the newest version, by the mark of its scene and as
-/// a boot. The answer is `Spoiled` where the stage is, else `Memory` where a growth was refused;
-/// the buffer is then as it was.
+/// Appends the newest version's snapshot of a stage's world, with the mark of its scene and a boot.
+/// Returns `Spoiled` if the stage is spoiled, and `Memory` if memory runs out; the buffer is then
+/// unchanged.
 pub fn save<B: Behaviour>(
     stage: &Stage<B>,
     mark: &[u8; 32],

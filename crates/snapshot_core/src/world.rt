@@ -19,7 +19,7 @@ use snapshot_rules::{Version, none_left, push_states, states_of};
 use std::alloc::{AllocError, Global};
 use x3d_values::Items;
 
-/// What a world has beside how far it had come.
+/// The parts of a world other than its progress.
 #[derive(Drop)]
 pub(crate) struct WorldParts {
     pub nodes: NodeLists,
@@ -36,8 +36,8 @@ pub(crate) struct Found {
     pub states: Items<Items<i64>>,
 }
 
-/// The parts of a world of the scene, which runs so many scripts, in a snapshot of this version, at
-/// the front of the bytes, and the bytes behind them.
+/// Reads the parts of a world of the scene, which runs `scripts` scripts, in a snapshot of this
+/// version. Returns them with the rest of the bytes.
 #[tactic(auto, unfolding(crate::specs::WorldCodec::parts_codec))]
 fn parts_of<'a>(
     alloc: Global,
@@ -80,7 +80,7 @@ fn parts_of<'a>(
     Ok((parts, rest))
 }
 
-/// A world that had come so far, of these parts.
+/// Makes a world of its progress and these parts.
 fn found_with(progress: Progress, parts: WorldParts) -> Found
     ensures { booted result ≡ (progress.boot, world_with progress parts) }
 {
@@ -106,7 +106,7 @@ fn found_with(progress: Progress, parts: WorldParts) -> Found
     }
 }
 
-/// A boot and a world of the scene at the front of the bytes, and the bytes behind it.
+/// Reads a boot and a world of the scene. Returns them with the rest of the bytes.
 fn world_of<'a>(
     alloc: Global,
     version: Version,
@@ -125,8 +125,9 @@ fn world_of<'a>(
     Ok((found_with(progress, parts), rest))
 }
 
-/// The boot and the world of the scene, which runs so many scripts, that all these bytes are those
-/// of in a snapshot of this version.
+/// Reads the boot and the world of the scene, which runs `scripts` scripts, in a snapshot of this
+/// version. Returns `NotCanonical` unless they take up all of the bytes, and `Memory` if memory
+/// runs out.
 pub(crate) fn body_of(
     alloc: Global,
     version: Version,
@@ -145,8 +146,8 @@ pub(crate) fn body_of(
     Ok(found)
 }
 
-/// Appends a boot and a world of the scene, with the states of its scripts, as a snapshot of this
-/// version has them; on a refusal perhaps a part of it.
+/// Appends a boot and a world of the scene with the states of its scripts, for a snapshot of this
+/// version. On `AllocError`, `out` may hold a part of them.
 pub(crate) fn push_body(
     version: Version,
     scene: &Scene,

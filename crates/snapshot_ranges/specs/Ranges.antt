@@ -5,6 +5,6 @@ use Rattle.x3d_values.specs.declared.value.Value.{Value}
 use Rattle.x3d_values.specs.Values.{type_of}
 use Rattle.snapshot_codec.specs.Values.{value_fits}
 
--- a field of the value's type may hold it
+-- the value is in the range of a field of its own type
 abbrev pub is_in_range : Value → Bool
 is_in_range value = value_fits (type_of value) value

@@ -1,4 +1,4 @@
-//! What may stand at a field, and what a node may keep of one.
+//! The values that a field may hold, and that a node may keep of it.
 
 ghost use Rattle.std.specs.Prelude.{◌≡◌, ◌&&◌};
 ghost use Rattle.snapshot_codec.specs.Fields.{is_positive, kept_fits};
@@ -11,15 +11,15 @@ use crate::value::value_fits;
 use snapshot_codec::KeptField;
 use x3d_values::{FieldType, MAX_TIME, Value};
 
-/// Whether it is a time of a world: 0 to `MAX_TIME` microseconds.
+/// Reports whether `time` is a time of a world: 0 to `MAX_TIME` microseconds.
 pub fn is_moment(time: i64) -> bool
     ensures { result ≡ is_moment time }
 {
     time >= 0 && time <= MAX_TIME
 }
 
-/// Whether it is the place of a value that a sequencer sent last, of 32 bits; none has a number
-/// that is kept for it.
+/// Reports whether a sequencer may keep this place of the value that it sent last: `None`, or a
+/// place below 2^32 - 1.
 pub fn place_fits(place: Option<u32>) -> bool
     ensures { result ≡ place_fits place }
 {
@@ -29,8 +29,7 @@ pub fn place_fits(place: Option<u32>) -> bool
     }
 }
 
-/// Whether a value is one of a field of this type, in the range of the type; where no type is
-/// given there is none.
+/// Reports whether a value is of this field type and in its range. Always false without a type.
 pub fn typed_fits(field_type: Option<FieldType>, value: &Value) -> bool
     ensures { result ≡ typed_fits field_type value.now }
 {
@@ -55,7 +54,7 @@ fn is_interval(value: &Value) -> bool
     value_fits(FieldType::SFTime, value) && is_positive(value)
 }
 
-/// Whether a node may keep this of a field that a snapshot has so.
+/// Reports whether a node may keep this value for a field of which a snapshot holds `kept`.
 #[tactic(auto, unfolding(snapshot_codec::specs::Fields::kept_fits))]
 pub fn kept_fits(kept: KeptField, value: &Option<Value>) -> bool
     ensures { result ≡ kept_fits kept value.now }

@@ -1,5 +1,5 @@
-//! Whether a value is in the range of its field: the values that snapshots have bytes for, and
-//! `kept`, what a node may keep of a field.
+//! Reports whether a value is in the range of its field: the values that snapshots have bytes for,
+//! and in `kept`, the values that a node may keep of a field.
 #![tactic(auto)]
 
 mod kept;

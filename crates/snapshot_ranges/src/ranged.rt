@@ -1,4 +1,4 @@
-//! What has a range, and lists of it.
+//! Values that have a range, and lists of such values.
 
 ghost use Rattle.std.specs.Prelude.{◌≡◌, ◌^◌};
 ghost use Rattle.std.specs.Int.{w32};
@@ -9,19 +9,19 @@ ghost use Rattle.snapshot_codec.specs.Values.{color, is_within, list_of, number,
 
 use x3d_values::{Color, MAX_TIME, Text, Vec2, Vec3, coordinate_fits};
 
-/// A list or a text has fewer items or bytes.
+/// A list or a text has fewer than this number of items or bytes.
 const MANY: usize = 1 << 32;
 
-/// What has a range.
+/// A value that has a range.
 pub(crate) trait Ranged {
     ghost codec: { Codec Self };
 
-    /// Whether it is in its range: a snapshot has bytes for it.
+    /// Reports whether the value is in its range, so that a snapshot has bytes for it.
     fn fits(&self) -> bool
         ensures { result ≡ codec.fits self.now };
 }
 
-/// A truth value is in its range.
+/// Every truth value is in its range.
 impl Ranged for bool {
     ghost codec = { truth };
 
@@ -30,7 +30,7 @@ impl Ranged for bool {
     }
 }
 
-/// So is each integer of 32 bits.
+/// Every 32-bit integer is in its range.
 impl Ranged for i32 {
     ghost codec = { signed w32 };
 
@@ -40,7 +40,7 @@ impl Ranged for i32 {
     }
 }
 
-/// A text has fewer than 2^32 bytes.
+/// A text is in its range if it is UTF-8 of fewer than 2^32 bytes.
 impl Ranged for Text {
     ghost codec = { text };
 
@@ -81,7 +81,7 @@ impl Ranged for Color {
     }
 }
 
-/// Whether a time is of a size of up to `MAX_TIME` microseconds.
+/// Reports whether the size of a time is at most `MAX_TIME` microseconds.
 pub(crate) fn time_fits(time: i64) -> bool
     ensures { result ≡ is_within max_time time }
 {
@@ -99,7 +99,7 @@ fn all_fit<T: Ranged>(items: &[T]) -> bool
     true
 }
 
-/// Whether there are fewer than 2^32 items, each in its range.
+/// Reports whether there are fewer than 2^32 items, each in its range.
 pub(crate) fn list_fits<T: Ranged>(items: &[T]) -> bool
     ensures { result ≡ (list_of T.codec).fits items.now }
 {
@@ -118,7 +118,7 @@ fn all_times(times: &[i64]) -> bool
     times.iter().all(|time| time_fits(*time))
 }
 
-/// Whether there are fewer than 2^32 numbers, each in its range.
+/// Reports whether there are fewer than 2^32 numbers, each in its range.
 #[tactic(auto, using(crate::proofs::Listed::all_within))]
 pub(crate) fn numbers_fit(numbers: &[i64]) -> bool
     ensures { result ≡ (list_of number).fits numbers.now }
@@ -126,7 +126,7 @@ pub(crate) fn numbers_fit(numbers: &[i64]) -> bool
     numbers.len() < MANY && all_numbers(numbers)
 }
 
-/// Whether there are fewer than 2^32 times, each in its range.
+/// Reports whether there are fewer than 2^32 times, each in its range.
 #[tactic(auto, using(crate::proofs::Listed::all_within))]
 pub(crate) fn times_fit(times: &[i64]) -> bool
     ensures { result ≡ (list_of time).fits times.now }

@@ -7,8 +7,9 @@ ghost use Rattle.snapshot_ranges.specs.Ranges.{is_in_range};
 use crate::ranged::{Ranged, list_fits, numbers_fit, time_fits, times_fit};
 use x3d_values::{FieldType, Value, coordinate_fits};
 
-/// Whether a value is in the range of its type: numbers of sizes up to 10^15 millionths, times up
-/// to 10^18 microseconds, texts and lists shorter than 2^32. Nodes are in none.
+/// Reports whether a value is in the range of its type: numbers of sizes up to 10^15 millionths,
+/// times of sizes up to 10^18 microseconds, texts and lists shorter than 2^32. A node or a list of
+/// nodes is in no range.
 #[tactic(auto, unfolding(snapshot_codec::specs::Values::value_fits))]
 fn is_in_range(value: &Value) -> bool
     ensures { result ≡ is_in_range value.now }
@@ -35,7 +36,7 @@ fn is_in_range(value: &Value) -> bool
     }
 }
 
-/// Whether a value is one of a field of this type, in the range of the type.
+/// Reports whether a value is of this field type and in the range of the type.
 #[tactic(auto, using(crate::proofs::Typed::by_type))]
 pub fn value_fits(field_type: FieldType, value: &Value) -> bool
     ensures { result ≡ value_fits field_type value.now }

@@ -1,4 +1,4 @@
--- What a snapshot has of a node behind its fields, by the node's type (our choice).
+-- The part of a node after its fields in a snapshot, by the node's type (our choice).
 use Rattle.std.specs.Prelude.{ℕ, ◌&&◌, Bool, true, false, is_none, List, [], Option, Some, None}
 use Rattle.std.specs.Option.{option_map}
 use Rattle.byte_codec.specs.Codec.{Codec, refined, worded, named, pair}
@@ -22,11 +22,11 @@ use Rattle.snapshot_rules.specs.declared.version.Version.{Version}
 use Rattle.snapshot_rules.specs.declared.version.Version.TheVariants.{One, Two}
 use Rattle.snapshot_rules.specs.Opening.{viewers_of}
 
--- what has no bytes: x and no other value
+-- a value without bytes: x and no other value
 abbrev pub always : {A : Type 0} → A → (A → Bool) → Codec A
 always x is_x = record { write = λ _. []; read = λ bytes. Some (x, bytes); fits = is_x }
 
--- no value, and no bytes that are read
+-- no value at all: nothing is read
 abbrev pub never : {A : Type 0} → Codec A
 never = record { write = λ _. []; read = λ _. None; fits = λ _. false }
 
@@ -43,12 +43,12 @@ touch_in bytes = touch_of_parts (record { over = bytes.over; presser = bytes.pre
 abbrev pub touch_bytes : TouchStateView → TouchBytes
 touch_bytes touch = record { over = number_of touch.over; presser = touch.presser }
 
--- in its ranges, and of viewers that a version has bits for
+-- in its ranges, with only viewers that a version has bits for
 abbrev pub touch_has_bytes : Version → TouchStateView → Bool
 touch_has_bytes version touch =
     touch_fits (state.Touch touch) && (touch_codec (viewers_of version)).fits (touch_bytes touch)
 
--- who is over a TouchSensor, and who presses it
+-- the viewers over a TouchSensor, and the viewer that presses it
 unfoldable pub pointers_codec : Version → Codec TouchStateView
 pointers_codec version =
     refined touch_in touch_bytes (touch_has_bytes version) (touch_codec (viewers_of version))
@@ -79,13 +79,13 @@ abbrev pub plane_bytes : Plane → PlaneBytes
 plane_bytes plane =
     record { over = number_of plane.over; drag = option_map drag_bytes plane.drag }
 
--- who is over a PlaneSensor, and its drag
+-- the viewers over a PlaneSensor, and its drag
 unfoldable pub drags_codec : Codec Plane
 drags_codec = refined plane_in plane_bytes (λ plane. plane_fits (state.Plane plane)) plane_codec
 
 -- ---- where viewers point
 
--- a state has bytes as what is kept of a TouchSensor
+-- the bytes of a state as that of a TouchSensor
 abbrev pub touch_text : Version → PointingState → List ℕ
 touch_text version (state.Touch touch) = (pointers_codec version).write touch
 touch_text version _ = []
@@ -99,17 +99,17 @@ touch_part version =
     worded (touch_text version) (λ touch. Some (state.Touch touch)) (has_touch_text version)
     (pointers_codec version)
 
--- and as what is kept of a PlaneSensor
+-- the bytes of a state as that of a PlaneSensor
 abbrev pub plane_text : PointingState → List ℕ
 plane_text (state.Plane plane) = drags_codec.write plane
 plane_text _ = []
 
--- version 1 has none
+-- version 1 has no PlaneSensors
 unfoldable pub plane_part : Version → Codec PointingState
 plane_part One = never
 plane_part Two = worded plane_text (λ plane. Some (state.Plane plane)) plane_fits drags_codec
 
--- what is kept of a node where viewers point
+-- the pointing state of a node
 unfoldable pub pointing_part : Version → NodeType → Codec PointingState
 pointing_part version TouchSensor = touch_part version
 pointing_part version PlaneSensor = plane_part version
@@ -123,7 +123,7 @@ position_part BooleanSequencer = position_codec
 position_part IntegerSequencer = position_codec
 position_part _ = always (record { at = None }) (λ position. is_none position.at)
 
--- in snapshots of a version
+-- the part after the fields, in snapshots of a version
 unfoldable pub beside_codec : Version → NodeType → Codec Beside
 beside_codec version node_type =
     named (λ t. record { time = t.0; pointing = t.1.0; position = t.1.1 })

@@ -1,4 +1,4 @@
-//! What stands behind the fields of a node.
+//! The part of a node after its fields.
 
 ghost use Rattle.std.specs.Prelude.{◌≡◌, ◌++◌, IsTrue, OnErr, OnOk};
 ghost use Rattle.std.specs.Option.{option_map};
@@ -14,9 +14,9 @@ use snapshot_codec::{cycle_of, position_of, push_cycle, push_position};
 use std::alloc::AllocError;
 use x3d_values::{NodeType, Position};
 
-/// What a node keeps beside the values of its fields: which cycle a TimeSensor runs, what a
-/// TouchSensor or a PlaneSensor keeps of the viewers that point, and which value a sequencer sent
-/// last. A node of another type keeps none of it.
+/// The state of a node other than the values of its fields: the cycle of a TimeSensor, what a
+/// TouchSensor or a PlaneSensor keeps of the viewers that point, and the position of the value that
+/// a sequencer sent last. A node of another type keeps none of these.
 #[derive(Clone, Copy)]
 pub struct Beside {
     pub time: TimeState,
@@ -34,7 +34,7 @@ fn state_of(cycle: Option<u64>) -> TimeState
     }
 }
 
-/// A TimeSensor's cycle at the front of the bytes.
+/// Reads a TimeSensor's cycle.
 fn time_state_of(bytes: &[u8]) -> Option<(TimeState, &[u8])>
     ensures { option_map (λ x. (x.0, x.1.now)) result ≡ cycle_codec.read bytes.now }
 {
@@ -89,8 +89,8 @@ fn push_place(node_type: NodeType, position: Position, out: &mut Vec<u8>) -> Res
     }
 }
 
-/// What stands behind the fields of a node of this type, in a snapshot of this version, at the
-/// front of the bytes, and the bytes behind it.
+/// Reads the part after the fields of a node of this type, in a snapshot of this version. Returns
+/// it with the rest of the bytes, or `None` if the bytes don't encode one.
 #[tactic(auto, unfolding(crate::specs::Beside::beside_codec))]
 pub fn beside_of(version: Version, node_type: NodeType, bytes: &[u8]) -> Option<(Beside, &[u8])>
     ensures { option_map (λ x. (x.0, x.1.now)) result
@@ -113,8 +113,8 @@ pub fn beside_of(version: Version, node_type: NodeType, bytes: &[u8]) -> Option<
     Some((beside, rest))
 }
 
-/// Appends what stands behind the fields of a node of this type, as a snapshot of this version has
-/// it; on a refusal perhaps a part of it.
+/// Appends the part after the fields of a node of this type, for a snapshot of this version. On
+/// `AllocError`, `out` may hold a part of it.
 #[tactic(auto, unfolding(crate::specs::Beside::beside_codec))]
 pub fn push_beside(
     version: Version,

@@ -1,4 +1,4 @@
-//! What is kept of a PlaneSensor: who is over it, and its drag.
+//! The state of a PlaneSensor: the viewers over it, and its drag.
 
 ghost use Rattle.std.specs.Prelude.{◌≡◌, ◌++◌, Some, None, if◌then◌else◌, OnErr, OnOk};
 ghost use Rattle.std.specs.Option.{option_map};
@@ -53,7 +53,7 @@ fn plane_in(plane: &PlaneBytes) -> Option<PlaneState>
     }
 }
 
-/// Who is over a PlaneSensor, and its drag, at the front of the bytes.
+/// Reads the viewers over a PlaneSensor, and its drag.
 #[tactic(auto, unfolding(crate::specs::Beside::drags_codec))]
 fn drags_of(bytes: &[u8]) -> Option<(PlaneState, &[u8])>
     ensures { option_map (λ x. (x.0, x.1.now)) result ≡ drags_codec.read bytes.now }
@@ -75,7 +75,7 @@ fn plane_state_of(bytes: &[u8]) -> Option<(PointingState, &[u8])>
     Some((PointingState::Plane(plane), rest))
 }
 
-/// What is kept of a PlaneSensor, in a snapshot of this version, at the front of the bytes.
+/// Reads the state of a PlaneSensor, in a snapshot of this version.
 #[tactic(auto, unfolding(crate::specs::Beside::plane_part))]
 pub(crate) fn plane_of(version: Version, bytes: &[u8]) -> Option<(PointingState, &[u8])>
     ensures { option_map (λ x. (x.0, x.1.now)) result ≡ (plane_part version).read bytes.now }
@@ -137,7 +137,8 @@ fn push_plane_state(state: &PointingState, out: &mut Vec<u8>) -> Result<(), Allo
     }
 }
 
-/// Appends what is kept of a PlaneSensor, as a snapshot of this version has it.
+/// Appends the state of a PlaneSensor, for a snapshot of this version. On `AllocError` the buffer
+/// is unchanged.
 #[tactic(auto, unfolding(crate::specs::Beside::plane_part))]
 pub(crate) fn push_plane(
     version: Version,

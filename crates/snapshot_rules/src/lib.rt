@@ -1,5 +1,5 @@
-//! Parts of snapshots that need no world: what stands behind the fields of a node, the states of
-//! scripts, and what is tested before a world is read.
+//! The parts of snapshots that need no world: the part of a node after its fields, the states of
+//! scripts, and the checks before a world is read.
 #![tactic(auto)]
 
 mod beside;

@@ -1,4 +1,4 @@
-//! What is kept of a node where viewers point.
+//! The state of a node that viewers point at.
 
 ghost use Rattle.std.specs.Prelude.{◌≡◌, ◌++◌, OnErr, OnOk};
 ghost use Rattle.std.specs.Option.{option_map};
@@ -12,7 +12,7 @@ use snapshot_codec::{Touch, push_touch, touch_of};
 use std::alloc::AllocError;
 use x3d_values::NodeType;
 
-/// Who is over a TouchSensor, and who presses it, at the front of the bytes.
+/// Reads the viewers over a TouchSensor, and the viewer that presses it.
 #[tactic(auto, unfolding(crate::specs::Beside::pointers_codec))]
 fn pointers_of(version: Version, bytes: &[u8]) -> Option<(TouchState, &[u8])>
     ensures { option_map (λ x. (x.0, x.1.now)) result ≡ (pointers_codec version).read bytes.now }
@@ -71,7 +71,7 @@ fn push_touch_state(
     }
 }
 
-/// What is kept of a node of this type where viewers point, at the front of the bytes.
+/// Reads the pointing state of a node of this type.
 #[tactic(auto, unfolding(crate::specs::Beside::pointing_part))]
 pub(crate) fn pointing_of(
     version: Version,
@@ -88,7 +88,7 @@ pub(crate) fn pointing_of(
     }
 }
 
-/// Appends what is kept of a node of this type where viewers point.
+/// Appends the pointing state of a node of this type. On `AllocError` the buffer is unchanged.
 #[tactic(auto, unfolding(crate::specs::Beside::pointing_part, crate::specs::Beside::touch_part))]
 pub(crate) fn push_pointing(
     version: Version,

@@ -9,8 +9,9 @@ use snapshot_codec::{PartFault, push_state, states_of as some_states_of};
 use std::alloc::{AllocError, Global};
 use x3d_values::Items;
 
-/// The states of so many scripts at the front of the bytes, and the bytes behind them. No memory
-/// holds 2^32 scripts.
+/// Reads the states of `scripts` scripts. Returns them with the rest of the bytes. Returns
+/// `NotCanonical` if the bytes are too few, and `Memory` if memory runs out or there are 2^32
+/// scripts or more.
 pub fn states_of(
     alloc: Global,
     scripts: usize,
@@ -24,7 +25,7 @@ pub fn states_of(
     some_states_of(alloc, count, bytes)
 }
 
-/// Appends the states of scripts; on a refusal perhaps a part of them.
+/// Appends the states of scripts. On `AllocError`, `out` may hold a part of them.
 pub fn push_states(states: &[Items<i64>], out: &mut Vec<u8>) -> Result<(), AllocError>
     ensures ok { (scripts : ℕ)
         → OnOk result (out.new.items ≡ out.old.items ++ (states_codec scripts).write states.now) }

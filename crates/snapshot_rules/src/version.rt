@@ -5,12 +5,12 @@ ghost use Rattle.snapshot_rules.specs.Opening.{newest, version_in};
 
 use snapshot_codec::Viewers;
 
-/// A version of the snapshots that are read.
+/// A version of snapshots that can be read.
 #[derive(Clone, Copy, PartialEq, Eq)]
 pub enum Version {
-    /// Of 16 viewers, and of scenes without PlaneSensors.
+    /// For 16 viewers, and scenes without PlaneSensors.
     One,
-    /// Of 64 viewers.
+    /// For 64 viewers.
     Two,
 }
 
@@ -18,7 +18,7 @@ impl Version {
     ghost use Rattle.std.specs.Prelude.{◌≡◌};
     ghost use Rattle.snapshot_rules.specs.Opening.{version_number, version_of, viewers_of};
 
-    /// Its number: the fifth byte of its snapshots.
+    /// Returns the number of the version: the fifth byte of its snapshots.
     pub fn number(self) -> u8
         ensures { result ≡ version_number self }
     {
@@ -28,7 +28,7 @@ impl Version {
         }
     }
 
-    /// The version of this number, where there is one.
+    /// Returns the version of this number, if there is one.
     pub fn of_number(number: u8) -> Option<Version>
         ensures { result ≡ version_of number }
     {
@@ -39,7 +39,7 @@ impl Version {
         }
     }
 
-    /// How many viewers a world has in its snapshots.
+    /// Returns the number of viewers that a world has in snapshots of this version.
     pub fn viewers(self) -> Viewers
         ensures { result ≡ viewers_of self }
     {
@@ -50,14 +50,15 @@ impl Version {
     }
 }
 
-/// The version of the snapshots that are written.
+/// Returns the version of the snapshots that are written.
 pub fn newest() -> Version
     ensures { result ≡ newest }
 {
     Version::Two
 }
 
-/// The version that bytes name, by their fifth; bytes that name none are held against the newest.
+/// Returns the version that the fifth byte names. Returns the newest version if there is no such
+/// byte or it names no version.
 pub fn version_in(bytes: &[u8]) -> Version
     ensures { result ≡ version_in bytes.now }
 {
