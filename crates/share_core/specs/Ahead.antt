@@ -1,4 +1,4 @@
--- A stage, and the window of the inputs that come next: they are applied in turn.
+-- A stage, and the window of the next inputs, which are applied in order.
 use Rattle.std.specs.Prelude.{◌≡◌, ◌⊎◌, ◌≤◌, ◌<◌, ℕ, suc, ◌+◌, ◌^◌, Bool, true, false, List, []}
 use Rattle.std.specs.Prelude.{◌∷◌, ◌++◌, drop, slice_get, slice_set, int_lt, Option, None, Some}
 use Rattle.std.specs.Prelude.{Result, Ok, Err}
@@ -12,13 +12,13 @@ use Rattle.share_law.specs.declared.reply.Taken.{Taken}
 use Rattle.share_law.specs.Machine.{Machine}
 use Rattle.share_law.specs.Viewer.{drain, input_answer, refilled}
 
--- each input of a window stands at its place: the first place is for number n
+-- each input of the window is at its place; the first place is for number n
 abbrev pub InPlace : (n : ℕ) → List (Option StampedView) → Type 0
 InPlace n [] = Unit {0}
 InPlace n (None ∷ rest) = InPlace (suc n) rest
 InPlace n (Some x ∷ rest) = (x.number ≡ n) × (n ≤ max_inputs) × InPlace (suc n) rest
 
--- the input in the first place is applied where it is later than the last; else it leaves
+-- the input in the first place is applied if it is later than the last one, else dropped
 abbrev pub IsNext : Machine Scripted → Scripted → List (Option StampedView) → Result Bool TakeFault
     → Held → List (Option StampedView) → Type 0
 IsNext m w window (Ok false) held rest =
@@ -33,8 +33,8 @@ IsNext m w window (Err fault) held rest =
     ⊎ ((fault ≡ take_fault.Memory) × (int_lt (m.last w) x.time ≡ true)
     × (held ≡ Spoiled (m.applied w))))
 
--- the inputs at the window's front are applied up to the first gap; memory may be refused at any
--- of them
+-- The inputs at the front of the window are applied up to the first gap. Memory may be refused at
+-- any of them.
 abbrev pub IsDrained : Machine Scripted → Scripted → List (Option StampedView)
     → Result Taken TakeFault → Held → List (Option StampedView) → Type 0
 IsDrained m w window result held rest =

@@ -1,4 +1,4 @@
--- What a viewer makes of the bytes of a snapshot, and which worlds have one.
+-- What a viewer does with the bytes of a snapshot, and which worlds have a snapshot.
 use Rattle.std.specs.Prelude.{◌≡◌, ◌⊎◌, ◌<◌, ◌^◌, ℕ, List, Option, None, Some, Result, Ok, Err}
 use Rattle.std.specs.Prelude.{nat_le, if◌then◌else◌}
 use Rattle.cascade_core.specs.Course.{Scripted}
@@ -14,21 +14,22 @@ use Rattle.share_law.specs.Pieces.{Gathering, joined, whole_of}
 use Rattle.share_law.specs.Viewer.{Shot, ViewerState, begun, spoiled_at}
 use Rattle.share_core.specs.Viewer.{ViewerView, machine_of}
 
--- it begins again in the world that was found, or stays as it is
+-- the viewer restarts in the world that was found, or stays unchanged
 abbrev pub rewound_to : ViewerState Scripted → (boot : ℕ) → Result (ℕ × Scripted) SnapFault
     → Result ℕ SnapFault × ViewerState Scripted
 rewound_to x boot (Ok found) = (Ok found.1.world.applied, begun boot found.1)
 rewound_to x boot (Err fault) = (Err fault, x)
 
--- what is answered, and what the viewer then is, memory aside
+-- the answer to a rewind, and the viewer after it, unless memory runs out
 abbrev pub rewound : ViewerView → (boot : ℕ) → (bytes : List ℕ)
     → Result ℕ SnapFault × ViewerState Scripted
 rewound v boot bytes =
     if nat_le boot v.state.boot then (Err BootNotNew, v.state)
     else rewound_to v.state boot (loaded v.mark v.scene boot bytes)
 
--- the same of a real viewer: memory is refused only behind a good head, where the boot is above the
--- viewer's own, and spoils it with what it had applied
+-- Like `rewound`, for a real viewer. Memory is refused only if the boot is above the viewer's own
+-- and the head of the snapshot is good. The viewer is then spoiled, with the inputs that it had
+-- applied.
 abbrev pub IsRewound : ViewerView → (boot : ℕ) → (bytes : List ℕ) → Result ℕ SnapFault
     → ViewerState Scripted → Type 0
 IsRewound v boot bytes result new =
@@ -38,7 +39,7 @@ IsRewound v boot bytes result new =
 
 -- ---- what was gathered
 
--- it begins again by the bytes of these pieces, where none are missing
+-- the viewer restarts from the bytes of these pieces, if none is missing
 abbrev pub IsBegunFrom : ViewerView → Option Gathering → (boot : ℕ) → Result ℕ JoinFault
     → ViewerState Scripted → Type 0
 IsBegunFrom v None boot result new = (result ≡ Err NotWhole) × (new ≡ v.state)
@@ -46,8 +47,8 @@ IsBegunFrom v (Some g) boot result new =
     (rewound : Result ℕ SnapFault) × IsRewound v boot (joined g.places) rewound new
     × (result ≡ join_result rewound)
 
--- it begins again by the bytes that it gathered, where none are missing, and then gathers anew;
--- else what it gathered stays
+-- The viewer restarts from the bytes that it gathered, if no piece is missing, and then holds no
+-- pieces. Else what it gathered stays.
 abbrev pub IsJoined : ViewerView → Option Gathering → (boot : ℕ) → Result ℕ JoinFault
     → ViewerState Scripted → Option Gathering → Type 0
 IsJoined v None boot result new held = IsNoJoin v.state v.gathering result new held
@@ -55,7 +56,7 @@ IsJoined v (Some g) boot result new held =
     (rewound : Result ℕ SnapFault) × IsRewound v boot (joined g.places) rewound new
     × (result ≡ join_result rewound) × (held ≡ left_by v.gathering rewound)
 
--- where it has gathered the bytes of a world's snapshot, that is the law's step
+-- if what was gathered is the snapshot of a world, the join is the law's step
 abbrev pub IsLawfulJoin : ViewerView → (boot : ℕ) → Result ℕ JoinFault → ViewerState Scripted
     → Option Gathering → Type 0
 IsLawfulJoin v boot result new held =

@@ -11,7 +11,7 @@ use Rattle.share_core.specs.Host.{HostInputsView}
 
 -- ---- the host
 
--- the number of an event at time t and the inputs with it, or why it has none
+-- the number of an event at time t, and the inputs with it; or why it has no number
 abbrev pub listed : HostInputsView → ℤ → Cause → Option NumberFault
     → Result ℕ NumberFault × HostInputsView
 listed e t cause (Some fault) = (Err fault, e)
@@ -24,8 +24,8 @@ listed e t cause None = (
   },
 )
 
--- the same of real inputs: memory is refused only where there is no other fault, and then nothing
--- changed
+-- Like `listed`, for real inputs. Memory is refused only if there is no other fault; then nothing
+-- changes.
 abbrev pub IsListed : HostInputsView → ℤ → Cause → Result ℕ NumberFault → HostInputsView → Type 0
 IsListed e t cause result new =
     (listed e t cause (fault_behind e.count e.last t) ≡ (result, new))
@@ -33,6 +33,6 @@ IsListed e t cause result new =
 
 -- ---- a viewer
 
--- a point that was looked at
+-- an offered point, as it is given to `offer`
 abbrev pub point_aimed : OfferedPoint → Point
 point_aimed a = record { down = a.down; origin = a.ray.origin; dir = a.ray.dir }

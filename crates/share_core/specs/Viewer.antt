@@ -11,8 +11,8 @@ use Rattle.share_law.specs.Machine.{Machine}
 use Rattle.share_law.specs.Pieces.{Gathering}
 use Rattle.share_law.specs.Viewer.{ViewerWorld, Spoiled, Running, ViewerState}
 
--- the mark of its scene, its number, its scene with the routes, what the law knows of a viewer, and
--- what it gathers of a snapshot
+-- the mark of the scene, the viewer's number, the scene and its routes, the state of the viewer in
+-- the law, and what it gathers of a snapshot
 pub record ViewerView : Type 0 where
   pub mark : List ℕ
   pub who : ℕ
@@ -21,11 +21,11 @@ pub record ViewerView : Type 0 where
   pub state : ViewerState Scripted
   pub gathering : Option Gathering
 
--- the worlds that it may hold
+-- the machine of the worlds that the viewer may hold
 abbrev pub machine_of : ViewerView → Machine Scripted
 machine_of v = cascade v.mark v.scene v.routes
 
--- the same viewer with another world, other offers or in another boot
+-- the same viewer in another state: another world, other offers or another boot
 abbrev pub with_state : ViewerView → ViewerState Scripted → ViewerView
 with_state v state = record v { state = state }
 
@@ -33,7 +33,7 @@ with_state v state = record v { state = state }
 abbrev pub with_gathering : ViewerView → Option Gathering → ViewerView
 with_gathering v held = record v { gathering = held }
 
--- what is held by a stage and a window
+-- the world of a viewer, given what its stage holds and its window
 abbrev pub view_of : Held → List (Option StampedView) → ViewerWorld Scripted
 view_of (held.Running w) window = Running w window
 view_of (held.Spoiled count) window = Spoiled count
@@ -51,12 +51,12 @@ abbrev pub is_spoiled : ViewerWorld Scripted → Bool
 is_spoiled (Running w window) = false
 is_spoiled (Spoiled count) = true
 
--- a fact about the world of a viewer that runs
+-- a fact about the world of a viewer, if it runs
 abbrev pub IfRunning : ViewerWorld Scripted → (Scripted → Type 0) → Type 0
 IfRunning (Running w window) P = P w
 IfRunning (Spoiled count) P = Unit {0}
 
--- a fact about a viewer that is spoiled
+-- a fact about a viewer, if it is spoiled
 abbrev pub IfSpoiled : ViewerWorld Scripted → Type 0 → Type 0
 IfSpoiled (Running w window) P = Unit {0}
 IfSpoiled (Spoiled count) P = P

@@ -3,8 +3,8 @@ use Rattle.std.specs.Prelude.{ℕ, List}
 use Rattle.x3d_values.specs.declared.pointing.Point.{Point}
 use Rattle.share_law.specs.Viewer.{ViewerWorld, ViewerState}
 
--- a viewer's number and boot, how many offers were made in this boot, and the last of these, which
--- wait
+-- a viewer's number and boot, the number of offers made in this boot, and the last of these offers,
+-- which wait
 pub record Offers : Type 0 where
   pub who : ℕ
   pub boot : ℕ

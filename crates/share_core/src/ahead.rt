@@ -1,4 +1,4 @@
-//! A stage, and the window of the inputs that come next: they are applied in turn.
+//! A stage, and the window of the next inputs, which are applied in order.
 
 ghost use Rattle.std.specs.Prelude.{◌≡◌, ◌≤◌, ◌+◌, ◌^◌, ℕ, List, false, length};
 ghost use Rattle.x3d_values.specs.Ranges.{max_inputs};
@@ -18,7 +18,7 @@ use share_law::{TakeFault, Taken};
 use share_rules::{Window, place_of};
 use x3d_values::Stamped;
 
-/// Applies the next input, if it came.
+/// Applies the next input, if it is there. Returns whether it was.
 fn apply_next<B: Behaviour>(stage: &mut Stage<B>, window: &mut Window) -> Result<bool, TakeFault>
     requires runs { is_spoiled stage.old.held ≡ false }
     requires place { InPlace (applied_of stage.old.held + 1) window.old }
@@ -50,7 +50,7 @@ fn apply_next<B: Behaviour>(stage: &mut Stage<B>, window: &mut Window) -> Result
     }
 }
 
-/// Applies the inputs that come next, up to the first that did not come.
+/// Applies the next inputs, up to the first that is missing.
 fn apply_ready<B: Behaviour>(stage: &mut Stage<B>, window: &mut Window) -> Result<Taken, TakeFault>
     requires runs { is_spoiled stage.old.held ≡ false }
     requires place { InPlace (applied_of stage.old.held + 1) window.old }
@@ -74,7 +74,7 @@ fn apply_ready<B: Behaviour>(stage: &mut Stage<B>, window: &mut Window) -> Resul
     }
 }
 
-/// Takes an input that came.
+/// Takes an input that arrived.
 pub(crate) fn take_input<B: Behaviour>(
     stage: &mut Stage<B>,
     window: &mut Window,

@@ -1,4 +1,4 @@
-//! The host: it numbers inputs, and keeps of each viewer how many of its offers are numbered.
+//! The host: it numbers inputs, and keeps for each viewer how many of its offers are numbered.
 
 ghost use Rattle.std.specs.Prelude.{◌≡◌, ◌<◌, Ok, length, slice_get, slice_set};
 ghost use Rattle.std.specs.Option.{option_map};
@@ -16,7 +16,7 @@ use std::alloc::Global;
 use std::marker::Model;
 use x3d_values::{Cause, MAX_VIEWERS, Stamped};
 
-/// How many viewers a host may have.
+/// The largest number of viewers of a host.
 const SEATS: usize = MAX_VIEWERS as usize;
 
 /// The host of a shared world: the mark of its scene, the inputs that it numbered, from its floor
@@ -40,14 +40,14 @@ impl Model for Host {
     ghost invariant = { λ h. (length h.kept.items ≤ max_viewers) × (length h.mark ≡ 32) };
 }
 
-/// How many offers of a boot are numbered: none of a boot above the one that is kept.
+/// Returns the number of numbered offers of a boot: 0 for any boot other than the kept one.
 fn count_for(kept: SeatCount, boot: u32) -> u32
     ensures { result ≡ count_for kept boot }
 {
     if kept.boot == boot { kept.count } else { 0 }
 }
 
-/// What is answered to an offer that is not the next of its viewer.
+/// Returns the reply to an offer that isn't the next one of its viewer.
 fn reply_before(kept: SeatCount, offer: Offer) -> Option<HostReply>
     ensures { result ≡ reply_before kept offer }
 {
@@ -60,7 +60,7 @@ fn reply_before(kept: SeatCount, offer: Offer) -> Option<HostReply>
     }
 }
 
-/// What is kept of a viewer, if there is one with this number.
+/// Returns what is kept of a viewer, if there is one with this number.
 fn kept_of(kept: &ArrayVec<SeatCount, SEATS>, who: u8) -> Option<SeatCount>
     ensures { result ≡ slice_get kept.now.items who }
 {
@@ -74,7 +74,7 @@ fn set_kept(kept: &mut ArrayVec<SeatCount, SEATS>, who: u8, now: SeatCount)
     kept.as_mut_slice()[who as usize] = now;
 }
 
-/// The packet of an input, if there is one.
+/// Returns the packet of an input, if there is one.
 fn packet_of(mark: [u8; 32], input: Option<Stamped>) -> Option<Packet>
     ensures bytes { option_map (λ p. p.items) result
         ≡ option_map (λ body. datagram (record { mark = mark; body = body }))
@@ -104,8 +104,8 @@ impl Host {
     ghost use Rattle.share_law.specs.Calls.{IsPartClocked, IsPartTake, IsPartTakeOf};
     ghost use Rattle.share_core.specs.Host.{AreNumbered};
 
-    /// The host of a scene with this mark, for viewers that are numbered from 0: 1 to
-    /// `MAX_VIEWERS` of them. It takes no memory; its list of inputs grows with `alloc`.
+    /// Creates the host of a scene with this mark, for 1 to `MAX_VIEWERS` viewers, numbered from 0.
+    /// Takes no memory; its list of inputs grows with `alloc`.
     pub fn new(alloc: Global, mark: [u8; 32], viewers: u8) -> Host
         requires some { 1 ≤ viewers }
         requires most { viewers ≤ max_viewers }
@@ -120,11 +120,11 @@ impl Host {
         }
     }
 
-    /// Numbers a clock at a time in microseconds, and gives its number.
+    /// Numbers a clock input at a time in microseconds. Returns its number.
     ///
-    /// Refused in this order: `WorldFull`, where 2^20 inputs are numbered; `TimeNotLater`, where
-    /// the last input is at that time or after it, or the time is not above 0; `TimeRange`, above
-    /// 10^18; `Memory`. A refusal changes nothing.
+    /// Fails, in this order, with `WorldFull` if 2^20 inputs are numbered, `TimeNotLater` if the
+    /// time isn't above that of the last input and above 0, `TimeRange` if it is above 10^18, or
+    /// `Memory`. A failure changes nothing.
     pub fn clock(&mut self, time: i64) -> Result<u32, NumberFault>
         ensures mark { self.new.mark ≡ self.old.mark }
         ensures step { IsPartClocked self.old.part time result self.new.part }
@@ -132,12 +132,13 @@ impl Host {
         self.inputs.add(time, Cause::Clock)
     }
 
-    /// The packet of the input of this number, from the floor on, if there is one. Takes no memory.
+    /// Returns the packet of the input with this number. Returns `None` if there is no such input
+    /// or it is below the floor. Takes no memory.
     pub fn packet(&self, number: u32) -> Option<Packet>
         ensures bytes { option_map (λ p. p.items) result
             ≡ option_map (λ body. datagram (record { mark = self.now.mark; body = body }))
             (part_packet self.now.part number) }
-        // They are decoded as that input.
+        // The packet decodes to that input.
         ensures again { option_map (λ p. decoded p.items) result
             ≡ option_map (λ body. Ok (record { mark = self.now.mark; body = body }))
             (part_packet self.now.part number) }
@@ -145,19 +146,19 @@ impl Host {
         packet_of(self.mark, self.inputs.get(number))
     }
 
-    /// The number from which on there are packets of inputs: 1 at first, and at most the next
-    /// input's.
+    /// Returns the floor, the number from which on there are packets of inputs. It is 1 at first,
+    /// and at most the number of the next input.
     pub fn floor(&self) -> u32
         ensures { result ≡ self.now.part.floor }
     {
         self.inputs.floor()
     }
 
-    /// Drops the inputs below this number, and gives it; their memory is used again or freed. Takes
+    /// Drops the inputs below this number, and returns it. Their memory is reused or freed. Takes
     /// no memory.
     ///
-    /// Refused in this order: `FloorBack`, below the floor; `FloorAhead`, above the number of the
-    /// next input. A refusal changes nothing.
+    /// Fails, in this order, with `FloorBack` if the number is below the floor, or `FloorAhead` if
+    /// it is above that of the next input. A failure changes nothing.
     pub fn drop_below(&mut self, floor: u32) -> Result<u32, FloorFault>
         ensures mark { self.new.mark ≡ self.old.mark }
         ensures step { part_drop_below self.old.part floor ≡ (result, self.new.part) }
@@ -172,11 +173,11 @@ impl Host {
         Ok(floor)
     }
 
-    /// The packet that tells the floor. Takes no memory.
+    /// Returns the packet that reports the floor. Takes no memory.
     pub fn floor_packet(&self) -> Packet
         ensures bytes { result.items
             ≡ datagram (record { mark = self.now.mark; body = part_floor_packet self.now.part }) }
-        // They are decoded as that floor.
+        // The packet decodes to that floor.
         ensures again { decoded result.items
             ≡ Ok (record { mark = self.now.mark; body = part_floor_packet self.now.part }) }
     {
@@ -187,7 +188,7 @@ impl Host {
         })
     }
 
-    /// How many inputs are numbered: at most 2^20.
+    /// Returns the number of numbered inputs: at most 2^20.
     pub fn len(&self) -> u32
         ensures value { result ≡ self.now.part.count }
         ensures most { result ≤ max_inputs }
@@ -195,7 +196,7 @@ impl Host {
         self.inputs.len()
     }
 
-    /// The mark of its scene.
+    /// Returns the mark of the host's scene.
     pub fn mark(&self) -> [u8; 32]
         ensures value { result ≡ self.now.mark }
         ensures bytes { length result ≡ 32 }
@@ -203,21 +204,21 @@ impl Host {
         self.mark
     }
 
-    /// How many viewers there are: 1 to `MAX_VIEWERS`.
+    /// Returns the number of viewers: 1 to `MAX_VIEWERS`.
     pub fn viewers(&self) -> u8
         ensures { result ≡ length self.now.part.kept }
     {
         self.kept.len() as u8
     }
 
-    /// The packet that tells a viewer how many offers of which of its boots are numbered. `viewers`
-    /// is the test. Takes no memory.
+    /// Returns the packet that reports to a viewer the boot that is kept of it, and how many offers
+    /// of that boot are numbered. `who` must be below `viewers`. Takes no memory.
     pub fn ack(&self, who: u8) -> Packet
         requires { who < length self.now.part.kept }
         ensures bytes { option_map
             (λ kept. datagram (record { mark = self.now.mark; body = ack_of who kept }))
             (slice_get self.now.part.kept who) ≡ Some result.items }
-        // They are decoded as that ack.
+        // The packet decodes to that ack.
         ensures again { option_map
             (λ kept. Ok (record { mark = self.now.mark; body = ack_of who kept }))
             (slice_get self.now.part.kept who) ≡ Some (decoded result.items) }
@@ -231,15 +232,16 @@ impl Host {
 
     /// Takes the bytes of a packet.
     ///
-    /// An ask is answered with the inputs from the one asked for on, at most 64; with the floor
-    /// where that one is below it; and with `NothingToDo` where it isn't numbered yet. The next
-    /// offer of a viewer is numbered 1 microsecond after the last input; an earlier one is a
-    /// `Repeat`, a later one is `Ahead`, and one of an earlier boot is of an `OldBoot`. Of a higher
-    /// boot no offer is numbered yet. HostInputs, acks, floors and pieces are `NothingToDo`.
+    /// The reply to an ask names at most 64 inputs, from the one asked for on. It is `Below` with
+    /// the floor if that one is below the floor, and `NothingToDo` if that one isn't numbered yet.
+    /// The next offer of a viewer is numbered, 1 microsecond after the last input. An earlier offer
+    /// is a `Repeat`, a later one is `Ahead`, and one of an earlier boot is of an `OldBoot`. Of a
+    /// boot above the kept one, no offer is numbered yet. Inputs, acks, floors and pieces are
+    /// `NothingToDo`.
     ///
-    /// Refused in this order: `Wire`, where the bytes are no datagram; `WrongScene`, where it has
-    /// another mark; `BadViewer`, an ask or an offer of a viewer that there isn't; `Number`, where
-    /// an offer's input can't be numbered. A refusal changes nothing.
+    /// Fails, in this order, with `Wire` if the bytes aren't a datagram, `WrongScene` if it has
+    /// another mark, `BadViewer` for an ask or an offer of a viewer that doesn't exist, or `Number`
+    /// if an offer can't be numbered. A failure changes nothing.
     pub fn take(&mut self, bytes: &[u8]) -> Result<HostReply, HostFault>
         ensures mark { self.new.mark ≡ self.old.mark }
         ensures asked { IfOk result (AreNumbered self.new.part) }
@@ -252,8 +254,8 @@ impl Host {
         }
     }
 
-    /// Takes the message of a packet, as `take` does once its bytes are decoded: the first refusal
-    /// is `WrongScene`.
+    /// Takes a decoded message, like `take` after it has decoded the bytes. The first fault is then
+    /// `WrongScene`.
     pub fn take_message(&mut self, message: Message) -> Result<HostReply, HostFault>
         ensures mark { self.new.mark ≡ self.old.mark }
         ensures asked { IfOk result (AreNumbered self.new.part) }
@@ -280,7 +282,7 @@ impl Host {
         }
     }
 
-    /// Which inputs are asked for.
+    /// Returns the reply to an ask.
     fn take_ask(&self, ask: Ask) -> Result<HostReply, HostFault>
         ensures asked { IfOk result (AreNumbered self.now.part) }
         ensures reply { result

@@ -12,8 +12,8 @@ use std::collections::VecDeque;
 use std::marker::Model;
 use x3d_values::{Cause, MAX_INPUTS, MAX_TIME, Stamped};
 
-/// The inputs of a world from its floor on, in the order of their numbers, how many there were in
-/// all, and when the last was, in microseconds.
+/// The inputs of a world from its floor on, in the order of their numbers, with the number of all
+/// inputs and the time of the last in microseconds.
 #[derive(Drop)]
 pub(crate) struct HostInputs {
     rest: VecDeque<Stamped>,
@@ -40,7 +40,7 @@ impl Model for HostInputs {
         × (pos 0 ≤ℤ i.last) × (i.last ≤ℤ pos max_time) };
 }
 
-/// The first so many leave. Their places are used again, and freed once few are left.
+/// Removes the first `count` inputs. Their places are reused, and freed once few inputs are left.
 fn drop_front(list: &mut VecDeque<Stamped>, count: usize)
     ensures { list.new.items ≡ drop count list.old.items }
 {
@@ -50,7 +50,7 @@ fn drop_front(list: &mut VecDeque<Stamped>, count: usize)
     free_most(list);
 }
 
-/// Frees places where more than three of four are empty.
+/// Frees places if more than three of four are empty.
 fn free_most(list: &mut VecDeque<Stamped>)
     ensures { list.new.items ≡ list.old.items }
 {
@@ -60,7 +60,7 @@ fn free_most(list: &mut VecDeque<Stamped>)
 }
 
 impl HostInputs {
-    /// No inputs. Takes no memory.
+    /// Returns the inputs of a new world: none. Takes no memory.
     pub(crate) fn new(alloc: Global) -> HostInputs
         ensures { result ≡ record { floor = 1; rest = []; count = 0; last = pos 0 } }
     {
@@ -72,7 +72,7 @@ impl HostInputs {
         }
     }
 
-    /// How many there were in all.
+    /// Returns the number of all inputs, including those below the floor.
     pub(crate) fn len(&self) -> u32
         ensures value { result ≡ self.now.count }
         ensures fits { self.now.count ≤ max_inputs }
@@ -80,7 +80,7 @@ impl HostInputs {
         self.count
     }
 
-    /// The number of the first that is there, or of the next.
+    /// Returns the number of the first input that is there, or else of the next input.
     pub(crate) fn floor(&self) -> u32
         ensures value { result ≡ self.now.floor }
         ensures from { 1 ≤ self.now.floor }
@@ -89,7 +89,7 @@ impl HostInputs {
         self.floor
     }
 
-    /// The input of a number, if it is there.
+    /// Returns the input with this number, if it is there.
     pub(crate) fn get(&self, number: u32) -> Option<Stamped>
         ensures { result ≡ entry self.now number }
     {
@@ -99,7 +99,7 @@ impl HostInputs {
         at(&self.rest, number - self.floor)
     }
 
-    /// Why no input is numbered at a time, memory aside.
+    /// Returns why no input is numbered at this time, unless memory runs out.
     #[tactic(auto, unfolding(share_law::specs::Parts::fault_behind))]
     fn fault_at(&self, time: i64) -> Option<NumberFault>
         ensures { result ≡ fault_behind self.now.count self.now.last time }
@@ -115,7 +115,7 @@ impl HostInputs {
         }
     }
 
-    /// Numbers an input at a time in microseconds.
+    /// Numbers an input at this time, in microseconds. Returns its number.
     pub(crate) fn add(&mut self, time: i64, cause: Cause) -> Result<u32, NumberFault>
         ensures { IsListed self.old time cause result self.new }
     {
@@ -133,7 +133,7 @@ impl HostInputs {
         }
     }
 
-    /// Numbers an input 1 microsecond after the last one.
+    /// Numbers an input 1 microsecond after the last one. Returns its number.
     pub(crate) fn add_next(&mut self, cause: Cause) -> Result<u32, NumberFault>
         ensures { IsListed self.old (self.old.last +ℤ pos 1) cause result self.new }
     {
@@ -141,7 +141,7 @@ impl HostInputs {
         self.add(time, cause)
     }
 
-    /// Those below this number leave. Takes no memory.
+    /// Drops the inputs below number `floor`. Takes no memory.
     pub(crate) fn drop_below(&mut self, floor: u32)
         requires from { self.old.floor ≤ floor }
         requires to { floor ≤ self.old.count + 1 }
@@ -152,7 +152,7 @@ impl HostInputs {
     }
 }
 
-/// The input at a place from 0, if there is one.
+/// Returns the input at a place, counted from 0, if there is one.
 fn at(list: &VecDeque<Stamped>, place: u32) -> Option<Stamped>
     ensures { result ≡ slice_get list.now.items place }
 {

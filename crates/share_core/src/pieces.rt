@@ -14,10 +14,10 @@ use share_wire::{
 };
 use snapshot_core::{ShotHead, shot_head};
 
-/// The longest snapshot that is sent in pieces.
+/// The size in bytes of the longest snapshot that is sent in pieces.
 const MAX_SIZE: usize = 1 << 26;
 
-/// How many bytes there are, where they are not too many to be sent in pieces.
+/// Returns the number of bytes, unless they are too many to be sent in pieces.
 fn size_of(bytes: &[u8]) -> Option<u32>
     ensures { result
         ≡ if nat_le (length bytes.now) (2 ^ 26) then Some (length bytes.now) else None }
@@ -29,8 +29,8 @@ fn size_of(bytes: &[u8]) -> Option<u32>
     }
 }
 
-/// How many pieces the bytes of a snapshot have: none where they don't begin as a snapshot does, or
-/// are more than 2^26. Takes no memory.
+/// Returns the number of pieces of a snapshot's bytes. Returns `None` if they don't begin like a
+/// snapshot or are more than 2^26. Takes no memory.
 pub fn piece_count(bytes: &[u8]) -> Option<u32>
     ensures { result ≡ count_of bytes.now }
 {
@@ -43,7 +43,7 @@ pub fn piece_count(bytes: &[u8]) -> Option<u32>
     }
 }
 
-/// A piece of a snapshot of this boot and so many inputs.
+/// Returns piece `index` of a snapshot with this head.
 fn cut(head: ShotHead, size: u32, bytes: &[u8], index: u32) -> Piece
     requires range { IsTrue (is_piece head.boot head.applied size index) }
     requires whole { size ≡ length bytes.now }
@@ -54,7 +54,7 @@ fn cut(head: ShotHead, size: u32, bytes: &[u8], index: u32) -> Piece
     Piece::new(head.boot, head.applied, size, index, &bytes[start..end])
 }
 
-/// The piece of this number, from 0, if there is one.
+/// Returns the piece with this number, counted from 0, if there is one.
 fn piece_at(bytes: &[u8], index: u32) -> Option<Piece>
     ensures { option_map (λ p. body.Piece p) result ≡ piece_of bytes.now index }
 {
@@ -67,13 +67,13 @@ fn piece_at(bytes: &[u8], index: u32) -> Option<Piece>
     }
 }
 
-/// The packet of the piece of this number, from 0, of a snapshot's bytes, for the viewers of the
-/// scene with this mark, if there is such a piece. Takes no memory.
+/// Returns the packet of a piece of a snapshot's bytes, by its number, counted from 0, for the
+/// viewers of the scene with this mark. Returns `None` if there is no such piece. Takes no memory.
 pub fn piece_packet(mark: [u8; 32], bytes: &[u8], index: u32) -> Option<Packet>
     ensures bytes { option_map (λ p. p.items) result
         ≡ option_map (λ body. datagram (record { mark = mark; body = body }))
         (piece_of bytes.now index) }
-    // They are decoded as that piece.
+    // The packet decodes to that piece.
     ensures again { option_map (λ p. decoded p.items) result
         ≡ option_map (λ body. Ok (record { mark = mark; body = body }))
         (piece_of bytes.now index) }

@@ -1,4 +1,4 @@
-//! A viewer of a shared world: it applies the host's inputs in turn, and offers what it points at.
+//! A viewer of a shared world: it applies the host's inputs in order, and offers its points.
 
 ghost use Rattle.std.specs.Prelude.{◌≡◌, ◌≤◌, ◌+◌, ◌^◌, if◌then◌else◌, nat_lt, None, Some};
 ghost use Rattle.x3d_values.specs.Ranges.{max_inputs};
@@ -16,8 +16,8 @@ use snapshot_core::{SaveFault, SnapFault, load_into, save};
 use std::marker::Model;
 use x3d_values::{Point, Stamped};
 
-/// A viewer of a shared world: the mark of its scene, its stage, the inputs that came before their
-/// turn, the offers that wait, and the pieces of a snapshot that came.
+/// A viewer of a shared world: the mark of its scene, its stage, the inputs that arrived early, its
+/// waiting offers, and the pieces of a snapshot that arrived.
 #[derive(Drop)]
 pub struct Viewer<B: Behaviour> {
     mark: [u8; 32],
@@ -50,7 +50,7 @@ impl<B: Behaviour> Model for Viewer<B> {
         × InPlace (applied_of v.stage.held + 1) v.window × (length v.mark ≡ 32) };
 }
 
-/// The pieces, unless they were joined.
+/// Returns the pieces, unless they were joined; then drops them.
 fn unless(joined: bool, pieces: Pieces) -> Option<Pieces>
     ensures { result ≡ if joined then None else Some pieces }
 {
@@ -62,7 +62,7 @@ fn unless(joined: bool, pieces: Pieces) -> Option<Pieces>
     }
 }
 
-/// What a join answers where a rewind did so.
+/// Returns the answer of a join, given that of its rewind.
 fn joined(rewound: Result<u32, SnapFault>) -> Result<u32, JoinFault>
     ensures { result ≡ join_result rewound }
 {
@@ -72,7 +72,7 @@ fn joined(rewound: Result<u32, SnapFault>) -> Result<u32, JoinFault>
     }
 }
 
-/// What a viewer that has applied so many inputs makes of a floor.
+/// Returns the answer to a floor of a viewer that has applied `applied` inputs.
 fn behind(applied: u32, floor: Floor) -> Taken
     requires { applied ≤ max_inputs }
     ensures { result ≡ if nat_lt (applied + 1) floor then Taken.Behind else Taken.Noted }
@@ -110,9 +110,9 @@ impl<B: Behaviour> Viewer<B> {
     ghost use Rattle.snapshot_core.specs.Shot.{shot};
     ghost use Rattle.snapshot_core.specs.Loading.{HasSnapshot};
 
-    /// A viewer of the scene with this mark, as this boot of viewer number `who`, which begins with
-    /// a stage that has had no input. It takes no memory. `is_viewer` and `is_ordinal` are the
-    /// tests.
+    /// Starts a viewer of the scene with this mark, as boot `boot` of viewer `who`. The stage must
+    /// have had no input. Test `who` with `is_viewer` and `boot` with `is_ordinal`. Takes no
+    /// memory.
     pub fn start(stage: Stage<B>, mark: [u8; 32], who: u8, boot: u32) -> Viewer<B>
         requires who { IsTrue (is_viewer who) }
         requires boot { IsTrue (is_ordinal boot) }
@@ -135,28 +135,29 @@ impl<B: Behaviour> Viewer<B> {
         }
     }
 
-    /// How many inputs were applied, or had been when memory was refused.
+    /// Returns the number of applied inputs. For a spoiled viewer, counts those before memory was
+    /// refused.
     pub fn applied(&self) -> u32
         ensures { result ≡ applied_in (machine_of self.now) self.now.state.view }
     {
         self.stage.applied()
     }
 
-    /// Whether memory was refused at an input.
+    /// Reports whether the viewer is spoiled: memory was refused to an input or to a rewind.
     pub fn spoiled(&self) -> bool
         ensures { result ≡ is_spoiled self.now.state.view }
     {
         self.stage.spoiled()
     }
 
-    /// Its boot.
+    /// Returns the viewer's boot.
     pub fn boot(&self) -> u32
         ensures { result ≡ self.now.state.boot }
     {
         self.offers.boot()
     }
 
-    /// The mark of its scene.
+    /// Returns the mark of the viewer's scene.
     pub fn mark(&self) -> [u8; 32]
         ensures value { result ≡ self.now.mark }
         ensures bytes { length result ≡ 32 }
@@ -164,7 +165,7 @@ impl<B: Behaviour> Viewer<B> {
         self.mark
     }
 
-    /// Its stage, of which the world is read.
+    /// Returns the viewer's stage, to read the world.
     pub fn stage(&self) -> &Stage<B>
         ensures { result.now ≡ stage_in self.now }
     {
@@ -173,17 +174,17 @@ impl<B: Behaviour> Viewer<B> {
 
     /// Takes the bytes of a packet.
     ///
-    /// An input that was applied is `Old`, and one behind the window `Beyond`. Another is
-    /// kept, unless there is one of its number; then, while the next input is there, it is applied:
-    /// `Applied` says how many were, and `Held` that none was. An ack of this viewer is `Noted`: of
-    /// this boot, it lets go the waiting offers up to its count. A floor is `Behind` where the host
-    /// has the next input no more, and else `Noted`.
+    /// An input that was applied before is `Old`, and one after the window is `Beyond`. Any other
+    /// input is kept, unless one with its number is. Then inputs are applied as long as the next
+    /// one is there: `Applied` has their number, and `Held` says that there were none. An ack of
+    /// this viewer is `Noted`; if it is of this boot, it drops the waiting offers up to its count.
+    /// A floor is `Behind` if the host no longer has the next input, else `Noted`.
     ///
-    /// Refused in this order: `Spoiled`, where memory was refused before; `Wire`, where the bytes
-    /// are no datagram; `WrongScene`, where it has another mark; `NotForMe`, an offer, an ask, a
-    /// piece, or another viewer's ack; each of these changes nothing. `TimeNotLater`, an input that
-    /// isn't later than the one before: it is dropped, and those before it stay applied. `Memory`:
-    /// the viewer is spoiled with the inputs that it had applied.
+    /// Fails, in this order, with `Spoiled` if memory was refused before, `Wire` if the bytes
+    /// aren't a datagram, `WrongScene` if it has another mark, or `NotForMe` for an offer, an ask,
+    /// a piece or another viewer's ack. These change nothing. `TimeNotLater` reports an input that
+    /// isn't later than the one before: it is dropped, and those before it stay applied. `Memory`
+    /// spoils the viewer, with the inputs that it had applied.
     pub fn take(&mut self, bytes: &[u8]) -> Result<Taken, TakeFault>
         ensures others { self.new ≡ with_state self.old self.new.state }
         ensures step { IsTakeOf (machine_of self.old) self.old.mark self.old.who self.old.state
@@ -238,7 +239,7 @@ impl<B: Behaviour> Viewer<B> {
         Ok(Taken::Noted)
     }
 
-    /// Whether the host has the next input no more.
+    /// Returns `Behind` if the host no longer has the next input, else `Noted`.
     fn take_floor(&self, floor: Floor) -> Taken
         requires { is_spoiled self.now.state.view ≡ false }
         ensures { IsTake (machine_of self.now) self.now.who self.now.state (body.Floor floor)
@@ -247,11 +248,12 @@ impl<B: Behaviour> Viewer<B> {
         behind(self.stage.applied(), floor)
     }
 
-    /// Offers a point, and gives the offer's number in this boot, from 1. Takes no memory.
+    /// Offers a point. Returns the offer's number in this boot, from 1. Takes no memory.
     ///
-    /// Refused in this order: `Spoiled`, where memory was refused before; `ZeroRay`, a direction of
-    /// 0 0 0; `PointRange`, a coordinate of a size above 10^15 millionths; `OfferFull`, where 64
-    /// offers wait; `OffersSpent`, after 2^32 - 1 offers of this boot. A refusal changes nothing.
+    /// Fails, in this order, with `Spoiled` if memory was refused before, `ZeroRay` if the
+    /// direction is 0 0 0, `PointRange` if the size of a coordinate is above 10^15 millionths,
+    /// `OfferFull` if 64 offers wait, or `OffersSpent` after 2^32 - 1 offers of this boot. A
+    /// failure changes nothing.
     pub fn offer(&mut self, point: Point) -> Result<u32, OfferFault>
         ensures others { self.new ≡ with_state self.old self.new.state }
         ensures step { viewer_offer self.old.state point ≡ (result, self.new.state) }
@@ -262,19 +264,20 @@ impl<B: Behaviour> Viewer<B> {
         self.offers.offer(point)
     }
 
-    /// How many offers wait: at most 64.
+    /// Returns the number of waiting offers: at most 64.
     pub fn waiting(&self) -> u32
         ensures { result ≡ length self.now.state.waiting }
     {
         self.offers.len()
     }
 
-    /// The packet of the waiting offer at a place from 0, if there is one. Takes no memory.
+    /// Returns the packet of the waiting offer at a place, counted from 0, if there is one. Takes
+    /// no memory.
     pub fn resend(&self, place: u32) -> Option<Packet>
         ensures bytes { option_map (λ p. p.items) result
             ≡ option_map (λ body. datagram (record { mark = self.now.mark; body = body }))
             (viewer_resend self.now.who self.now.state place) }
-        // They are decoded as that offer.
+        // The packet decodes to that offer.
         ensures again { option_map (λ p. decoded p.items) result
             ≡ option_map (λ body. Ok (record { mark = self.now.mark; body = body }))
             (viewer_resend self.now.who self.now.state place) }
@@ -286,14 +289,14 @@ impl<B: Behaviour> Viewer<B> {
         }))
     }
 
-    /// The packet that asks for the inputs that the viewer lacks, also where memory was refused.
-    /// Takes no memory.
+    /// Returns the packet that asks for the inputs that the viewer lacks, even if the viewer is
+    /// spoiled. Takes no memory.
     pub fn ask(&self) -> Packet
         ensures bytes { result.items ≡ datagram (record {
           mark = self.now.mark;
           body = viewer_ask (machine_of self.now) self.now.who self.now.state;
         }) }
-        // They are decoded as that ask.
+        // The packet decodes to that ask.
         ensures again { decoded result.items ≡ Ok (record {
           mark = self.now.mark;
           body = viewer_ask (machine_of self.now) self.now.who self.now.state;
@@ -305,7 +308,8 @@ impl<B: Behaviour> Viewer<B> {
         })
     }
 
-    /// Appends the text of the scene as it is now; on a refusal the buffer is as it was.
+    /// Appends the text of the current scene. Fails with `Spoiled` or `Memory`; `out` is then
+    /// unchanged.
     pub fn scene_text(&self, out: &mut Vec<u8>) -> Result<(), TextFault>
         ensures refused { IfSpoiled self.now.state.view (result ≡ Err TextFault.Spoiled) }
         ensures ok { IfRunning self.now.state.view (λ w.
@@ -318,7 +322,7 @@ impl<B: Behaviour> Viewer<B> {
         self.stage.scene_text(out)
     }
 
-    /// Appends the text of the trace; on a refusal the buffer is as it was.
+    /// Appends the text of the trace. Fails with `Spoiled` or `Memory`; `out` is then unchanged.
     pub fn trace_text(&self, out: &mut Vec<u8>) -> Result<(), TextFault>
         ensures refused { IfSpoiled self.now.state.view (result ≡ Err TextFault.Spoiled) }
         ensures ok { IfRunning self.now.state.view (λ w.
@@ -330,8 +334,8 @@ impl<B: Behaviour> Viewer<B> {
         self.stage.trace_text(out)
     }
 
-    /// Appends a snapshot of the world, as this boot. The answer is `Spoiled` where memory was
-    /// refused before, else `Memory` where a growth was refused; the buffer is then as it was.
+    /// Appends a snapshot of the world, with this boot. Fails with `Spoiled` if memory was refused
+    /// before, or `Memory` if memory is refused; `out` is then unchanged.
     pub fn snapshot(&self, out: &mut Vec<u8>) -> Result<(), SaveFault>
         ensures spoiled { IfSpoiled self.now.state.view
             ((result ≡ Err SaveFault.Spoiled) × (out.new.items ≡ out.old.items)) }
@@ -343,17 +347,17 @@ impl<B: Behaviour> Viewer<B> {
         save(&self.stage, &self.mark, self.offers.boot(), out)
     }
 
-    /// Begins again in the world of a snapshot, as another boot, also where memory was refused
-    /// before, and gives how many inputs that world has had. No input is kept and no offer waits
-    /// then, and offers are numbered from 1.
+    /// Restarts in the world of a snapshot, with another boot, even if the viewer is spoiled.
+    /// Returns the number of inputs that this world has had. No input is kept and no offer waits
+    /// then, and offers are numbered from 1 again.
     ///
-    /// Refused in this order: `BootNotNew`, where `boot` isn't above the viewer's own; then as by
-    /// `load_into`, also `BootNotNew` where it isn't above the snapshot's. A refusal changes
-    /// nothing, but `Memory` spoils the viewer with the inputs that it had applied.
+    /// Fails with `BootNotNew` if `boot` isn't above the viewer's own, and then like `load_into`,
+    /// which also fails with `BootNotNew` if `boot` isn't above the snapshot's. A failure changes
+    /// nothing, except `Memory`: it spoils the viewer, with the inputs that it had applied.
     pub fn rewind(&mut self, bytes: &[u8], boot: u32) -> Result<u32, SnapFault>
         ensures others { self.new ≡ with_state self.old self.new.state }
         ensures step { IsRewound self.old boot bytes.now result self.new.state }
-        // By the snapshot of a world that has one it is the law's step.
+        // With the snapshot of a world that has one, this is the law's step.
         ensures law { (from : Shot Scripted) → from.boot < 2 ^ 32
             → HasSnapshot self.old.scene from.state
             → bytes.now ≡ shot self.old.mark from.boot self.old.scene from.state
@@ -376,12 +380,13 @@ impl<B: Behaviour> Viewer<B> {
         Ok(saved.applied)
     }
 
-    /// Gathers the bytes of a packet, a piece of a snapshot, also where memory was refused before.
-    /// The first piece begins; of the same snapshot are those of its boot, with as many inputs and
-    /// as long.
+    /// Gathers a piece of a snapshot, from the bytes of its packet, even if the viewer is spoiled.
+    /// The first piece begins the gathering. Pieces belong to the same snapshot if their boot,
+    /// their number of inputs and their snapshot size are the same.
     ///
-    /// Refused in this order: `Wire`, where the bytes are no datagram; `WrongScene`, where it has
-    /// another mark; `NotPiece`; `Memory`, at the first piece alone. A refusal changes nothing.
+    /// Fails, in this order, with `Wire` if the bytes aren't a datagram, `WrongScene` if it has
+    /// another mark, `NotPiece`, or `Memory`, which only the first piece can. A failure changes
+    /// nothing.
     pub fn gather(&mut self, bytes: &[u8]) -> Result<Gathered, GatherFault>
         ensures others { self.new ≡ with_gathering self.old self.new.gathering }
         ensures step { IsGatherOf self.old.mark self.old.gathering (decoded bytes.now) result
@@ -397,18 +402,18 @@ impl<B: Behaviour> Viewer<B> {
         gather(self.stage.allocator(), &mut self.gathering, &message.body)
     }
 
-    /// Begins again in the world of the snapshot that was gathered, as another boot, also where
-    /// memory was refused before, and gives how many inputs that world has had. No piece is kept
+    /// Restarts in the world of the snapshot that was gathered, with another boot, even if the
+    /// viewer is spoiled. Returns the number of inputs that this world has had. No piece is kept
     /// then.
     ///
-    /// Refused in this order: `NotWhole`, where a piece is missing; then as by `rewind`. A refusal
-    /// keeps what was gathered.
+    /// Fails with `NotWhole` if a piece is missing, and then like `rewind`. A failure keeps what
+    /// was gathered.
     pub fn join(&mut self, boot: u32) -> Result<u32, JoinFault>
         ensures others { self.new
             ≡ with_gathering (with_state self.old self.new.state) self.new.gathering }
         ensures step { IsJoined self.old (whole_of self.old.gathering) boot result self.new.state
             self.new.gathering }
-        // By the snapshot of a world that has one it is the law's step.
+        // With the snapshot of a world that has one, this is the law's step.
         ensures law { IsLawfulJoin self.old boot result self.new.state self.new.gathering }
     {
         let Some(pieces) = self.gathering.take() else {
@@ -419,7 +424,7 @@ impl<B: Behaviour> Viewer<B> {
         answer
     }
 
-    /// Begins again by the bytes of these pieces, where none are missing.
+    /// Restarts from the bytes of these pieces, if none is missing.
     fn begin_from(&mut self, pieces: &Pieces, boot: u32) -> Result<u32, JoinFault>
         ensures others { self.new ≡ with_state self.old self.new.state }
         ensures step { IsBegunFrom self.old (whole_of (Some pieces.now)) boot result
@@ -433,17 +438,18 @@ impl<B: Behaviour> Viewer<B> {
         joined(self.begin_again(bytes, boot))
     }
 
-    /// Lets go what was gathered. Takes no memory.
+    /// Drops what was gathered. Takes no memory.
     pub fn forget(&mut self)
         ensures { self.new ≡ with_gathering self.old None }
     {
         self.gathering = None;
     }
 
-    /// Puts a box of the same kind in the place of the k-th script, in its state: what the viewer
-    /// holds is as it was, whatever the answer. Where the new box is refused it is dropped.
+    /// Replaces the k-th script by a box of the same kind, which takes over its state. What the
+    /// viewer holds stays the same, whatever the answer. A refused box is dropped.
     ///
-    /// `Spoiled` where memory was refused before, `NoSuchScript`, `KindDiffers`, `Memory`.
+    /// Fails with `Spoiled` if memory was refused before, `NoSuchScript`, `KindDiffers`, or
+    /// `Memory`.
     pub fn replace_script(&mut self, k: usize, script: B) -> Result<(), PlaceFault>
         ensures same { self.new ≡ self.old }
         ensures ok { OnOk result (IsSomeAnd (slice_get (kinds_in self.old.scene) k)
@@ -455,7 +461,7 @@ impl<B: Behaviour> Viewer<B> {
         self.stage.replace_script(k, script)
     }
 
-    /// Ends the viewer with its stage.
+    /// Closes the viewer and its stage.
     pub fn close(self) {
         self.stage.close();
     }

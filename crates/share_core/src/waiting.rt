@@ -1,4 +1,4 @@
-//! The offers that a viewer made, and that wait until the host has numbered them.
+//! The offers of a viewer that wait until the host has numbered them.
 
 ghost use Rattle.std.specs.Prelude.{◌≡◌, ◌≤◌, ◌<◌, ◌^◌, ◌++◌, ◌+◌, ◌==◌, [], ◌∷◌, List, Option};
 ghost use Rattle.std.specs.Prelude.{length, IsTrue};
@@ -20,26 +20,26 @@ use share_wire::{Ack, Offer};
 use std::marker::Model;
 use x3d_values::{Point, Pointer, Ray, Vec3};
 
-/// How many offers may wait.
+/// The largest number of waiting offers.
 const PLACES: usize = MOST_WAITING as usize;
 
-/// A point that was looked at.
+/// A point that was offered.
 #[derive(Clone, Copy)]
 struct OfferedPoint {
     down: bool,
     ray: Ray,
 }
 
-/// The offers of one boot of a viewer, which are numbered from 1: how many were made, and the last
-/// of them, at most `MOST_WAITING`, which wait.
+/// The offers of one boot of a viewer, numbered from 1: how many were made, and the last of them,
+/// at most `MOST_WAITING`, which wait.
 #[derive(Drop)]
 pub(crate) struct Waiting {
     who: u8,
     boot: u32,
-    /// How many offers wait no more.
+    /// The number of offers that no longer wait.
     covered: u32,
     made: u32,
-    /// Offer n at place (n - 1) % `MOST_WAITING`.
+    /// Offer n is at place (n - 1) % `MOST_WAITING`.
     places: [OfferedPoint; PLACES],
 }
 
@@ -67,7 +67,7 @@ impl Model for Waiting {
         × (length w.places ≡ most_waiting) };
 }
 
-/// A point that may be offered.
+/// Returns a point as it is stored.
 fn aim_of(point: Point) -> OfferedPoint
     requires { IsTrue (is_ray (record { origin = point.origin; dir = point.dir })) }
     ensures { point_aimed result ≡ point }
@@ -81,7 +81,8 @@ fn aim_of(point: Point) -> OfferedPoint
 impl Waiting {
     ghost use Rattle.share_rules.specs.Offers.{most_waiting};
 
-    /// No offers yet. `is_viewer` and `is_ordinal` are the tests.
+    /// Returns the offers of a new boot: none. Test `who` with `is_viewer` and `boot` with
+    /// `is_ordinal`.
     pub(crate) fn new(who: u8, boot: u32) -> Waiting
         requires who { IsTrue (is_viewer who) }
         requires boot { IsTrue (is_ordinal boot) }
@@ -102,7 +103,7 @@ impl Waiting {
         }
     }
 
-    /// The viewer's number.
+    /// Returns the viewer's number.
     pub(crate) fn who(&self) -> u8
         ensures value { result ≡ self.now.who }
         ensures fits { IsTrue (is_viewer result) }
@@ -110,14 +111,14 @@ impl Waiting {
         self.who
     }
 
-    /// The boot whose offers these are.
+    /// Returns the boot of these offers.
     pub(crate) fn boot(&self) -> u32
         ensures { result ≡ self.now.boot }
     {
         self.boot
     }
 
-    /// How many offers wait: at most `MOST_WAITING`.
+    /// Returns the number of waiting offers: at most `MOST_WAITING`.
     pub(crate) fn len(&self) -> u32
         ensures value { result ≡ length self.now.waiting }
         ensures most { result ≤ most_waiting }
@@ -125,7 +126,7 @@ impl Waiting {
         self.made - self.covered
     }
 
-    /// Why a viewer that runs offers no point.
+    /// Returns why a running viewer can't offer this point.
     fn fault_of(&self, point: Point) -> Option<OfferFault>
         ensures { result ≡ offer_refusal self.now.made (length self.now.waiting) point }
     {
@@ -156,11 +157,11 @@ impl Waiting {
         self.made += 1;
     }
 
-    /// A viewer that runs offers a point, and gives the offer's number in this boot, from 1.
+    /// Offers a point of a running viewer. Returns the offer's number in this boot, from 1.
     ///
-    /// Refused in this order: `ZeroRay`, a direction of 0 0 0; `PointRange`, a coordinate of a size
-    /// above 10^15 millionths; `OfferFull`, where `MOST_WAITING` wait; `OffersSpent`, after
-    /// 2^32 - 1 offers of this boot. A refusal changes nothing.
+    /// Fails, in this order, with `ZeroRay` if the direction is 0 0 0, `PointRange` if the size of
+    /// a coordinate is above 10^15 millionths, `OfferFull` if `MOST_WAITING` offers wait, or
+    /// `OffersSpent` after 2^32 - 1 offers of this boot. A failure changes nothing.
     pub(crate) fn offer(&mut self, point: Point) -> Result<u32, OfferFault>
         ensures who { self.new.who ≡ self.old.who }
         ensures step { (world : Scripted) (window : List (Option StampedView))
@@ -174,7 +175,7 @@ impl Waiting {
         Ok(self.made)
     }
 
-    /// The waiting offer at a place from 0, if there is one.
+    /// Returns the waiting offer at a place, counted from 0, if there is one.
     pub(crate) fn resend(&self, place: u32) -> Option<Offer>
         ensures { (view : ViewerWorld Scripted) → option_map (λ o. body.Offer o) result
             ≡ viewer_resend self.now.who (with_offers self.now view) place }
@@ -187,7 +188,7 @@ impl Waiting {
         Some(Offer::new(self.boot, self.covered + place + 1, pointer))
     }
 
-    /// The host tells how many offers of a boot it has numbered: so many of this boot wait no more.
+    /// Takes an ack: drops the waiting offers of this boot that the host has numbered.
     pub(crate) fn heed(&mut self, ack: Ack)
         ensures who { self.new.who ≡ self.old.who }
         ensures step { (view : ViewerWorld Scripted) → with_offers self.new view

@@ -1,5 +1,5 @@
-//! What a viewer gathers of a snapshot: its pieces, as they come, each in its place among the bytes
-//! of all.
+//! What a viewer gathers of a snapshot: its pieces as they arrive, each at its place among all the
+//! bytes.
 #![tactic(auto)]
 
 mod pieces;

@@ -1,13 +1,13 @@
--- What a host has heard of its viewers: the highest number that each asked from.
+-- What a host has heard of its viewers: the highest number that each has asked from.
 use Rattle.std.specs.Prelude.{ℕ, ◌==◌, List, [], ◌∷◌, get_or, max, min, nat_lt, replicate, slice_set}
 use Rattle.std.specs.Prelude.{if◌then◌else◌, Option, Some, None}
 use Rattle.x3d_values.specs.Ranges.{max_viewers}
 
--- of no viewer: a viewer that has not asked is 0
+-- no viewer was heard of; the number of a viewer that hasn't asked is 0
 abbrev pub nobody : List ℕ
 nobody = replicate max_viewers 0
 
--- a viewer asks for the inputs from number `next` on
+-- viewer `who` asks for the inputs from number `next` on
 abbrev pub hear : List ℕ → (who next : ℕ) → List ℕ
 hear heard who next =
     if nat_lt who max_viewers then slice_set heard who (max (get_or heard who 0) next) else heard
@@ -16,11 +16,11 @@ abbrev pub min_with : (next : ℕ) → Option ℕ → ℕ
 min_with next None = next
 min_with next (Some other) = min other next
 
--- a viewer that has not asked counts nothing
+-- the lower of `next` and `others`; a viewer that hasn't asked has number 0, which doesn't count
 abbrev pub lower : (next : ℕ) → Option ℕ → Option ℕ
 lower next others = if next == 0 then others else Some (min_with next others)
 
--- the lowest that a viewer of which it heard asked from
+-- the lowest number that a viewer has asked from
 abbrev pub lowest : List ℕ → Option ℕ
 lowest [] = None
 lowest (next ∷ others) = lower next (lowest others)

@@ -1,10 +1,11 @@
-//! From which input on a host keeps them, and when it is done.
+//! From which number on a host keeps its inputs, and when it is done.
 
 ghost use Rattle.std.specs.Prelude.{◌≡◌, ◌<◌, ◌+◌, ◌^◌};
 ghost use Rattle.share_heard.specs.Ends.{floor_for, is_past, is_served};
 
-/// The floor of a host that keeps the last `keep` of the inputs that every viewer of which it heard
-/// has asked past: all below `lowest`. It never falls, and is at most the next input's number.
+/// Returns the floor of a host that keeps the last `keep` of the inputs below `lowest`: those that
+/// every viewer it heard of has asked past. The floor is never below `floor`, the previous one. It
+/// is at most the number of the next input, if `floor` is.
 pub fn floor_for(keep: u32, lowest: u32, floor: u32, count: u32) -> u32
     requires { count + 1 < 2 ^ 32 }
     ensures { result ≡ floor_for keep lowest floor count }
@@ -21,8 +22,9 @@ fn is_past(until: u32, lowest: Option<u32>) -> bool
     }
 }
 
-/// Whether a host that numbered so many inputs is done: where it is to number `until` of them,
-/// these are numbered, and every viewer of which it heard, one at least, has asked past them.
+/// Reports whether a host that has numbered `count` inputs is done: `until` inputs are numbered,
+/// and every viewer it heard of, at least one, has asked past them. Without `until` it is never
+/// done.
 pub fn is_served(until: Option<u32>, lowest: Option<u32>, count: u32) -> bool
     ensures { result ≡ is_served until lowest count }
 {

@@ -1,4 +1,4 @@
-//! The highest number that each viewer asked from.
+//! The highest number that each viewer has asked from.
 
 ghost use Rattle.std.specs.Prelude.{◌≡◌};
 ghost use Rattle.share_heard.specs.Heard.{hear, lower, lowest, nobody};
@@ -6,11 +6,11 @@ ghost use Rattle.share_heard.specs.Heard.{hear, lower, lowest, nobody};
 use std::marker::Model;
 use x3d_values::MAX_VIEWERS;
 
-/// A place for each viewer that there may be.
+/// The number of places: one for each possible viewer.
 const PLACES: usize = MAX_VIEWERS as usize;
 
-/// What a host has heard of its viewers: place v is the highest number that viewer v asked from,
-/// and 0 where it hasn't asked.
+/// What a host has heard of its viewers. Place v has the highest number that viewer v has asked
+/// from, or 0 if viewer v hasn't asked.
 #[derive(Drop)]
 pub struct Heard {
     nexts: [u32; PLACES],
@@ -27,7 +27,7 @@ impl Model for Heard {
     ghost invariant = { λ h. length h.nexts ≡ max_viewers };
 }
 
-/// The lower of a number and others, where 0 isn't one.
+/// Returns the lower of `next` and `others`. A `next` of 0 doesn't count.
 fn lower(next: u32, others: Option<u32>) -> Option<u32>
     ensures { result ≡ lower next others }
 {
@@ -50,14 +50,15 @@ fn lowest(nexts: &[u32]) -> Option<u32>
 }
 
 impl Heard {
-    /// Of no viewer.
+    /// Returns the record of a host that has heard of no viewer.
     pub fn nobody() -> Heard
         ensures { result ≡ nobody }
     {
         Heard { nexts: [0; PLACES] }
     }
 
-    /// A viewer asks for the inputs from a number, from 1, on.
+    /// Notes that viewer `who` asks for the inputs from number `next`, at least 1, on. Ignored if
+    /// `who` isn't below `MAX_VIEWERS`.
     pub fn hear(&mut self, who: u8, next: u32)
         ensures { self.new ≡ hear self.old who next }
     {
@@ -67,8 +68,8 @@ impl Heard {
         }
     }
 
-    /// The lowest number that a viewer of which it heard asked from: every one of them has asked
-    /// past the inputs below it. None where it heard of none.
+    /// Returns the lowest number that a viewer asked from: all viewers heard of have asked past the
+    /// inputs below it. Returns `None` if no viewer was heard of.
     pub fn lowest(&self) -> Option<u32>
         ensures { result ≡ lowest self.now }
     {

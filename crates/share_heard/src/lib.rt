@@ -1,5 +1,5 @@
-//! What a host has heard of its viewers, and what follows from it: from which input on it keeps
-//! them, and when it is done.
+//! What a host has heard of its viewers, and what follows from it: from which number on the host
+//! keeps its inputs, and when it is done.
 #![tactic(auto)]
 
 mod ends;

@@ -1,5 +1,5 @@
--- Each call of a real node is its step of the network: from what the call's contract ensures, and
--- what stands before it, follows what the network then may answer and come to.
+-- Each call on a real node is its step of the network. What the call's contract ensures, with what
+-- is known before the call, yields an answer and a network that the step allows.
 use Rattle.std.specs.Prelude.{◌≡◌, ℕ, ◌++◌, ℤ, List, length, slice_get}
 use Rattle.std.specs.Prelude.{Option, None, Some, Result, Ok, Err, OnOk, OnErr}
 use Rattle.std.specs.Option.{option_map}
@@ -42,38 +42,39 @@ use Rattle.share_law.specs.Reached.{Reached}
 use Rattle.share_law.specs.Viewer.{ViewerWorld, Spoiled, Running, ViewerState, Shot, viewer_ask}
 use Rattle.share_law.specs.Viewer.{viewer_offer, viewer_resend}
 
--- ---- what stands before a call
+-- ---- before a call
 
--- the bytes of this body are decoded as that, by the mark of the scene
+-- what a packet with this body and the mark of the scene decodes to
 abbrev pub packet_of : (mark : List ℕ) → Body → Result Message WireFault
 packet_of mark body = Ok (record { mark = mark; body = body })
 
--- packet p of the network is what bytes are decoded as
+-- `decoded` is what packet p of the network decodes to
 abbrev pub IsPacket : {W : Type 0} → (mark : List ℕ) → Network W → (p : ℕ)
     → (decoded : Result Message WireFault) → Type 0
 IsPacket mark net p decoded =
     (body : Body) × (slice_get net.sent p ≡ Some body) × (decoded ≡ packet_of mark body)
 
--- snapshot s of the network has these bytes
+-- snapshot s of the network is `shot`, and `bytes` are its bytes
 abbrev pub IsShot : {W : Type 0} → Machine W → Network W → (s : ℕ) → Shot W → (bytes : List ℕ)
     → Type 0
 IsShot m net s shot bytes = (slice_get net.shots s ≡ Some shot) × (bytes ≡ shot_text m shot)
 
--- ---- what a call comes to
+-- ---- after a call
 
--- the step is answered so, and leaves a host of this part
+-- the step may give this answer and leave a host with this part
 abbrev pub LeavesPart : {W : Type 0} → Machine W → Network W → Step → Answer → HostPart → Type 0
 LeavesPart m net step answer part =
     (host : HostState) × (part_of host ≡ part) × IsStep m net step answer (with_host net host)
 
--- the step is answered so, and leaves this in the viewer's seat: this viewer, and this gathered
+-- the step may give this answer and leave this seat for viewer v, with this viewer and this
+-- gathering
 abbrev pub LeavesSeat : {W : Type 0} → Machine W → Network W → Step → Answer → (v : ℕ) → Seat W
     → ViewerState W → Option Gathering → Type 0
 LeavesSeat m net step answer v seat viewer gathering =
     (seat.node ≡ viewer) × (seat.gathering ≡ gathering)
     × IsStep m net step answer (with_seat net v seat)
 
--- the step sends the body that the bytes are decoded as, if any were made
+-- the step sends the body that the bytes decode to, or nothing if no bytes were made
 abbrev pub Sends : {W : Type 0} → (mark : List ℕ) → Machine W → Network W → Step
     → (decoded : Option (Result Message WireFault)) → Type 0
 Sends mark m net step None = IsStep m net step (Sent None) net
@@ -81,7 +82,7 @@ Sends mark m net step (Some decoded) =
     (body : Body) × (decoded ≡ packet_of mark body)
     × IsStep m net step (Sent (Some (length net.sent))) (with_packet net body)
 
--- a viewer in this world appends its snapshot to bytes, or doesn't
+-- a viewer in this world appends its snapshot to the bytes, or fails and leaves them unchanged
 abbrev pub IsSave : {W : Type 0} → Machine W → (boot : ℕ) → ViewerWorld W
     → Result (Unit {0}) SaveFault → (old new : List ℕ) → Type 0
 IsSave m boot (Spoiled count) result old new = (result ≡ Err save_fault.Spoiled) × (new ≡ old)
@@ -89,7 +90,7 @@ IsSave m boot (Running w window) result old new =
     OnOk result (new ≡ old ++ m.text boot w)
     × OnErr result ((result ≡ Err save_fault.Memory) × (new ≡ old))
 
--- the step takes a snapshot of the bytes that were appended, or is refused as the call was
+-- the step takes a snapshot that has the appended bytes, or is refused as the call was
 abbrev pub Saves : {W : Type 0} → Machine W → Network W → (v : ℕ)
     → Result (Unit {0}) SaveFault → (old new : List ℕ) → Type 0
 Saves {W} m net v (Ok done) old new =
@@ -105,15 +106,16 @@ seat_joined x (Err fault) y held = with_gathering (with_node x y) held
 
 -- ---- calls are steps
 
--- of a network that was reached: the host's part is the real host's, the viewer in seat v and what
--- is gathered there are the real viewer's, and `decoded` is what real bytes are decoded as
+-- In a network that was reached, each call is its step. The real host has the part of the network's
+-- host, the real viewer has the viewer and the gathering of seat v, and `decoded` is what the real
+-- bytes decode to.
 pub record CallsAreSteps {W : Type 0} (mark : List ℕ) (m : Machine W) (net : Network W)
     : Type 0 where
   -- Host::clock
   pub clock : (t : ℤ) (result : Result ℕ NumberFault) (new : HostPart)
       → IsPartClocked (part_of net.host) t result new
       → LeavesPart m net (HostClock t) (Clocked result) new
-  -- Host::take and take_message, of a packet of the run
+  -- Host::take and Host::take_message, for a packet of the run
   pub host_take : (p : ℕ) (decoded : Result Message WireFault) (result : Result HostReply HostFault)
       (new : HostPart)
       → IsPacket mark net p decoded
@@ -136,7 +138,7 @@ pub record CallsAreSteps {W : Type 0} (mark : List ℕ) (m : Machine W) (net : N
   pub floor_packet : (decoded : Result Message WireFault)
       → decoded ≡ packet_of mark (part_floor_packet (part_of net.host))
       → Sends mark m net HostFloorPacket (Some decoded)
-  -- Viewer::take, of a packet of the run
+  -- Viewer::take, for a packet of the run
   pub take : (v p : ℕ) (x : Seat W) (decoded : Result Message WireFault)
       (result : Result Taken TakeFault) (new : ViewerState W)
       → slice_get net.viewers v ≡ Some x → IsPacket mark net p decoded
@@ -164,27 +166,27 @@ pub record CallsAreSteps {W : Type 0} (mark : List ℕ) (m : Machine W) (net : N
       → slice_get net.viewers v ≡ Some x
       → IsSave m x.node.boot x.node.view result old new
       → Saves m net v result old new
-  -- Viewer::rewind, by the bytes of a snapshot of the run
+  -- Viewer::rewind, to the bytes of a snapshot of the run
   pub rewind : (v s boot : ℕ) (x : Seat W) (shot : Shot W) (bytes : List ℕ)
       (result : Result ℕ SnapFault) (new : ViewerState W)
       → slice_get net.viewers v ≡ Some x → IsShot m net s shot bytes
       → (bytes ≡ shot_text m shot → IsRewind m x.node shot boot result new)
       → LeavesSeat m net (ViewerRewind v s boot) (Rewound result) v (rewound_by x (result, new)) new
       x.gathering
-  -- piece_packet, of the bytes of a snapshot of the run and what its head says
+  -- piece_packet, for the bytes of a snapshot of the run and the boot and input count in its head
   pub piece_packet : (s i : ℕ) (shot : Shot W) (bytes : List ℕ)
       (decoded : Option (Result Message WireFault))
       → IsShot m net s shot bytes
       → decoded
       ≡ option_map (packet_of mark) (piece_packet shot.boot (m.applied shot.state) bytes i)
       → Sends mark m net (PiecePacket s i) decoded
-  -- Viewer::gather, of a packet of the run
+  -- Viewer::gather, for a packet of the run
   pub gather : (v p : ℕ) (x : Seat W) (decoded : Result Message WireFault)
       (result : Result Gathered GatherFault) (new : Option Gathering)
       → slice_get net.viewers v ≡ Some x → IsPacket mark net p decoded
       → IsGatherOf mark x.gathering decoded result new
       → LeavesSeat m net (ViewerGather v p) (Collected result) v (with_gathering x new) x.node new
-  -- Viewer::join: what was gathered whole is a snapshot of the run, so it is a rewind to that
+  -- Viewer::join: a complete gathering is a snapshot of the run, so the join is a rewind to it
   pub join : (v boot : ℕ) (x : Seat W) (result : Result ℕ JoinFault) (new : ViewerState W)
       (held : Option Gathering)
       → slice_get net.viewers v ≡ Some x
@@ -199,10 +201,10 @@ pub record CallsAreSteps {W : Type 0} (mark : List ℕ) (m : Machine W) (net : N
       → slice_get net.viewers v ≡ Some x
       → held ≡ None
       → LeavesSeat m net (ViewerForget v) Forgot v (with_gathering x held) x.node held
-  -- and so on: what a step leads to was reached too
+  -- every network that a step leads to was reached too
   pub goes_on : (step : Step) (answer : Answer) (new : Network W)
       → IsStep m net step answer new → Reached m new
 
--- of every network that was reached
+-- in every network that was reached, each call is its step
 abbrev pub EachCallIsAStep : {W : Type 0} → (mark : List ℕ) → Machine W → Type 0
 EachCallIsAStep {W} mark m = (net : Network W) → Reached m net → CallsAreSteps mark m net

@@ -1,4 +1,4 @@
--- Which parts a real host may come to: whatever calls were made, each is the part of some host.
+-- The parts that a real host may reach: whatever calls were made, each is the part of some host.
 use Rattle.std.specs.Prelude.{◌≡◌, ◌≤◌, ◌+◌, ℕ, ℤ, List, [], ◌∷◌, length, Result}
 use Rattle.share_wire.specs.declared.fault.WireFault.{WireFault}
 use Rattle.share_wire.specs.declared.message.Message.{Message}
@@ -10,8 +10,8 @@ use Rattle.share_law.specs.Calls.{IsClocked, IsHostTakeOf, IsPartClocked, IsPart
 use Rattle.share_law.specs.Host.{HostState, drop_below, new_host}
 use Rattle.share_law.specs.Parts.{HostPart, new_part, part_drop_below, part_of}
 
--- a call that may change a host, with its answer: a clock, a take of bytes, by what they are
--- decoded as, and a floor
+-- a call that may change a host, with its answer: a clock, a take of what bytes decode to, or a
+-- floor
 pub data HostCall : Type 0 where
   Clock : (t : ℤ) → Result ℕ NumberFault → HostCall
   Take : (decoded : Result Message WireFault) → Result HostReply HostFault → HostCall
@@ -23,7 +23,7 @@ IsPartCall mark old (Clock t result) new = IsPartClocked old t result new
 IsPartCall mark old (Take decoded result) new = IsPartTakeOf mark old decoded result new
 IsPartCall mark old (DropBelow f result) new = part_drop_below old f ≡ (result, new)
 
--- the same of a host with its whole list
+-- like `IsPartCall`, for a host with its whole list
 abbrev pub IsHostCall : (mark : List ℕ) → HostState → HostCall → HostState → Type 0
 IsHostCall mark old (Clock t result) new = IsClocked old t result new
 IsHostCall mark old (Take decoded result) new = IsHostTakeOf mark old decoded result new
@@ -46,22 +46,22 @@ pub record IsPartOf (h : HostState) (part : HostPart) : Type 0 where
   pub from_one : 1 ≤ h.floor
   pub at_most : h.floor ≤ length h.list + 1
 
--- some host has this part: what a type of real hosts may keep
+-- some host has this part: what a type of real hosts can keep as its invariant
 abbrev pub IsSomePart : HostPart → Type 0
 IsSomePart part = (h : HostState) × IsPartOf h part
 
 pub record HostsAreParts (mark : List ℕ) : Type 0 where
-  -- a new host's part is the law's new host's
+  -- the part of a new real host is the part of the law's new host
   pub begins : (viewers : ℕ) → IsPartOf (new_host viewers) (new_part viewers)
-  -- after a call of a real host that stands for h there is a host that h comes to by that call,
-  -- answered alike, and for which the real one then stands
+  -- Let a real host have the part of h. After a call of the real host there is a host that h may
+  -- become by that call, with the same answer, and the real host has the part of that host.
   pub goes_on : (h : HostState) (old new : HostPart) (call : HostCall)
       → IsPartOf h old → IsPartCall mark old call new
       → (next : HostState) × IsHostCall mark h call next × IsPartOf next new
-  -- so some host has the part
+  -- so some host has the part after the call
   pub keeps : (old new : HostPart) (call : HostCall)
       → IsSomePart old → IsPartCall mark old call new → IsSomePart new
-  -- and so it is after all calls of a real host, whatever they were
+  -- and so it is after any calls of a real host
   pub all : (viewers : ℕ) (calls : List HostCall) (part : HostPart)
       → ArePartCalls mark (new_part viewers) calls part
       → (h : HostState) × AreHostCalls mark (new_host viewers) calls h × IsPartOf h part

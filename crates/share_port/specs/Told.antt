@@ -1,13 +1,13 @@
--- What a port tells of what passed.
+-- What a port records of its traffic.
 use Rattle.std.specs.Prelude.{◌≡◌, ℕ, ◌+◌, ◌-◌, ◌^◌, min, List, ◌++◌, Option, Some, None, ⊤}
 use Rattle.std.specs.Prelude.{Result, Ok, Err}
 use Rattle.share_port.specs.declared.traffic.Traffic.{Traffic}
 
--- how many bytes of a datagram are received: one more than the longest that anyone takes
+-- the number of bytes of a datagram that are received: one more than the longest that is accepted
 abbrev pub max_received : ℕ
 max_received = 257
 
--- what is told grows by these; a port that tells nothing claims nothing
+-- the record grows by this traffic; nothing is claimed of a port that keeps no record
 abbrev pub Grows : Option (List Traffic) → Option (List Traffic) → List Traffic → Type 0
 Grows None new passed = ⊤
 Grows (Some before) None passed = ⊥
@@ -17,7 +17,7 @@ Grows (Some before) (Some after) passed = after ≡ before ++ passed
 abbrev pub one_more : ℕ → ℕ
 one_more n = min (n + 1) (2 ^ 64 - 1)
 
--- how many failures are counted after a send or a receive with this answer
+-- the number of failures after a send or a receive with this answer
 abbrev pub counted : {A E : Type 0} → Result A E → ℕ → ℕ
 counted (Ok a) n = n
 counted (Err fault) n = one_more n

@@ -1,4 +1,4 @@
-//! A port in memory, which tells its datagrams.
+//! A port in memory that records its traffic.
 
 ghost use Rattle.std.specs.Prelude.{◌≡◌, ◌≤◌, ◌++◌, ◌∷◌, [], length, take, Some, IfOk, OnErr};
 ghost use Rattle.share_port.specs.Told.{max_received};
@@ -8,8 +8,8 @@ use crate::traffic::{Bytes, Datagram, Traffic};
 use std::alloc::{AllocError, Global};
 use std::collections::VecDeque;
 
-/// A port in memory: what it receives is handed to it by `deliver`, in that order, and what passed
-/// is told by `traffic`. A growth that is refused is a failure.
+/// A port in memory. It receives what `deliver` hands to it, in that order, and `traffic` returns
+/// what passed. A call that can't be recorded because memory is refused is a failure.
 #[derive(Drop)]
 pub struct FakePort {
     inbox: VecDeque<Datagram>,
@@ -23,8 +23,8 @@ impl FakePort {
     ghost use Rattle.std.specs.Prelude.{◌≡◌, ◌++◌, ◌∷◌, [], IfOk, OnErr};
     ghost use Rattle.share_port.specs.Told.{counted, one_more};
 
-    /// Nothing passed, and nothing came. The send or the receive of that number, from 1, fails;
-    /// none for 0.
+    /// Returns a port through which nothing has passed. Send or receive number `call`, counted from
+    /// 1, fails; none fails if `call` is 0.
     pub fn failing_at(alloc: Global, call: u64) -> FakePort
         ensures passed { result.passed.items ≡ [] }
         ensures inbox { result.inbox.items ≡ [] }
@@ -40,7 +40,8 @@ impl FakePort {
         }
     }
 
-    /// One more datagram comes.
+    /// Adds a datagram to those that will be received. Fails if memory is refused; nothing changes
+    /// then.
     pub fn deliver(&mut self, datagram: Datagram) -> Result<(), AllocError>
         ensures ok { IfOk result
             (λ _. self.new.inbox.items ≡ self.old.inbox.items ++ datagram ∷ []) }
@@ -51,14 +52,15 @@ impl FakePort {
         Ok(())
     }
 
-    /// What was received and sent, and each receive for which nothing came, in order.
+    /// Returns what was received and sent, and each receive for which nothing had arrived, in
+    /// order.
     pub fn traffic(&self) -> &[Traffic]
         ensures { result.now ≡ self.now.passed.items }
     {
         &self.passed
     }
 
-    /// Counts a call, and says whether it fails.
+    /// Counts a call, and reports whether it fails.
     fn fails(&mut self) -> bool
         ensures inbox { self.new.inbox ≡ self.old.inbox }
         ensures passed { self.new.passed ≡ self.old.passed }
@@ -75,7 +77,7 @@ impl FakePort {
         PortFault
     }
 
-    /// What passed is told, unless a growth is refused.
+    /// Records what passed. Fails if memory is refused.
     fn tell(&mut self, traffic: Traffic) -> Result<(), PortFault>
         ensures ok { IfOk result
             (λ _. self.new.passed.items ≡ self.old.passed.items ++ traffic ∷ []) }
@@ -123,7 +125,7 @@ impl Port for FakePort {
     }
 }
 
-/// Copies the bytes to the front, and says how many they are.
+/// Copies the bytes to the front of `into`, and returns their number.
 fn copy_front(into: &mut [u8; RECEIVED], bytes: &[u8]) -> usize
     requires { length bytes.now ≤ max_received }
     ensures count { result ≡ length bytes.now }

@@ -1,5 +1,5 @@
-//! Ends that send and receive datagrams on this machine: a UDP socket, and one in memory that tells
-//! what passed.
+//! Ports that send and receive datagrams on this machine: a UDP socket, and a port in memory that
+//! records what passed.
 #![tactic(auto)]
 
 mod fake;

@@ -1,4 +1,4 @@
-//! An end that sends and receives datagrams.
+//! A port that sends and receives datagrams.
 
 ghost use Rattle.std.specs.Prelude.{◌≡◌, ◌≤◌, ℕ, List, [], ◌∷◌, Option, None, take, length};
 ghost use Rattle.std.specs.Prelude.{OnOk, OnErr, MatchResult, MatchOption};
@@ -8,8 +8,8 @@ ghost use Rattle.share_port.specs.declared.traffic.Traffic.TheVariants.{Nothing,
 
 use thiserror::Error;
 
-/// How many bytes of a datagram are received: one more than the longest that anyone takes, so that
-/// a longer one shows.
+/// The number of bytes of a datagram that are received: one more than the longest that is accepted,
+/// so that a longer one is noticed.
 pub const RECEIVED: usize = 257;
 
 /// A send or a receive failed.
@@ -17,17 +17,17 @@ pub const RECEIVED: usize = 257;
 #[error("the port failed")]
 pub struct PortFault;
 
-/// An end that sends and receives datagrams, and never waits for one. A peer is its port number on
-/// 127.0.0.1.
+/// A port that sends and receives datagrams, and never blocks to receive one. A peer is its port
+/// number on 127.0.0.1.
 pub trait Port {
-    // What passed, in order, where the port tells it.
+    // What passed, in order, if the port records it.
     ghost told: { Self → Option (List Traffic) } = { λ _. None };
 
-    // How many sends and receives failed, up to 2^64 - 1.
+    // The number of sends and receives that failed, up to 2^64 - 1.
     ghost failure_count: { Self → ℕ };
 
-    /// Sends a datagram of at most 257 bytes to a peer. A datagram for which there is no room on
-    /// the way is lost, and that is no failure.
+    /// Sends a datagram of at most 257 bytes to a peer. A datagram that finds no room on the way is
+    /// lost; that isn't a failure.
     fn send(&mut self, to: u16, bytes: &[u8]) -> Result<(), PortFault>
         requires { length bytes.now ≤ max_received }
         ensures ok { OnOk result (Grows (told self.old) (told self.new)
@@ -35,8 +35,8 @@ pub trait Port {
         ensures err { OnErr result (Grows (told self.old) (told self.new) []) }
         ensures failures { failure_count self.new ≡ counted result (failure_count self.old) };
 
-    /// Receives a datagram, if one came: its peer, and how many bytes it has, which stand at the
-    /// front of `into`. Of a datagram of more than 257 bytes the first 257 are received.
+    /// Receives a datagram, if one arrived. Returns its peer and its number of bytes, which are at
+    /// the front of `into`. Of a datagram of more than 257 bytes, the first 257 are received.
     fn receive(&mut self, into: &mut [u8; RECEIVED]) -> Result<Option<(u16, usize)>, PortFault>
         ensures got { MatchResult result
             (λ came. MatchOption came (Grows (told self.old) (told self.new) (Nothing ∷ []))
@@ -45,20 +45,21 @@ pub trait Port {
             (λ _. Grows (told self.old) (told self.new) []) }
         ensures failures { failure_count self.new ≡ counted result (failure_count self.old) };
 
-    /// How many sends and receives failed, up to 2^64 - 1.
+    /// Returns the number of sends and receives that failed, up to 2^64 - 1.
     fn failures(&self) -> u64
         ensures { result ≡ failure_count self.now };
 
-    /// Is called between two turns, with whether the one before brought something new: a port may
-    /// wait here, until a datagram comes or some time has passed. Nothing is told, and nothing
-    /// fails. Where it isn't written out it returns at once.
+    /// Called between two turns, with whether the last turn brought something new. A port may wait
+    /// here until a datagram arrives or some time has passed. Nothing is recorded, and nothing
+    /// fails. The default returns at once.
     fn rest(&mut self, _is_new: bool)
         ensures told { told self.new ≡ told self.old }
         ensures count { failure_count self.new ≡ failure_count self.old }
     {}
 
-    /// Waits until a datagram comes, which `receive` receives then: so many milliseconds at most, 1
-    /// at least. Nothing is told, and nothing fails. Where it isn't written out it returns at once.
+    /// Waits until a datagram arrives, which `receive` then receives, or until `_millis`
+    /// milliseconds have passed, at least 1. Nothing is recorded, and nothing fails. The default
+    /// returns at once.
     fn wait(&mut self, _millis: u32)
         ensures told { told self.new ≡ told self.old }
         ensures count { failure_count self.new ≡ failure_count self.old }

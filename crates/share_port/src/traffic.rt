@@ -22,6 +22,7 @@ impl Model for Bytes {
 }
 
 impl Bytes {
+    /// Copies a slice of at most 257 bytes.
     pub fn from_slice(bytes: &[u8]) -> Bytes
         requires { length bytes.now ≤ max_received }
         ensures { result ≡ bytes.now }
@@ -31,6 +32,7 @@ impl Bytes {
         Bytes { items }
     }
 
+    /// Returns the bytes as a slice.
     pub fn as_slice(&self) -> &[u8]
         ensures bytes { result.now ≡ self.now }
         ensures most { length result.now ≤ max_received }
@@ -39,19 +41,19 @@ impl Bytes {
     }
 }
 
-/// A datagram, with the peer that it came from or went to.
+/// A datagram, and the peer that it came from or went to.
 #[derive(Debug, Drop)]
 pub struct Datagram {
     pub peer: u16,
     pub bytes: Bytes,
 }
 
-/// What a port tells of one call that didn't fail.
+/// What a port records of one call that didn't fail.
 #[derive(Debug, Drop)]
 pub enum Traffic {
-    /// A datagram came.
+    /// A datagram was received.
     Received(Datagram),
-    /// A receive for which nothing came.
+    /// A receive for which nothing had arrived.
     Nothing,
     /// A datagram was sent.
     Sent(Datagram),

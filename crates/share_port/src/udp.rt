@@ -1,4 +1,4 @@
-//! A UDP socket on 127.0.0.1 as a port. It tells none of its datagrams.
+//! A UDP socket on 127.0.0.1 as a port. It doesn't record its traffic.
 
 ghost use Rattle.std.specs.Prelude.{◌≡◌, ◌==◌, ◌||◌, IfOk, Option, Some, None, if◌then◌else◌};
 ghost use Rattle.share_port.specs.Told.{one_more};
@@ -9,25 +9,25 @@ use std::io::{self, ErrorKind};
 use std::net::{Ipv4Addr, Net, SocketAddr, UdpSocket};
 use std::time::Duration;
 
-/// A UDP socket on 127.0.0.1, which doesn't block.
+/// A nonblocking UDP socket on 127.0.0.1.
 #[derive(Drop)]
 pub struct UdpPort {
     socket: UdpSocket,
     failed: u64,
 }
 
-/// How many datagrams that nobody can answer are passed over in one receive.
+/// The largest number of unanswerable datagrams that one receive skips.
 const PASSED_OVER: usize = 64;
 
-/// Who sent a datagram, where an answer can reach it: nobody can be reached at port 0.
+/// Returns the sender of a datagram, if an answer can reach it. No answer can reach port 0.
 fn answerable(peer: u16) -> Option<u16>
     ensures { result ≡ answerable peer }
 {
     if peer == 0 { None } else { Some(peer) }
 }
 
-/// Whether a send failed for its peer or for room on the way: the datagram is lost then, and the
-/// port goes on.
+/// Reports whether a send failed because of its peer or a lack of room on the way. The datagram is
+/// then lost, and the port goes on.
 fn is_lost(kind: ErrorKind) -> bool {
     matches!(
         kind,
@@ -41,7 +41,7 @@ fn is_lost(kind: ErrorKind) -> bool {
     )
 }
 
-/// The address of a peer.
+/// Returns the address of a peer.
 fn address_of(port: u16) -> SocketAddr {
     SocketAddr::from((Ipv4Addr::LOCALHOST, port))
 }
@@ -50,8 +50,8 @@ impl UdpPort {
     ghost use Rattle.std.specs.Prelude.{◌≡◌, IfOk};
     ghost use Rattle.share_port.specs.Told.{one_more};
 
-    /// Binds a socket to a port of 127.0.0.1; 0 binds a free one. A port that another program has
-    /// is an error of the device.
+    /// Binds a socket to a port of 127.0.0.1; port 0 binds a free one. Fails with the error of the
+    /// device, also if another program has the port.
     pub fn bind<R: Net>(rt: &R, port: u16) -> io::Result<UdpPort>
         ensures { IfOk result (λ port. port.failed ≡ 0) }
     {
@@ -60,7 +60,7 @@ impl UdpPort {
         Ok(UdpPort { socket, failed: 0 })
     }
 
-    /// The port that it is bound to.
+    /// Returns the port that the socket is bound to, or the error of the device.
     pub fn local_port(&self) -> io::Result<u16> {
         Ok(self.socket.local_addr()?.port())
     }
@@ -103,7 +103,7 @@ impl Port for UdpPort {
         self.failed
     }
 
-    // Where the device can't wait it returns at once.
+    // Returns at once if the device can't wait.
     fn wait(&mut self, millis: u32) {
         let most = Duration::from_millis(u64::from(millis.max(1)));
         if self.socket.set_read_timeout(Some(most)).is_err() {

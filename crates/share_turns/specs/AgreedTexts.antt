@@ -1,4 +1,4 @@
--- What is written once all has been agreed on, and how a whole run ends early.
+-- The texts that are written once all have agreed, and how a whole run ends early.
 use Rattle.std.specs.Prelude.{◌≡◌, ◌⊎◌, ℕ, List, [], ◌∷◌, ◌++◌, slice_get, codes, decimal, Some}
 use Rattle.x3d_values.specs.Stamp.{StampedView}
 use Rattle.share_core.specs.Viewer.{ViewerView}
@@ -11,7 +11,7 @@ use Rattle.share_turns.specs.Seats.{Ways}
 use Rattle.share_turns.specs.Round.{Meeting}
 use Rattle.share_turns.specs.Agreeing.{AreAgreed, AreNotCaughtUp, AreCut}
 
--- how many inputs all have agreed on
+-- the line with the number of inputs that all have agreed on
 abbrev pub agreed_line : (count : ℕ) → List ℕ
 agreed_line count = codes "agreed " ++ decimal count ++ 10 ∷ []
 
@@ -27,7 +27,7 @@ IsAgreedTextFault viewers fault =
     (fault ≡ Memory) ⊎ ((first : ViewerView) × (slice_get viewers 0 ≡ Some first)
     × IsTextFault first.state.view fault)
 
--- the rounds ended so, or they agreed and a text ended so
+-- the rounds ended with this fault, or all agreed and a text failed with it
 abbrev pub IsAgreeRunEnd : {P : Type 0} → Ways P → (mark : List ℕ) → List StampedView
     → (own rounds : ℕ)
     → Meeting P → SeriesFault → Meeting P → Type 0

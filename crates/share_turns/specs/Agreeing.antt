@@ -15,11 +15,11 @@ abbrev pub are_at : (n : ℕ) → List ViewerView → Bool
 are_at n [] = true
 are_at n (v ∷ vs) = (applied_by v v.state == n) && are_at n vs
 
--- the host has numbered all that was issued, and every viewer has applied it
+-- the host has numbered all issued steps, and every viewer has applied them
 abbrev pub is_caught_up : {P : Type 0} → (issued : ℕ) → Meeting P → Bool
 is_caught_up issued m = (m.host.count == issued) && are_at issued m.seats.viewers
 
--- the next step is issued then
+-- the next step, if all have caught up; a round issues it
 abbrev pub due : {P : Type 0} → List StampedView → (issued : ℕ) → Meeting P → Option StampedView
 due steps issued m = if is_caught_up issued m then slice_get steps issued else None
 
@@ -27,7 +27,8 @@ due steps issued m = if is_caught_up issued m then slice_get steps issued else N
 abbrev pub is_over : {P : Type 0} → List StampedView → (issued : ℕ) → Meeting P → Bool
 is_over steps issued m = is_caught_up issued m && (issued == length steps)
 
--- so many rounds, each while it isn't over and with the step that is due; so many were issued
+-- `rounds` rounds, each while it isn't over and with the step that is due; `issued` steps were
+-- issued
 abbrev pub Rounds : {P : Type 0} → Ways P → (mark : List ℕ) → List StampedView → (own rounds : ℕ)
     → (old : Meeting P) → (issued : ℕ) → (new : Meeting P) → Type 0
 Rounds ways mark steps own zero old issued new = (issued ≡ 0) × (new ≡ old)
@@ -38,7 +39,7 @@ Rounds {P} ways mark steps own (suc n) old issued new =
     × IsRoundOf ways mark (due steps before mid) own mid did new
     × (issued ≡ one_more_if did before)
 
--- rounds, until it is over
+-- rounds, until all is over
 pub record AreAgreed {P : Type 0} (ways : Ways P) (mark : List ℕ) (steps : List StampedView)
     (own rounds : ℕ) (old new : Meeting P) : Type 0 where
   pub done : ℕ
@@ -46,7 +47,7 @@ pub record AreAgreed {P : Type 0} (ways : Ways P) (mark : List ℕ) (steps : Lis
   pub turned : Rounds ways mark steps own done old (length steps) new
   pub caught_up : is_caught_up (length steps) new ≡ true
 
--- all the rounds, and it isn't over
+-- all the rounds were run, and it isn't over
 pub record AreNotCaughtUp {P : Type 0} (ways : Ways P) (mark : List ℕ) (steps : List StampedView)
     (own rounds : ℕ) (old new : Meeting P) : Type 0 where
   pub issued : ℕ

@@ -1,4 +1,4 @@
--- What passes in a turn: datagrams that come, each with what is sent to its peer for it.
+-- The traffic of a turn: datagrams that arrive, and what is sent to the peer of each.
 use Rattle.std.specs.Prelude.{◌≡◌, ◌⊎◌, ℕ, Bool, true, false, List, [], ◌∷◌, ◌++◌, map, Option}
 use Rattle.std.specs.List.{flat_map}
 use Rattle.share_port.specs.declared.traffic.Datagram.{Datagram}
@@ -6,8 +6,8 @@ use Rattle.share_port.specs.declared.traffic.Traffic.{Traffic}
 use Rattle.share_port.specs.declared.traffic.Traffic.TheVariants.{Nothing, Received, Sent}
 use Rattle.share_port.specs.Told.{Grows}
 
--- a datagram that came, whether memory was refused to its take, and what was sent to its peer for
--- it
+-- a datagram that arrived, whether memory was refused to its take, and what was sent to its peer
+-- for it
 pub record Exchange : Type 0 where
   pub came : Datagram
   pub refused : Bool
@@ -26,22 +26,22 @@ all_traffic es = flat_map traffic_of es
 abbrev pub refusals_in : List Exchange → List Bool
 refusals_in es = map (λ e. e.refused) es
 
--- how many datagrams a turn takes
+-- the largest number of datagrams that a turn takes
 abbrev pub most_taken : ℕ
 most_taken = 64
 
--- what a port tells at the end of what came: where all was taken, that nothing more came, or
--- nothing where as many datagrams came as a turn takes; where a turn ended before that, nothing
+-- What a port records after the datagrams that arrived. If all were taken: that nothing more
+-- arrived, or no record if as many arrived as a turn takes. If the turn ended early: no record.
 abbrev pub IsEnd : (all : Bool) → (came : ℕ) → List Traffic → Type 0
 IsEnd true came rest = (rest ≡ Nothing ∷ []) ⊎ ((rest ≡ []) × (came ≡ most_taken))
 IsEnd false came rest = rest ≡ []
 
--- what was sent is all that had to be sent, or where the port failed the front of it
+-- what was sent is all that had to be sent, or a prefix of it if the port failed
 abbrev pub IsSentOf : (whole : Bool) → (sent wanted : List (List ℕ)) → Type 0
 IsSentOf true sent wanted = sent ≡ wanted
 IsSentOf false sent wanted = (lost : List (List ℕ)) × (sent ++ lost ≡ wanted)
 
--- these had to be sent to a peer, and were
+-- these datagrams had to be sent to a peer, and were, or a prefix of them
 pub record AreSent (whole : Bool) (peer : ℕ) (told_before told_after : Option (List Traffic))
     (wanted : List (List ℕ)) : Type 0 where
   pub sent : List (List ℕ)

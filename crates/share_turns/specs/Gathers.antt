@@ -1,5 +1,5 @@
--- Turns of a viewer that joins: it gathers the pieces of a snapshot that come, and begins in it
--- once none is missing.
+-- Turns of a viewer that joins: it gathers the pieces of a snapshot as they arrive, and starts from
+-- the snapshot once no piece is missing.
 use Rattle.std.specs.Prelude.{◌≡◌, ◌⊎◌, ℕ, zero, suc, ◌+◌, ◌≤◌, ◌<◌, Bool, true, false, is_ok}
 use Rattle.std.specs.Prelude.{List, [], ◌∷◌, ◌++◌, length, Option, None, Result, Ok, Err}
 use Rattle.cascade_core.specs.Course.{Scripted}
@@ -26,9 +26,9 @@ use Rattle.share_turns.specs.Exchanges.{IsEnd, most_taken}
 use Rattle.share_turns.specs.Refusals.{IsAnswerAfter}
 use Rattle.share_turns.specs.ViewerTurn.{Taking, received, refusals_of}
 
--- ---- what comes in a turn
+-- ---- what arrives in a turn
 
--- as many datagrams as a turn takes, or until no more come, as a port tells them
+-- datagrams, as many as a turn takes or until no more arrive, as a port records them
 pub record Comes (result : Result (Unit {0}) TurnFault)
     (told_before told_after : Option (List Traffic)) (takings : List Taking) : Type 0 where
   pub memory : IsAnswerAfter (refusals_of takings) result
@@ -39,7 +39,7 @@ pub record Comes (result : Result (Unit {0}) TurnFault)
 
 -- ---- a turn of gathering
 
--- a viewer gathers the bytes of a datagram, or refuses them, perhaps for want of memory
+-- a viewer gathers the bytes of a datagram, or refuses them, perhaps as memory is refused
 abbrev pub IsGathering : (mark : List ℕ) → (held : Option Gathering) → (came : List ℕ)
     → (refused : Bool) → (new : Option Gathering) → Type 0
 IsGathering mark held came refused new =
@@ -61,7 +61,7 @@ pub record Gathers (mark : List ℕ) (result : Result (Unit {0}) TurnFault)
   pub gathered : AreGathered mark old takings new
   pub came : Comes result told_before told_after takings
 
--- so many turns of gathering, after each of which pieces are missing
+-- `turns` turns of gathering, after each of which pieces are missing
 abbrev pub GatherTurns : (mark : List ℕ) → (turns : ℕ)
     → (told_before told_after : Option (List Traffic)) → (old new : Option Gathering) → Type 0
 GatherTurns mark zero a b old new = (b ≡ a) × (new ≡ old)
@@ -70,21 +70,21 @@ GatherTurns mark (suc n) a b old new =
     × GatherTurns mark n a between old mid
     × Gathers mark (Ok tt) between b mid new × (whole_of new ≡ None)
 
--- ---- a viewer begins in what it gathered
+-- ---- a viewer starts from what it gathered
 
--- another world and other pieces
+-- the viewer in another state and with other pieces
 abbrev pub with_both : ViewerView → ViewerState Scripted → Option Gathering → ViewerView
 with_both v state held = with_gathering (with_state v state) held
 
--- whether it has begun, as its join says; pieces may be missing. It can't go on where the join is
--- refused for another cause
+-- Whether the viewer has started, given the answer of its join: not if pieces are missing. A join
+-- that is refused for another cause is a fault.
 abbrev pub begun_by : Result ℕ JoinFault → Result Bool SeriesFault
 begun_by (Ok n) = Ok true
 begun_by (Err NotWhole) = Ok false
 begun_by (Err (Snap snap.Memory)) = Err (Turn Memory)
 begun_by (Err (Snap fault)) = Err (Join fault)
 
--- it joins, as this boot
+-- the viewer joins, with this boot
 pub record IsBeginning (v : ViewerView) (boot : ℕ) (result : Result Bool SeriesFault)
     (state : ViewerState Scripted) (held : Option Gathering) : Type 0 where
   pub answer : Result ℕ JoinFault
@@ -92,7 +92,7 @@ pub record IsBeginning (v : ViewerView) (boot : ℕ) (result : Result Bool Serie
   pub law : IsLawfulJoin v boot answer state held
   pub is : result ≡ begun_by answer
 
--- a turn of gathering, and then it joins
+-- a turn of gathering, and then a join
 pub record IsGathered (v : ViewerView) (boot : ℕ) (result : Result Bool SeriesFault)
     (told_before told_after : Option (List Traffic)) (state : ViewerState Scripted)
     (held : Option Gathering) : Type 0 where
@@ -115,7 +115,7 @@ abbrev pub IsGatherTurn : ViewerView → (boot : ℕ) → Result Bool SeriesFaul
 IsGatherTurn v boot result a b state held =
     IsGathered v boot result a b state held ⊎ IsGatherCut v result a b state held
 
--- so many turns in all: pieces were missing after each but the last, after which it has begun
+-- `turns` turns: pieces were missing after each but the last, after which the viewer has started
 pub record HasJoined (v : ViewerView) (boot turns : ℕ) (a b : Option (List Traffic))
     (state : ViewerState Scripted) (held : Option Gathering) : Type 0 where
   pub done : ℕ
@@ -125,7 +125,7 @@ pub record HasJoined (v : ViewerView) (boot turns : ℕ) (a b : Option (List Tra
   pub before : GatherTurns v.mark done a between v.gathering gathered
   pub last : IsGathered (with_gathering v gathered) boot (Ok true) between b state held
 
--- the last of at most so many turns ended early, or the join after it was refused
+-- at most `turns` turns, of which the last ended early or its join was refused
 pub record IsJoinCut (v : ViewerView) (boot turns : ℕ) (a b : Option (List Traffic))
     (fault : SeriesFault) (state : ViewerState Scripted) (held : Option Gathering) :
     Type 0 where
@@ -136,7 +136,7 @@ pub record IsJoinCut (v : ViewerView) (boot turns : ℕ) (a b : Option (List Tra
   pub before : GatherTurns v.mark done a between v.gathering gathered
   pub last : IsGatherTurn (with_gathering v gathered) boot (Err fault) between b state held
 
--- pieces are missing after all the turns
+-- if the turns are used up, pieces are missing after all of them; else the series was cut short
 abbrev pub IsJoinEnd : ViewerView → (boot turns : ℕ) → (a b : Option (List Traffic))
     → SeriesFault → ViewerState Scripted → (held : Option Gathering) → Type 0
 IsJoinEnd v boot turns a b TurnsUsedUp state held =

@@ -1,4 +1,4 @@
--- Turns of a viewer that gives: it sends the pieces of its snapshot to a port, round and round.
+-- Turns of a viewer that gives: it sends the pieces of its snapshot to a port, over and over.
 use Rattle.std.specs.Prelude.{◌≡◌, ◌⊎◌, ℕ, zero, suc, ◌%◌, ◌<◌, ◌==◌, ◌++◌, true, false, List, Option}
 use Rattle.std.specs.Prelude.{None, Some, Result, Ok, Err, if◌then◌else◌}
 use Rattle.share_wire.specs.declared.message.Body.{Body}
@@ -15,7 +15,8 @@ use Rattle.share_turns.specs.Gathers.{Comes}
 use Rattle.share_turns.specs.HostTurn.{datagrams_of, listed}
 use Rattle.share_turns.specs.ViewerTurn.{Taking}
 
--- which of so many pieces is sent in turn n, both from 0: each in turn, and then the first again
+-- the piece to send in turn n, both counted from 0: each of `count` pieces in order, and then the
+-- first one again
 abbrev pub piece_in_turn : (count n : ℕ) → ℕ
 piece_in_turn count n = if count == 0 then 0 else n % count
 
@@ -27,19 +28,19 @@ piece_among (Some count) bytes n = piece_of bytes (piece_in_turn count n)
 abbrev pub given_in : (mark bytes : List ℕ) → (n : ℕ) → List (List ℕ)
 given_in mark bytes n = datagrams_of mark (listed (piece_among (count_of bytes) bytes n))
 
--- what comes is passed over
+-- the datagrams that arrive are discarded
 abbrev pub IsPassedOver : Result (Unit {0}) TurnFault
     → (told_before told_after : Option (List Traffic)) → Type 0
 IsPassedOver result a b = (takings : List Taking) × Comes result a b takings
 
--- turn n: a piece is sent to a port, and what comes is passed over
+-- turn n: a piece is sent to a port, and the datagrams that arrive are discarded
 abbrev pub IsGiveTurn : (mark bytes : List ℕ) → (to n : ℕ)
     → (told_before told_after : Option (List Traffic)) → Type 0
 IsGiveTurn mark bytes to n a b =
     (between : Option (List Traffic)) × AreSent true to a between (given_in mark bytes n)
     × IsPassedOver (Ok tt) between b
 
--- the port failed in it
+-- turn n, in which the port failed
 abbrev pub IsGiveCut : (mark bytes : List ℕ) → (to n : ℕ)
     → (told_before told_after : Option (List Traffic)) → Type 0
 IsGiveCut mark bytes to n a b =
@@ -47,7 +48,7 @@ IsGiveCut mark bytes to n a b =
     ⊎ ((between : Option (List Traffic)) × AreSent true to a between (given_in mark bytes n)
     × IsPassedOver (Err Port) between b)
 
--- so many turns
+-- `turns` turns
 abbrev pub GiveTurns : (mark bytes : List ℕ) → (to turns : ℕ)
     → (told_before told_after : Option (List Traffic)) → Type 0
 GiveTurns mark bytes to zero a b = b ≡ a
@@ -55,7 +56,7 @@ GiveTurns mark bytes to (suc n) a b =
     (between : Option (List Traffic)) × GiveTurns mark bytes to n a between
     × IsGiveTurn mark bytes to n between b
 
--- up to one in which the port failed
+-- turns, up to one in which the port failed
 pub record GiveTurnsEnd (mark bytes : List ℕ) (to turns : ℕ)
     (told_before told_after : Option (List Traffic)) : Type 0 where
   pub done : ℕ
@@ -64,13 +65,14 @@ pub record GiveTurnsEnd (mark bytes : List ℕ) (to turns : ℕ)
   pub before : GiveTurns mark bytes to done told_before between
   pub last : IsGiveCut mark bytes to done between told_after
 
--- ---- of its own snapshot, which it takes once
+-- ---- the viewer's own snapshot, which it takes once
 
 abbrev pub not_taken : SaveFault → TurnFault
 not_taken save.Spoiled = Spoiled
 not_taken save.Memory = Memory
 
--- the bytes of its snapshot are appended, or none was taken: it is spoiled, or memory was refused
+-- the bytes of the viewer's snapshot are appended; or none was taken, because the viewer is spoiled
+-- or memory was refused
 abbrev pub IsShot : ViewerView → (before : List ℕ) → Result (Unit {0}) TurnFault
     → (after : List ℕ) → Type 0
 IsShot v before (Ok done) after = IfSpoiled v.state.view ⊥
@@ -85,7 +87,7 @@ Gives v to turns a b = IfSpoiled v.state.view ⊥
     × IfRunning v.state.view (λ w.
     GiveTurns v.mark (shot v.mark v.state.boot v.scene w) to turns a b)
 
--- the port failed, or no snapshot was taken: the viewer is spoiled, or memory was refused
+-- the port failed; or no snapshot was taken, because the viewer is spoiled or memory was refused
 abbrev pub IsGiveEnd : ViewerView → (to turns : ℕ)
     → (told_before told_after : Option (List Traffic)) → TurnFault → Type 0
 IsGiveEnd v to turns a b Port = IfSpoiled v.state.view ⊥

@@ -1,4 +1,4 @@
--- A turn of the host: the next clock of its job, then datagrams that come, each answered.
+-- A turn of the host: it numbers a clock, if there is one, and answers the datagrams that arrive.
 use Rattle.std.specs.Prelude.{◌≡◌, ℕ, ◌≤◌, ℤ, Bool, true, false, List, [], ◌∷◌, ◌++◌, map, length}
 use Rattle.std.specs.Prelude.{slice_get, Option, Some, None, Result, Ok, Err, is_ok, nat_eq, nat_lt}
 use Rattle.std.specs.Prelude.{if◌then◌else◌}
@@ -37,7 +37,7 @@ abbrev pub listed : {A : Type 0} → Option A → List A
 listed None = []
 listed (Some x) = x ∷ []
 
--- the inputs that were asked for, or the floor where they are below it
+-- the inputs that were asked for, or the floor if they are below it
 abbrev pub inputs_for : HostPart → HostReply → List Body
 inputs_for h (Asked first count) =
     flat_map (λ n. listed (part_packet h n)) (range_with_len first count)
@@ -72,14 +72,14 @@ bodies_for h sender reply = inputs_for h reply ++ acks_for h sender
 abbrev pub datagrams_of : (mark : List ℕ) → List Body → List (List ℕ)
 datagrams_of mark bodies = map (λ body. datagram (record { mark = mark; body = body })) bodies
 
--- what a host that took these bytes sends for them; for what it refused it sends nothing
+-- what a host sends after it took these bytes; nothing if it refused them
 abbrev pub datagrams_for : (mark : List ℕ) → HostPart → (came : List ℕ)
     → Result HostReply HostFault → List (List ℕ)
 datagrams_for mark h came (Ok reply) =
     datagrams_of mark (bodies_for h (sender_of (decoded came)) reply)
 datagrams_for mark h came (Err fault) = []
 
--- ---- what it hears of its viewers
+-- ---- what the host hears of its viewers
 
 abbrev pub ask_in : Body → Option AskView
 ask_in (Input s) = None
@@ -89,13 +89,13 @@ ask_in (Ack a) = None
 ask_in (Floor f) = None
 ask_in (Piece p) = None
 
--- the ask of this scene that came
+-- the ask that was decoded, if it has the mark of this scene
 abbrev pub asked_of : (mark : List ℕ) → Result Message WireFault → Option AskView
 asked_of mark (Ok message) =
     if pointwise nat_eq message.mark mark then ask_in message.body else None
 asked_of mark (Err fault) = None
 
--- an ask of one of its viewers is heard
+-- the host hears the ask, if it is of one of its viewers
 abbrev pub hear_from : (viewers : ℕ) → (heard : List ℕ) → Option AskView → List ℕ
 hear_from viewers heard None = heard
 hear_from viewers heard (Some a) =
@@ -116,19 +116,19 @@ abbrev pub is_whole : {A : Type 0} → Result A TurnFault → Bool
 is_whole (Err Port) = false
 is_whole result = true
 
--- how many sends and receives of a port failed, after a turn
+-- the number of sends and receives of a port that failed, after a turn
 abbrev pub failures_after : {A : Type 0} → Result A TurnFault → ℕ → ℕ
 failures_after (Err Port) n = one_more n
 failures_after result n = n
 
--- the host numbers a clock, if there is one, or refuses it, perhaps for want of memory
+-- the host numbers a clock, if there is one, or refuses it, perhaps as memory is refused
 abbrev pub IsBegun : HostPart → Option ℤ → (refused : Bool) → HostPart → Type 0
 IsBegun h None refused new = (new ≡ h) × (refused ≡ false)
 IsBegun h (Some time) refused new =
     (answer : Result ℕ NumberFault) × IsPartClocked h time answer new
     × (refused ≡ says_memory (Clocked answer))
 
--- the host takes what came, and sends what belongs to it
+-- the host takes a datagram, and sends the answers to it
 pub record IsAnswered (whole : Bool) (mark : List ℕ) (h : HostPart) (e : Exchange)
     (new : HostPart) : Type 0 where
   pub result : Result HostReply HostFault
@@ -136,7 +136,7 @@ pub record IsAnswered (whole : Bool) (mark : List ℕ) (h : HostPart) (e : Excha
   pub refused : e.refused ≡ says_memory (HostTook result)
   pub sent : IsSentOf whole e.sent (datagrams_for mark new e.came.bytes result)
 
--- the same, as a port tells what is sent, and a turn goes on or ends there
+-- like `IsAnswered`, as a port records what is sent; the turn then goes on or ends
 pub record IsExchange (result : Result (Unit {0}) TurnFault) (mark : List ℕ) (h : HostPart)
     (came : Datagram) (told_before told_after : Option (List Traffic)) (new : HostPart) :
     Type 0 where
@@ -147,7 +147,7 @@ pub record IsExchange (result : Result (Unit {0}) TurnFault) (mark : List ℕ) (
   pub memory : IsAnswerAfter (refused ∷ []) result
   pub told : Grows told_before told_after (sent_to came.peer sent)
 
--- the same, of any datagram from this peer that was decoded so
+-- like `IsExchange`, for every datagram from this peer that decodes to `read`
 abbrev pub IsExchangeOf : (result : Result (Unit {0}) TurnFault) → (mark : List ℕ) → HostPart
     → (peer : ℕ) → (read : Result Message WireFault)
     → (told_before told_after : Option (List Traffic)) → (new : HostPart) → Type 0
@@ -155,7 +155,7 @@ IsExchangeOf result mark h peer read a b new =
     (bytes : List ℕ) → read ≡ decoded bytes
     → IsExchange result mark h (record { peer = peer; bytes = bytes }) a b new
 
--- where others follow, all was sent: a port that fails ends the turn
+-- all was sent for a datagram that others follow, as a port that fails ends the turn
 abbrev pub is_whole_before : (whole : Bool) → (others : List Exchange) → Bool
 is_whole_before whole [] = whole
 is_whole_before whole (e ∷ es) = true
@@ -168,8 +168,8 @@ AreAnswered whole mark h (e ∷ es) new =
     (next : HostPart) × IsAnswered (is_whole_before whole es) mark h e next
     × AreAnswered whole mark next es new
 
--- the clock, and then as many datagrams as a turn takes, or until no more come; what it had heard
--- of its viewers, and then has
+-- The clock, and then datagrams, as many as a turn takes or until no more arrive. What the host had
+-- heard of its viewers is `before`; after the turn it is `after`.
 pub record IsHeardTurn (result : Result (Unit {0}) TurnFault) (mark : List ℕ) (clock : Option ℤ)
     (told_before told_after : Option (List Traffic)) (old new : HostPart)
     (before after : List ℕ) : Type 0 where
@@ -185,7 +185,7 @@ pub record IsHeardTurn (result : Result (Unit {0}) TurnFault) (mark : List ℕ) 
   pub ended : IsEnd (is_ok result) (length exchanges) rest
   pub told : Grows told_before told_after (all_traffic exchanges ++ rest)
 
--- the same, whatever it hears
+-- like `IsHeardTurn`, whatever the host hears
 abbrev pub IsHostTurn : (result : Result (Unit {0}) TurnFault) → (mark : List ℕ)
     → (clock : Option ℤ) → (told_before told_after : Option (List Traffic)) → (old new : HostPart)
     → Type 0

@@ -1,4 +1,4 @@
--- A round: a turn of the host, and then one of each viewer.
+-- A round: a turn of the host, and then a turn of each viewer.
 use Rattle.std.specs.Prelude.{◌≡◌, ◌⊎◌, ℕ, Bool, List, length, Option, Result, Ok, Err}
 use Rattle.x3d_values.specs.Stamp.{StampedView}
 use Rattle.share_law.specs.Parts.{HostPart}
@@ -21,14 +21,14 @@ meeting host port viewers ports = record {
   seats = seats_of viewers ports;
 }
 
--- the turn of the host, the first of a round
+-- the turn of the host, the first turn of a round
 pub record IsFirstTurn {P : Type 0} (ways : Ways P) (mark : List ℕ) (step : Option StampedView)
     (old : Meeting P) (result : Result (Unit {0}) TurnFault) (new : Meeting P) : Type 0 where
   pub turn : IsHostTurn result mark (clock_of step) (ways.told old.port) (ways.told new.port)
       old.host new.host
   pub failures : ways.failures new.port ≡ failures_after result (ways.failures old.port)
 
--- a turn of the host and one of each viewer, and whether this step was issued in them
+-- a turn of the host and a turn of each viewer, and whether the step was issued in them
 pub record IsRoundOf
     {P : Type 0} (ways : Ways P) (mark : List ℕ) (step : Option StampedView) (own : ℕ)
     (old : Meeting P) (issued : Bool) (new : Meeting P) : Type 0 where
@@ -37,7 +37,7 @@ pub record IsRoundOf
   pub seated : SeatTurns ways step own (length old.seats.viewers) old.seats offered new.seats
   pub is : issued ≡ is_issued step offered
 
--- it ended early: in the host's turn, or in a viewer's
+-- a round that ended early, in the host's turn or in a viewer's
 abbrev pub IsRoundEnd : {P : Type 0} → Ways P → (mark : List ℕ) → Option StampedView → (own : ℕ)
     → Meeting P → TurnFault → Meeting P → Type 0
 IsRoundEnd ways mark step own old fault new =

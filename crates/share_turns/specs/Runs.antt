@@ -19,16 +19,16 @@ pub record Hosting : Type 0 where
 abbrev pub hosting : HostPart → (heard : List ℕ) → Hosting
 hosting part heard = record { part = part; heard = heard }
 
--- ---- which inputs it keeps
+-- ---- which inputs the host keeps
 
--- the floor of a host that keeps so many of the inputs that every viewer of which it heard has
--- asked past: none where it keeps all, or heard of no viewer
+-- The floor of a host that keeps the last `keep` of the inputs that every viewer it heard of has
+-- asked past. There is none if the host keeps all inputs or has heard of no viewer.
 abbrev pub next_floor : (keep lowest : Option ℕ) → HostPart → Option ℕ
 next_floor None low p = None
 next_floor (Some n) None p = None
 next_floor (Some n) (Some low) p = Some (floor_for n low p.floor p.count)
 
--- it drops what is below the floor, if there is one
+-- the part after the inputs below the floor, if there is one, are dropped
 abbrev pub dropped_below : Option ℕ → HostPart → HostPart
 dropped_below None p = p
 dropped_below (Some f) p = (part_drop_below p f).1
@@ -38,7 +38,7 @@ kept_by keep heard p = dropped_below (next_floor keep (lowest heard) p) p
 
 -- ---- turns
 
--- a turn, and then the inputs are dropped that it doesn't keep
+-- a turn, and then the host drops the inputs that it doesn't keep
 abbrev pub IsKeptTurn : (mark : List ℕ) → (keep : Option ℕ) → (clock : Option ℤ)
     → (told_before told_after : Option (List Traffic)) → (old new : Hosting) → Type 0
 IsKeptTurn mark keep clock a b old new =
@@ -46,12 +46,13 @@ IsKeptTurn mark keep clock a b old new =
     × IsHeardTurn (Ok tt) mark clock a b old.part left old.heard new.heard
     × (new.part ≡ kept_by keep new.heard left)
 
--- it has numbered what it was to number, and all of which it heard have asked past that
+-- the host has numbered the inputs that `plan` requires, and all viewers it heard of have asked
+-- past them
 abbrev pub is_over : HostPlan → Hosting → Bool
 is_over plan h = is_served plan.until (lowest h.heard) h.part.count
 
--- so many turns, each while it isn't over; turn n, from 0, has the clock at place n of its job. At
--- first it has heard of nobody
+-- `turns` turns, each while it isn't over. Turn n, counted from 0, has the clock at place n of the
+-- list. At first the host has heard of no viewer.
 abbrev pub HostTurns : (mark : List ℕ) → List ℤ → HostPlan → (turns : ℕ)
     → (told_before told_after : Option (List Traffic)) → (old : HostPart) → (new : Hosting)
     → Type 0
@@ -62,7 +63,7 @@ HostTurns mark clocks plan (suc n) a b old new =
     × (is_over plan mid ≡ false)
     × IsKeptTurn mark plan.keep (slice_get clocks n) between b mid new
 
--- turns until it was over, or all of them where nothing was to be over
+-- turns until it was over, or all turns if the plan names no end
 pub record AreHosted (mark : List ℕ) (clocks : List ℤ) (plan : HostPlan) (turns : ℕ)
     (a b : Option (List Traffic)) (old new : HostPart) : Type 0 where
   pub done : ℕ
@@ -72,7 +73,7 @@ pub record AreHosted (mark : List ℕ) (clocks : List ℤ) (plan : HostPlan) (tu
   pub over : (is_over plan (hosting new heard) ≡ true)
       ⊎ ((is_none plan.until ≡ true) × (done ≡ turns))
 
--- all the turns, and it isn't over
+-- all the turns were taken, and it isn't over
 pub record AreInVain (mark : List ℕ) (clocks : List ℤ) (plan : HostPlan) (turns : ℕ)
     (a b : Option (List Traffic)) (old new : HostPart) : Type 0 where
   pub heard : List ℕ

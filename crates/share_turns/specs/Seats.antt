@@ -1,4 +1,4 @@
--- Turns of several viewers, each over a port of its own, in the order of their numbers.
+-- Turns of several viewers, each with its own port, in the order of their numbers.
 use Rattle.std.specs.Prelude.{◌≡◌, ℕ, zero, suc, ◌<◌, ◌||◌, Bool, false, List, length, slice_get}
 use Rattle.std.specs.Prelude.{slice_set, Option, Some, Result, Ok, Err}
 use Rattle.x3d_values.specs.Stamp.{StampedView}
@@ -11,7 +11,7 @@ use Rattle.share_turns.specs.HostTurn.{failures_after}
 use Rattle.share_turns.specs.Views.{IsTurnOf}
 use Rattle.share_turns.specs.Issuing.{offer_of}
 
--- how a port tells what passed, and how many of its sends and receives failed
+-- what a port recorded of its traffic, and how many of its sends and receives failed
 pub record Ways (P : Type 0) : Type 0 where
   pub told : P → Option (List Traffic)
   pub failures : P → ℕ
@@ -27,7 +27,7 @@ pub record Seats (P : Type 0) : Type 0 where
 abbrev pub seats_of : {P : Type 0} → List ViewerView → List P → Seats P
 seats_of viewers ports = record { viewers = viewers; ports = ports }
 
--- a turn of the viewer with this number, which changes it and its port alone
+-- a turn of the viewer with this number, which changes only this viewer and its port
 pub record IsSeatTurn {P : Type 0} (ways : Ways P) (step : Option StampedView) (host who : ℕ)
     (old : Seats P) (result : Result Bool TurnFault) (new : Seats P) : Type 0 where
   pub viewer : ViewerView
@@ -42,7 +42,7 @@ pub record IsSeatTurn {P : Type 0} (ways : Ways P) (step : Option StampedView) (
   pub viewers : new.viewers ≡ slice_set old.viewers who (with_state viewer left)
   pub ports : new.ports ≡ slice_set old.ports who left_port
 
--- turns of the first so many viewers, and whether one of them offered its point
+-- turns of the first `viewers` viewers, and whether one of them offered its point
 abbrev pub SeatTurns : {P : Type 0} → Ways P → Option StampedView → (host viewers : ℕ) → Seats P
     → (offered : Bool) → Seats P → Type 0
 SeatTurns ways step host zero old offered new = (offered ≡ false) × (new ≡ old)
@@ -50,7 +50,7 @@ SeatTurns {P} ways step host (suc n) old offered new =
     (mid : Seats P) × (before did : Bool) × SeatTurns ways step host n old before mid
     × IsSeatTurn ways step host n mid (Ok did) new × (offered ≡ (before || did))
 
--- the same, up to a turn that ended early
+-- like `SeatTurns`, up to a turn that ended early
 pub record SeatTurnsEnd {P : Type 0} (ways : Ways P) (step : Option StampedView) (host : ℕ)
     (old : Seats P) (fault : TurnFault) (new : Seats P) : Type 0 where
   pub done : ℕ

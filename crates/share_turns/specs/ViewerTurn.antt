@@ -1,5 +1,5 @@
--- A turn of a viewer: a point that it offers, then datagrams that come, and then what it sends to
--- its host.
+-- A turn of a viewer: it offers a point, takes the datagrams that arrive, and then sends to its
+-- host.
 use Rattle.std.specs.Prelude.{◌≡◌, ◌⊎◌, ℕ, ◌≤◌, Bool, true, false, is_ok, List, [], ◌∷◌, ◌++◌, map, length}
 use Rattle.std.specs.Prelude.{Option, Some, None, Result, Ok, Err, IfOk}
 use Rattle.x3d_values.specs.declared.pointing.Point.{Point}
@@ -28,19 +28,19 @@ IsOffered x None offered y = (y ≡ x) × (offered ≡ false)
 IsOffered x (Some point) offered y =
     (result : Result ℕ OfferFault) × (viewer_offer x point ≡ (result, y)) × (offered ≡ is_ok result)
 
--- it takes the bytes of a datagram, or refuses them, perhaps for want of memory
+-- a viewer takes the bytes of a datagram, or refuses them, perhaps as memory is refused
 abbrev pub IsTaking : {W : Type 0} → Machine W → (mark : List ℕ) (who : ℕ) → ViewerState W
     → (came : List ℕ) → (refused : Bool) → ViewerState W → Type 0
 IsTaking m mark who x came refused y =
     (answer : Result Taken TakeFault) × IsTakeOf m mark who x x.view (decoded came) answer y
     × (refused ≡ says_memory (ViewerTook answer))
 
--- a datagram that came, and whether memory was refused to its take
+-- a datagram that arrived, and whether memory was refused to its take
 pub record Taking : Type 0 where
   pub came : Datagram
   pub refused : Bool
 
--- it takes one datagram after another
+-- a viewer takes one datagram after another
 abbrev pub AreTaken : {W : Type 0} → Machine W → (mark : List ℕ) (who : ℕ) → ViewerState W
     → List Taking → ViewerState W → Type 0
 AreTaken m mark who x [] y = y ≡ x
@@ -48,14 +48,15 @@ AreTaken {W} m mark who x (t ∷ others) y =
     (next : ViewerState W) × IsTaking m mark who x t.came.bytes t.refused next
     × AreTaken m mark who next others y
 
--- what came
+-- the datagrams that arrived
 abbrev pub received : List Taking → List Traffic
 received takings = map (λ t. Received t.came) takings
 
 abbrev pub refusals_of : List Taking → List Bool
 refusals_of takings = map (λ t. t.refused) takings
 
--- the same, of as many datagrams as a turn takes, or until no more come, as a port tells them
+-- like `AreTaken`, for as many datagrams as a turn takes or until no more arrive, as a port records
+-- them
 pub record Takes {W : Type 0} (m : Machine W) (mark : List ℕ) (who : ℕ)
     (result : Result (Unit {0}) TurnFault) (told_before told_after : Option (List Traffic))
     (old new : ViewerState W) : Type 0 where
@@ -67,18 +68,18 @@ pub record Takes {W : Type 0} (m : Machine W) (mark : List ℕ) (who : ℕ)
   pub ended : IsEnd (is_ok result) (length takings) rest
   pub told : Grows told_before told_after (received takings ++ rest)
 
--- the offer that has waited longest, and an ask
+-- the offer that has waited longest, if one waits, and an ask
 abbrev pub requests : {W : Type 0} → Machine W → (mark : List ℕ) (who : ℕ) → ViewerState W
     → List (List ℕ)
 requests m mark who x =
     datagrams_of mark (listed (viewer_resend who x 0) ++ viewer_ask m who x ∷ [])
 
--- the turn ended before all was taken: nothing was sent
+-- the turn ended before all was taken, so nothing was sent
 abbrev pub IsCut : Result Bool TurnFault → (rest : List Traffic) → (sent : List (List ℕ)) → Type 0
 IsCut (Ok offered) rest sent = ⊥
 IsCut (Err fault) rest sent = (rest ≡ []) × (sent ≡ [])
 
--- a turn; where it ends early, perhaps not all is sent
+-- a turn of a viewer; if it ends early, perhaps not everything is sent
 pub record IsViewerTurn {W : Type 0} (m : Machine W) (mark : List ℕ) (who host : ℕ)
     (point : Option Point) (told_before told_after : Option (List Traffic))
     (old : ViewerState W) (result : Result Bool TurnFault) (new : ViewerState W) : Type 0 where

@@ -1,4 +1,4 @@
--- Turns of a viewer, one after another, and the texts that it writes then.
+-- Turns of a viewer, one after another, and the texts that it then writes.
 use Rattle.std.specs.Prelude.{◌≡◌, ℕ, zero, suc, ◌+◌, ◌-◌, ◌≤◌, ◌<◌, Bool, true, false, List}
 use Rattle.std.specs.Prelude.{◌⊎◌, ◌++◌, slice_get, Option, None, Some, Result, Ok, Err}
 use Rattle.x3d_values.specs.declared.pointing.Point.{Point}
@@ -22,7 +22,7 @@ use Rattle.share_turns.specs.ViewerTurn.{IsViewerTurn}
 
 -- ---- one turn
 
--- a turn of a viewer that leaves it with this state; a spoiled one does nothing
+-- a turn of a viewer that leaves it in this state; a spoiled viewer does nothing
 pub record IsTurnOf (v : ViewerView) (host : ℕ) (point : Option Point)
     (told_before told_after : Option (List Traffic)) (result : Result Bool TurnFault)
     (new : ViewerState Scripted) : Type 0 where
@@ -36,13 +36,13 @@ applied_by v x = applied_in (machine_of v) x.view
 
 -- ---- turns, one after another
 
--- how many points are offered, where a turn offered the next of them or didn't
+-- the number of offered points after a turn that offered the next one or didn't
 abbrev pub one_more_if : (offered : Bool) → ℕ → ℕ
 one_more_if true n = n + 1
 one_more_if false n = n
 
--- so many turns, each while too few inputs are applied; each offers the first point that was not
--- offered yet, and so many were offered in all
+-- `turns` turns, each while too few inputs are applied. Each turn offers the first point that
+-- wasn't offered yet, and `offered` points were offered in all.
 abbrev pub ViewerTurns : ViewerView → (host : ℕ) → List Point → (until turns : ℕ)
     → (told_before told_after : Option (List Traffic)) → (offered : ℕ) → ViewerState Scripted
     → Type 0
@@ -54,14 +54,14 @@ ViewerTurns v host points until (suc n) a b offered new =
     × IsTurnOf (with_state v mid) host (slice_get points before) between b (Ok did) new
     × (offered ≡ one_more_if did before)
 
--- turns, until enough inputs are applied: so many
+-- `done` turns, until enough inputs are applied
 pub record AreViewed (v : ViewerView) (host : ℕ) (points : List Point) (until done : ℕ)
     (told_before told_after : Option (List Traffic)) (new : ViewerState Scripted) : Type 0 where
   pub offered : ℕ
   pub turned : ViewerTurns v host points until done told_before told_after offered new
   pub enough : until ≤ applied_by v new
 
--- all the turns, and too few inputs are applied
+-- all the turns were taken, and too few inputs are applied
 pub record AreUsedUp (v : ViewerView) (host : ℕ) (points : List Point) (until turns : ℕ)
     (told_before told_after : Option (List Traffic)) (new : ViewerState Scripted) : Type 0 where
   pub offered : ℕ
@@ -91,7 +91,7 @@ IsViewEnd v host points until turns a b (Turn fault) new =
     AreStopped v host points until turns a b fault new
 IsViewEnd v host points until turns a b (Join fault) new = ⊥
 
--- how many sends and receives of a port failed, after turns
+-- the number of sends and receives of a port that failed, after a series of turns
 abbrev pub failures_in : {A : Type 0} → Result A SeriesFault → ℕ → ℕ
 failures_in (Err (Turn fault)) n = failures_after {A = Unit {0}} (Err fault) n
 failures_in result n = n
@@ -115,9 +115,9 @@ IsTextFault view Spoiled = IfRunning view (λ w. ⊥)
 IsTextFault view Memory = IfSpoiled view ⊥
 IsTextFault view fault = ⊥
 
--- ---- a whole run: a viewer joins, views and gives, as it is asked to
+-- ---- a whole run: a viewer joins, views and gives, as its plan says
 
--- it joined, as this boot, in so many of its turns; where there is none it is as it was
+-- the viewer joined, with this boot, in `used` of its turns; without a boot it is unchanged
 abbrev pub IsBegunAs : ViewerView → (join : Option ℕ) → (turns used : ℕ)
     → (told_before told_after : Option (List Traffic)) → (new : ViewerView) → Type 0
 IsBegunAs v None turns used a b new = (used ≡ 0) × (b ≡ a) × (new ≡ v)
@@ -132,7 +132,7 @@ IsBeginEnd v None turns a b fault new = ⊥
 IsBeginEnd v (Some boot) turns a b fault new =
     IsJoinEnd v boot turns a b fault new.state new.gathering
 
--- it gave its snapshot to a port in so many turns; where there is none it took none
+-- the viewer gave its snapshot to a port in `turns` turns; without a port it took no turn
 abbrev pub HasGiven : ViewerView → (give : Option ℕ) → (turns : ℕ)
     → (told_before told_after : Option (List Traffic)) → Type 0
 HasGiven v None turns a b = b ≡ a
@@ -143,7 +143,7 @@ abbrev pub IsGivenEnd : ViewerView → (give : Option ℕ) → (turns : ℕ)
 IsGivenEnd v None turns a b fault = ⊥
 IsGivenEnd v (Some to) turns a b fault = IsGiveEnd v to turns a b fault
 
--- it joined, and then enough inputs were applied: what is left of its turns
+-- the viewer joined, and then enough inputs were applied; `left` turns remain
 pub record HasViewed (v : ViewerView) (host : ℕ) (points : List Point) (plan : ViewPlan)
     (a b : Option (List Traffic)) (left : ℕ) (new : ViewerView) : Type 0 where
   pub joining : ℕ
@@ -156,7 +156,7 @@ pub record HasViewed (v : ViewerView) (host : ℕ) (points : List Point) (plan :
   pub same : new ≡ with_state begun new.state
   pub is : left ≡ plan.turns - joining - viewing
 
--- then it gave in the turns that were left, and its texts are appended
+-- then the viewer gave its snapshot in the remaining turns, and its texts are appended
 pub record IsRun (v : ViewerView) (host : ℕ) (points : List Point) (plan : ViewPlan)
     (a b : Option (List Traffic)) (new : ViewerView) (before after : List ℕ) : Type 0 where
   pub left : ℕ
@@ -165,7 +165,7 @@ pub record IsRun (v : ViewerView) (host : ℕ) (points : List Point) (plan : Vie
   pub given : HasGiven new plan.give left between b
   pub texts : AreAppended new before after
 
--- it joined, and the turns in which it viewed ended so
+-- the viewer joined, and then its turns of viewing ended with this fault
 pub record IsViewCut (v : ViewerView) (host : ℕ) (points : List Point) (plan : ViewPlan)
     (a b : Option (List Traffic)) (fault : SeriesFault) (new : ViewerView) : Type 0 where
   pub joining : ℕ
@@ -175,7 +175,7 @@ pub record IsViewCut (v : ViewerView) (host : ℕ) (points : List Point) (plan :
   pub ended : IsViewEnd begun host points plan.until (plan.turns - joining) between b fault
       new.state
 
--- it viewed, and the turns in which it gave ended so, or a text did
+-- the viewer viewed, and then its turns of giving, or a text, ended with this fault
 pub record IsLateCut (v : ViewerView) (host : ℕ) (points : List Point) (plan : ViewPlan)
     (a b : Option (List Traffic)) (fault : SeriesFault) (new : ViewerView) : Type 0 where
   pub left : ℕ

@@ -51,9 +51,8 @@ impl From<AllocError> for TurnFault {
     }
 }
 
-/// Why turns, one after another, didn't come to what they were for: one of them ended early, there
-/// were too few of them, or a viewer couldn't begin in the snapshot that it gathered, for another
-/// cause than memory.
+/// Why a series of turns didn't reach its end: one turn ended early, the turns were too few, or a
+/// viewer couldn't start from the snapshot that it gathered, for a cause other than memory.
 #[derive(Clone, Copy, Debug, PartialEq, Eq, Error)]
 pub enum SeriesFault {
     #[error(transparent)]

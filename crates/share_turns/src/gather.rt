@@ -1,5 +1,5 @@
-//! A viewer that joins: it gathers the pieces of a snapshot that come to it, and begins in it once
-//! none is missing. It sends nothing.
+//! A viewer that joins: it gathers the pieces of a snapshot as they arrive, and starts from the
+//! snapshot once no piece is missing. It sends nothing.
 
 ghost use Rattle.std.specs.Prelude.{◌≡◌, ◌≤◌, Err, IfErr, IfOk, OnErr, is_err};
 ghost use Rattle.share_law.specs.Network.{Collected};
@@ -18,8 +18,8 @@ use share_core::Viewer;
 use share_law::{GatherFault, Gathered, JoinFault, SnapFault};
 use share_port::{Port, RECEIVED};
 
-/// Goes on after a datagram, unless memory was refused to the first piece. One that was refused for
-/// another cause is dropped.
+/// Goes on after a datagram, unless memory was refused to the first piece. A datagram that was
+/// refused for another cause is dropped.
 fn after_gather(answer: Result<Gathered, GatherFault>) -> Result<(), TurnFault>
     ensures refused { is_err result ≡ says_memory (Collected answer) }
     ensures fault { OnErr result (result ≡ Err Memory) }
@@ -58,7 +58,7 @@ fn gather_all<B: Behaviour, P: Port>(viewer: &mut Viewer<B>, port: &mut P) -> Re
     Ok(())
 }
 
-/// Whether a viewer has begun, as its join says: not where pieces are missing.
+/// Returns whether a viewer has started, given the answer of its join: not if pieces are missing.
 fn begun_by(answer: Result<u32, JoinFault>) -> Result<bool, SeriesFault>
     ensures { result ≡ begun_by answer }
 {
@@ -70,7 +70,7 @@ fn begun_by(answer: Result<u32, JoinFault>) -> Result<bool, SeriesFault>
     }
 }
 
-/// Begins in what was gathered, and says whether it has: not where pieces are missing.
+/// Starts from what was gathered. Returns whether it did: not if pieces are missing.
 fn begin<B: Behaviour>(viewer: &mut Viewer<B>, boot: u32) -> Result<bool, SeriesFault>
     ensures others { viewer.new ≡ with_both viewer.old viewer.new.state viewer.new.gathering }
     ensures begun { IsBeginning viewer.old boot result viewer.new.state viewer.new.gathering }
@@ -78,7 +78,7 @@ fn begin<B: Behaviour>(viewer: &mut Viewer<B>, boot: u32) -> Result<bool, Series
     begun_by(viewer.join(boot))
 }
 
-/// A turn of a viewer that joins: it gathers at most 64 datagrams, and begins if it can.
+/// Runs a turn of a viewer that joins: it gathers at most 64 datagrams, and starts if it can.
 fn gather_turn<B: Behaviour, P: Port>(
     viewer: &mut Viewer<B>,
     boot: u32,
@@ -94,14 +94,15 @@ fn gather_turn<B: Behaviour, P: Port>(
     begin(viewer, boot)
 }
 
-/// Turns of a viewer that joins, `turns` at most: how many they were. In each it gathers at most 64
-/// datagrams that came; after the first at which no piece of the snapshot is missing it begins in
-/// that, as this boot, and what it gathered is let go. It sends nothing. A datagram that is refused
-/// for another cause than memory is dropped.
+/// Runs at most `turns` turns of a viewer that joins. Returns their number. In each turn the viewer
+/// gathers at most 64 datagrams. After the first turn that leaves no piece of the snapshot missing,
+/// it starts from the snapshot, with boot `boot`, and drops what it gathered. It sends nothing. A
+/// datagram that is refused for a cause other than memory is dropped.
 ///
-/// `TurnsUsedUp` where pieces are missing after the last turn. Where it can't begin in what it
-/// gathered: `Memory`, and then it is spoiled; `Join` with any other cause, `BootNotNew` among them
-/// where `boot` isn't above its own and the snapshot's. A turn that ends early ends the series.
+/// Fails with `TurnsUsedUp` if pieces are missing after the last turn. If the viewer can't start
+/// from what it gathered, fails with `Memory`, which spoils the viewer, or with `Join` and any
+/// other cause: among them `BootNotNew`, if `boot` isn't above the viewer's own and the snapshot's.
+/// A turn that ends early ends the series.
 pub fn join_run<B: Behaviour, P: Port>(
     viewer: &mut Viewer<B>,
     boot: u32,

@@ -1,5 +1,5 @@
-//! A viewer that gives: it sends the pieces of its snapshot to a port, round and round, and asks
-//! for nothing.
+//! A viewer that gives: it sends the pieces of its snapshot to a port, over and over, and asks for
+//! nothing.
 
 ghost use Rattle.std.specs.Prelude.{◌≡◌, [], Err, IfErr, OnErr, OnOk, is_ok};
 ghost use Rattle.std.specs.Option.{option_map};
@@ -22,17 +22,18 @@ use share_port::{Port, PortFault, RECEIVED};
 use share_wire::Packet;
 use std::alloc::Global;
 
-/// How many pieces are sent in a row before the port rests.
+/// The number of pieces that are sent in a row before the port rests.
 const IN_A_ROW: u32 = 32;
 
-/// Which of so many pieces is sent in a turn, both from 0: each in turn, and then the first again.
+/// Returns the piece to send in a turn, both counted from 0: each of `count` pieces in order, and
+/// then the first one again.
 fn piece_in_turn(count: u32, turn: u32) -> u32
     ensures { result ≡ piece_in_turn count turn }
 {
     if count == 0 { 0 } else { turn % count }
 }
 
-/// The packet of that turn for these pieces of a snapshot, if there are any.
+/// Returns the packet of a turn, if the snapshot has pieces.
 fn packet_among(mark: &[u8; 32], bytes: &[u8], count: Option<u32>, turn: u32) -> Option<Packet>
     ensures { option_map (λ p. p.items) result
         ≡ option_map (λ body. datagram (record { mark = mark.now; body = body }))
@@ -44,7 +45,7 @@ fn packet_among(mark: &[u8; 32], bytes: &[u8], count: Option<u32>, turn: u32) ->
     }
 }
 
-/// Sends the piece of that turn.
+/// Sends the piece of a turn.
 fn send_piece<P: Port>(
     mark: &[u8; 32],
     bytes: &[u8],
@@ -62,7 +63,7 @@ fn send_piece<P: Port>(
     }
 }
 
-/// Passes over at most 64 datagrams that came.
+/// Discards at most 64 datagrams that arrived.
 fn pass_over<P: Port>(port: &mut P) -> Result<(), TurnFault>
     ensures over { IsPassedOver result (P.told port.old) (P.told port.new) }
     ensures fault { OnErr result (result ≡ Err PortFailed) }
@@ -79,7 +80,8 @@ fn pass_over<P: Port>(port: &mut P) -> Result<(), TurnFault>
     Ok(())
 }
 
-/// Has the port its shortest rest behind some turns, so that whoever gathers the pieces keeps up.
+/// Lets the port take its shortest rest after every `IN_A_ROW` turns, so that the gatherer keeps
+/// up.
 fn rest_behind<P: Port>(turn: u32, port: &mut P)
     ensures told { P.told port.new ≡ P.told port.old }
     ensures count { P.failure_count port.new ≡ P.failure_count port.old }
@@ -89,7 +91,7 @@ fn rest_behind<P: Port>(turn: u32, port: &mut P)
     }
 }
 
-/// A turn of a viewer that gives.
+/// Runs a turn of a viewer that gives.
 fn give_turn<P: Port>(
     mark: &[u8; 32],
     bytes: &[u8],
@@ -111,7 +113,7 @@ fn give_turn<P: Port>(
     Ok(())
 }
 
-/// So many turns of a viewer that gives a snapshot of these bytes.
+/// Runs `turns` turns of a viewer that gives a snapshot with these bytes.
 fn give_turns<P: Port>(
     mark: &[u8; 32],
     bytes: &[u8],
@@ -170,12 +172,13 @@ fn give_own<B: Behaviour, P: Port>(
     give_turns(&viewer.mark(), bytes.as_slice(), to, turns, port)
 }
 
-/// So many turns of a viewer that gives: it takes a snapshot once, and in each turn it sends the
-/// next piece of it to a port, round and round, and passes over at most 64 datagrams that came. A
+/// Runs `turns` turns of a viewer that gives. It takes a snapshot once. In each turn it sends the
+/// next piece of it to a port, over and over, and discards at most 64 datagrams that arrived. A
 /// snapshot of more than 2^26 bytes has no pieces: then nothing is sent.
 ///
-/// `Spoiled` where memory was refused to the viewer before, `Memory` where it was refused to the
-/// snapshot: then there is no turn. `Port` where a send or a receive failed, which ends the turns.
+/// Fails with `Spoiled` if memory was refused to the viewer before, or `Memory` if memory was
+/// refused to the snapshot; then there is no turn. `Port`, if a send or a receive failed, ends the
+/// turns.
 pub fn give_run<B: Behaviour, P: Port>(
     alloc: Global,
     viewer: &Viewer<B>,

@@ -24,8 +24,8 @@ use share_law::{HostFault, HostReply, NumberFault};
 use share_port::{Port, PortFault, RECEIVED};
 use share_wire::{Ask, Body, Message, WireFault, decode};
 
-/// Goes on after a clock, unless memory was refused to it. One that was refused for another cause
-/// is dropped.
+/// Goes on after a clock, unless memory was refused to it. A clock that was refused for another
+/// cause is dropped.
 fn after_clock(answer: Result<u32, NumberFault>) -> Result<(), TurnFault>
     ensures refused { is_err result ≡ says_memory (Clocked answer) }
     ensures fault { OnErr result (result ≡ Err Memory) }
@@ -36,7 +36,7 @@ fn after_clock(answer: Result<u32, NumberFault>) -> Result<(), TurnFault>
     }
 }
 
-/// Numbers the clock of a turn.
+/// Numbers the clock of a turn, if there is one.
 fn number_clock(host: &mut Host, clock: Option<i64>) -> Result<(), TurnFault>
     ensures mark { host.new.mark ≡ host.old.mark }
     ensures step { IsBegun host.old.part clock (is_err result) host.new.part }
@@ -48,7 +48,7 @@ fn number_clock(host: &mut Host, clock: Option<i64>) -> Result<(), TurnFault>
     }
 }
 
-/// The viewer that offers or asks by this message.
+/// Returns the viewer that offers or asks with this message.
 fn sender_in(body: Body) -> Option<u8>
     ensures { result ≡ sender_in body }
 {
@@ -59,7 +59,7 @@ fn sender_in(body: Body) -> Option<u8>
     }
 }
 
-/// The viewer that offered or asked.
+/// Returns the viewer that offers or asks with this datagram, if it was decoded.
 fn sender_of(read: &Result<Message, WireFault>) -> Option<u8>
     ensures { result ≡ sender_of read.now }
 {
@@ -69,7 +69,7 @@ fn sender_of(read: &Result<Message, WireFault>) -> Option<u8>
     }
 }
 
-/// Sends the input of that number, if there is one.
+/// Sends the input with this number, if there is one.
 fn send_input<P: Port>(host: &Host, number: u32, to: u16, port: &mut P) -> Result<(), PortFault>
     ensures sent { AreSent (is_ok result) to (P.told port.old) (P.told port.new)
         (datagrams_of host.now.mark (listed (part_packet host.now.part number))) }
@@ -90,7 +90,7 @@ fn send_floor<P: Port>(host: &Host, to: u16, port: &mut P) -> Result<(), PortFau
     port.send(to, host.floor_packet().as_slice())
 }
 
-/// Sends the inputs that were asked for, or the floor where they are below it.
+/// Sends the inputs that were asked for, or the floor if they are below it.
 fn send_inputs<P: Port>(
     host: &Host,
     reply: HostReply,
@@ -115,7 +115,7 @@ fn send_inputs<P: Port>(
     Ok(())
 }
 
-/// Sends an ack to who offered or asked.
+/// Sends an ack to the viewer that offered or asked.
 fn send_ack<P: Port>(
     host: &Host,
     sender: Option<u8>,
@@ -135,7 +135,7 @@ fn send_ack<P: Port>(
     port.send(to, host.ack(who).as_slice())
 }
 
-/// Sends what belongs to a datagram that was taken.
+/// Sends the answers to a datagram that was taken.
 fn send_for<P: Port>(
     host: &Host,
     reply: HostReply,
@@ -163,7 +163,7 @@ fn after_refusal(fault: HostFault) -> Result<(), TurnFault>
     }
 }
 
-/// The host takes what a datagram was decoded to, or refuses it.
+/// Lets the host take a decoded datagram, or refuse it.
 fn take(host: &mut Host, read: &Result<Message, WireFault>) -> Result<HostReply, HostFault>
     ensures mark { host.new.mark ≡ host.old.mark }
     ensures asked { IfOk result (AreNumbered host.new.part) }
@@ -175,7 +175,7 @@ fn take(host: &mut Host, read: &Result<Message, WireFault>) -> Result<HostReply,
     }
 }
 
-/// Takes what a datagram was decoded to, and sends to its peer what belongs to it.
+/// Takes a decoded datagram, and sends the answers to its peer.
 fn answer<P: Port>(
     host: &mut Host,
     from: u16,
@@ -209,7 +209,7 @@ fn is_same(mark: &[u8; 32], other: &[u8; 32]) -> bool
     mark == other
 }
 
-/// The ask of the scene with this mark that came.
+/// Returns the ask that a datagram is, if it has the mark of this scene.
 fn asked_of(read: &Result<Message, WireFault>, mark: &[u8; 32]) -> Option<Ask>
     ensures { result ≡ asked_of mark.now read.now }
 {
@@ -236,14 +236,14 @@ fn hear_from(heard: &mut Heard, ask: Option<Ask>, viewers: u8)
     }
 }
 
-/// Hears of a viewer, if one asks.
+/// Notes the ask of a viewer, if the datagram is one.
 fn hear(heard: &mut Heard, read: &Result<Message, WireFault>, mark: &[u8; 32], viewers: u8)
     ensures { heard.new ≡ hear_from viewers heard.old (asked_of mark.now read.now) }
 {
     hear_from(heard, asked_of(read, mark), viewers);
 }
 
-/// A turn of the host, as by `host_turn`, in which it hears of its viewers by their asks.
+/// Runs a turn of the host like `host_turn`, and notes in `heard` what its viewers ask for.
 pub(crate) fn hearing_turn<P: Port>(
     host: &mut Host,
     clock: Option<i64>,
@@ -273,13 +273,14 @@ pub(crate) fn hearing_turn<P: Port>(
     Ok(())
 }
 
-/// A turn of the host: it numbers the next clock of its job, at a time in microseconds, if there is
-/// one; then it takes at most 64 datagrams, and sends to each one's peer what belongs to it: for an
-/// ask the inputs that were asked for, or the floor where they are below it, and an ack, for an
-/// offer an ack. A clock or a datagram that is refused for another cause than memory is dropped.
+/// Runs a turn of the host. First it numbers the clock, at a time in microseconds, if there is one.
+/// Then it takes at most 64 datagrams, and answers each one's peer. An ask is answered with the
+/// inputs that were asked for, or with the floor if they are below it, and with an ack. An offer is
+/// answered with an ack. A clock or a datagram that is refused for a cause other than memory is
+/// dropped.
 ///
-/// `Port` where a send or a receive failed, `Memory` where memory was refused to a clock or to an
-/// offer: either ends the turn at once.
+/// `Port`, if a send or a receive failed, and `Memory`, if memory was refused to a clock or to an
+/// offer, end the turn at once.
 pub fn host_turn<P: Port>(
     host: &mut Host,
     clock: Option<i64>,

@@ -1,4 +1,4 @@
-//! How much a turn does.
+//! The size of a turn.
 
-/// How many datagrams a turn takes at most.
+/// The largest number of datagrams that a turn takes.
 pub(crate) const MOST: u32 = 64;

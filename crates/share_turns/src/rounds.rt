@@ -1,4 +1,4 @@
-//! A host and its viewers, each with a port of its own: rounds until all steps are issued and every
+//! A host and its viewers, each with its own port. Rounds run until all steps are issued and every
 //! viewer has applied them.
 
 ghost use Rattle.std.specs.Prelude.{◌≡◌, ◌⊎◌, ◌≤◌, ◌<◌, ◌+◌, ◌++◌, ◌^◌, ◌==◌, ◌&&◌, ◌||◌, IfOk};
@@ -40,7 +40,7 @@ fn clock_at(time: i64, cause: Cause) -> Option<i64>
     }
 }
 
-/// The time of a clock, which the host numbers itself.
+/// Returns the time of a clock step, which the host numbers itself.
 fn clock_of(step: &Option<Stamped>) -> Option<i64>
     ensures { result ≡ clock_of step.now }
 {
@@ -63,7 +63,7 @@ fn pointed_by(who: usize, cause: Cause) -> Option<Point>
     }
 }
 
-/// The point of a step, where it is offered by this viewer.
+/// Returns the point of a step, if this viewer offers it.
 fn offer_of(step: &Option<Stamped>, who: usize) -> Option<Point>
     ensures { result ≡ offer_of step.now who }
 {
@@ -73,7 +73,7 @@ fn offer_of(step: &Option<Stamped>, who: usize) -> Option<Point>
     }
 }
 
-/// A turn of the viewer with this number.
+/// Runs a turn of the viewer with this number.
 fn seat_turn<B: Behaviour, P: Port>(
     viewers: &mut [Viewer<B>],
     who: usize,
@@ -100,7 +100,7 @@ fn either(one: bool, other: bool) -> bool
     one || other
 }
 
-/// A turn of each viewer, and whether one of them offered its point.
+/// Runs a turn of each viewer. Returns whether one of them offered its point.
 fn seat_turns<B: Behaviour, P: Port>(
     viewers: &mut [Viewer<B>],
     step: &Option<Stamped>,
@@ -124,7 +124,7 @@ fn seat_turns<B: Behaviour, P: Port>(
     Ok(offered)
 }
 
-/// Whether every viewer has applied so many inputs.
+/// Reports whether every viewer has applied `count` inputs.
 fn are_at<B: Behaviour>(count: u32, viewers: &[Viewer<B>]) -> bool
     ensures { result ≡ are_at count viewers.now }
 {
@@ -134,21 +134,21 @@ fn are_at<B: Behaviour>(count: u32, viewers: &[Viewer<B>]) -> bool
     }
 }
 
-/// Whether the host has numbered all that was issued, and every viewer has applied it.
+/// Reports whether the host has numbered all issued steps, and every viewer has applied them.
 fn is_caught_up<B: Behaviour>(host: &Host, viewers: &[Viewer<B>], issued: u32) -> bool
     ensures { result ≡ (host.now.part.count == issued) && are_at issued viewers.now }
 {
     host.len() == issued && are_at(issued, viewers)
 }
 
-/// Whether all steps are issued, and every viewer has caught up.
+/// Reports whether all `count` steps are issued and every viewer has caught up.
 fn is_over(caught_up: bool, issued: u32, count: usize) -> bool
     ensures { result ≡ (caught_up && (issued == count)) }
 {
     caught_up && issued as usize == count
 }
 
-/// The step that is issued now.
+/// Returns the step to issue now: the next one, if all have caught up.
 fn due(steps: &[Stamped], issued: u32, caught_up: bool) -> Option<Stamped>
     ensures { result ≡ if caught_up then slice_get steps.now issued else None }
 {
@@ -159,14 +159,14 @@ fn due(steps: &[Stamped], issued: u32, caught_up: bool) -> Option<Stamped>
     }
 }
 
-/// Whether a step was issued.
+/// Reports whether a step was issued.
 fn is_issued(step: &Option<Stamped>, offered: bool) -> bool
     ensures { result ≡ is_issued step.now offered }
 {
     offered || clock_of(step).is_some()
 }
 
-/// A turn of the host and one of each viewer, and whether the step was issued.
+/// Runs a turn of the host and a turn of each viewer. Returns whether the step was issued.
 fn round<B: Behaviour, P: Port>(
     host: &mut Host,
     viewers: &mut [Viewer<B>],
@@ -193,12 +193,13 @@ fn round<B: Behaviour, P: Port>(
     Ok(is_issued(step, offered))
 }
 
-/// Rounds, `rounds` at most, until all steps are issued and every viewer has applied them. A round
-/// is a turn of the host and then one of each viewer, in the order of their numbers; in it the next
-/// step is issued, if what came of those before is applied everywhere: a clock by the host, a point
-/// by its viewer.
+/// Runs at most `rounds` rounds, until all steps are issued and every viewer has applied them. A
+/// round is a turn of the host and then a turn of each viewer, in the order of their numbers. If
+/// all have caught up with the issued steps, the round issues the next one: the host issues a
+/// clock, and its viewer a point.
 ///
-/// `TurnsUsedUp` where it isn't so after the last round. A turn that ends early ends the series.
+/// Fails with `TurnsUsedUp` if steps are missing after the last round. A turn that ends early ends
+/// the series.
 pub fn agree_until<B: Behaviour, P: Port>(
     host: &mut Host,
     viewers: &mut [Viewer<B>],
@@ -262,7 +263,7 @@ fn push_all<B: Behaviour>(
     push_texts(&viewers[0], out)
 }
 
-/// Appends the line, and the texts of viewer 0; on a refusal the buffer is as it was.
+/// Appends the line, and the texts of viewer 0. On a failure the buffer is unchanged.
 fn push_agreed<B: Behaviour>(
     count: usize,
     viewers: &[Viewer<B>],
@@ -281,8 +282,8 @@ fn push_agreed<B: Behaviour>(
     pushed
 }
 
-/// Rounds as by `agree_until`, and then `agreed`, how many inputs there are, and the trace and the
-/// scene of viewer 0, which are appended. On a fault the buffer is as it was.
+/// Runs rounds like `agree_until`. Then appends `agreed` with the number of inputs, and the trace
+/// and the scene of viewer 0. On a failure the buffer is unchanged.
 pub fn agree<B: Behaviour, P: Port>(
     host: &mut Host,
     viewers: &mut [Viewer<B>],

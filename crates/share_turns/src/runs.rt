@@ -16,22 +16,22 @@ use share_port::Port;
 /// What a host keeps of its inputs, and when it is done.
 #[derive(Clone, Copy, Debug, PartialEq, Eq)]
 pub struct HostPlan {
-    /// How many it keeps of the inputs that every viewer of which it heard has asked past; all of
-    /// them where there is no number.
+    /// How many inputs it keeps of those that every viewer it heard of has asked past. Without a
+    /// number it keeps all of them.
     pub keep: Option<u32>,
-    /// How many inputs are to be numbered, and asked past by every viewer of which it heard, one at
-    /// least; where there is no number it takes all its turns.
+    /// How many inputs must be numbered, and asked past by every viewer it heard of, at least one.
+    /// Without a number the host takes all its turns.
     pub until: Option<u32>,
 }
 
-/// The item at that place, from 0, where there is one.
+/// Returns the item at a place, counted from 0, if there is one.
 pub(crate) fn item_at<T: Copy>(items: &[T], place: u32) -> Option<T>
     ensures { result ≡ slice_get items.now place }
 {
     items.get(place as usize).copied()
 }
 
-/// The floor that follows from what was heard, if one does.
+/// Returns the floor that follows from what was heard, if one does.
 fn next_floor(host: &Host, keep: Option<u32>, lowest: Option<u32>) -> Option<u32>
     ensures { result ≡ next_floor keep lowest host.now.part }
 {
@@ -44,8 +44,8 @@ fn next_floor(host: &Host, keep: Option<u32>, lowest: Option<u32>) -> Option<u32
     Some(floor_for(keep, lowest, host.floor(), host.len()))
 }
 
-/// Drops the inputs that every viewer of which the host heard has asked past, but for the last
-/// `keep` of them.
+/// Drops the inputs that every viewer the host heard of has asked past, except the last `keep` of
+/// them.
 fn drop_passed(host: &mut Host, heard: &Heard, keep: Option<u32>)
     ensures mark { host.new.mark ≡ host.old.mark }
     ensures part { host.new.part ≡ kept_by keep heard.now host.old.part }
@@ -56,7 +56,7 @@ fn drop_passed(host: &mut Host, heard: &Heard, keep: Option<u32>)
     let _floor = host.drop_below(floor);
 }
 
-/// A turn, after which the inputs are dropped that the host doesn't keep.
+/// Runs a turn, and then drops the inputs that the host doesn't keep.
 fn kept_turn<P: Port>(
     host: &mut Host,
     clock: Option<i64>,
@@ -79,15 +79,15 @@ fn kept_turn<P: Port>(
     Ok(())
 }
 
-/// Whether the host has numbered what it was to number, and all viewers of which it heard have
-/// asked past that.
+/// Reports whether the host has numbered the inputs that `plan` requires, and all viewers it heard
+/// of have asked past them.
 fn is_over(host: &Host, heard: &Heard, plan: &HostPlan) -> bool
     ensures { result ≡ is_over plan.now (hosting host.now.part heard.now) }
 {
     is_served(plan.until, heard.lowest(), host.len())
 }
 
-/// How a host ends that took all its turns and isn't done.
+/// Returns the result of a host that has taken all its turns and isn't done.
 fn used_up(plan: &HostPlan) -> Result<(), SeriesFault>
     ensures ok { OnOk result (is_none plan.now.until ≡ true) }
     ensures err { IfErr result (λ fault. (fault ≡ TurnsUsedUp)
@@ -100,13 +100,13 @@ fn used_up(plan: &HostPlan) -> Result<(), SeriesFault>
     }
 }
 
-/// Turns of the host, `turns` at most, until it is done as `plan` says, and all of them where that
-/// names no number of inputs. Each numbers the next of the clocks, at times in microseconds, until
-/// there are no more, and then drops what `plan` doesn't keep.
+/// Runs at most `turns` turns of the host, until it is done as `plan` says; all of them, if `plan`
+/// names no number of inputs. Each turn numbers the next of the clocks, at times in microseconds,
+/// until there are no more, and then drops the inputs that `plan` doesn't keep.
 ///
-/// `TurnsUsedUp` where it isn't done after the last turn. A turn that ends early ends the run:
-/// `Port` where a send or a receive failed, `Memory` where memory was refused to a clock or to an
-/// offer.
+/// Fails with `TurnsUsedUp` if the host isn't done after the last turn. A turn that ends early ends
+/// the run: with `Port` if a send or a receive failed, or `Memory` if memory was refused to a clock
+/// or to an offer.
 pub fn host_run<P: Port>(
     host: &mut Host,
     clocks: &[i64],

@@ -1,5 +1,5 @@
-//! A viewer alone: turns until enough inputs are applied, and then its texts; before them perhaps
-//! turns in which it joins, and behind them turns in which it gives.
+//! A viewer alone: turns until enough inputs are applied, and then its texts. Before these turns it
+//! may join, and after them it may give its snapshot.
 
 ghost use Rattle.std.specs.Prelude.{◌≡◌, ◌≤◌, ◌+◌, ◌<◌, ◌^◌, OnOk, OnErr, IfErr, IfOk};
 ghost use Rattle.x3d_lists.specs.Extends.{Extends};
@@ -24,18 +24,19 @@ use x3d_values::Point;
 /// What a viewer is to do.
 #[derive(Clone, Copy, Debug, PartialEq, Eq)]
 pub struct ViewPlan {
-    /// How many inputs are to be applied.
+    /// The number of inputs to apply.
     pub until: u32,
-    /// How many turns it takes at most.
+    /// The largest number of turns.
     pub turns: u32,
-    /// As which boot it begins first in the snapshot that comes to it in pieces, if it joins.
+    /// If the viewer joins: the boot in which it first starts from the snapshot that arrives in
+    /// pieces.
     pub join: Option<u32>,
-    /// To which port the pieces of its own snapshot go then, in all turns that are left, if it
-    /// gives.
+    /// If the viewer gives: the port to which the pieces of its own snapshot go, in all remaining
+    /// turns.
     pub give: Option<u16>,
 }
 
-/// How many points are offered, where a turn offered one or didn't.
+/// Returns the number of offered points after a turn that offered one or didn't.
 pub(crate) fn one_more_if(offered: bool, count: u32) -> u32
     requires { count + 1 < 2 ^ 32 }
     ensures value { result ≡ one_more_if offered count }
@@ -44,11 +45,11 @@ pub(crate) fn one_more_if(offered: bool, count: u32) -> u32
     if offered { count + 1 } else { count }
 }
 
-/// Turns of a viewer, `turns` at most, until at least `until` inputs are applied: how many they
-/// were. Each offers the first of the points that wasn't offered yet.
+/// Runs at most `turns` turns of a viewer, until at least `until` inputs are applied. Returns the
+/// number of turns. Each turn offers the first point that wasn't offered yet.
 ///
-/// `TurnsUsedUp` where fewer are applied after the last turn. A turn that ends early ends the
-/// series.
+/// Fails with `TurnsUsedUp` if fewer inputs are applied after the last turn. A turn that ends early
+/// ends the series.
 pub fn view_until<B: Behaviour, P: Port>(
     viewer: &mut Viewer<B>,
     points: &[Point],
@@ -92,7 +93,7 @@ fn push_both<B: Behaviour>(viewer: &Viewer<B>, out: &mut Vec<u8>) -> Result<(), 
     Ok(())
 }
 
-/// Appends the trace and then the scene of a viewer; on a refusal the buffer is as it was.
+/// Appends the trace and then the scene of a viewer. On a failure the buffer is unchanged.
 pub(crate) fn push_texts<B: Behaviour>(
     viewer: &Viewer<B>,
     out: &mut Vec<u8>,
@@ -109,7 +110,7 @@ pub(crate) fn push_texts<B: Behaviour>(
     pushed
 }
 
-/// Joins, as this boot, if there is one: how many turns it took.
+/// Joins with this boot, if there is one. Returns the number of turns that this took.
 fn begin<B: Behaviour, P: Port>(
     viewer: &mut Viewer<B>,
     join: Option<u32>,
@@ -131,7 +132,7 @@ fn begin<B: Behaviour, P: Port>(
     }
 }
 
-/// Gives to this port, if there is one.
+/// Gives the viewer's snapshot to this port, if there is one.
 fn end<B: Behaviour, P: Port>(
     alloc: Global,
     viewer: &Viewer<B>,
@@ -151,13 +152,13 @@ fn end<B: Behaviour, P: Port>(
     }
 }
 
-/// What a viewer does as `plan` says: it joins by the pieces that come to it; then it takes turns
-/// as by `view_until`; then it gives its snapshot, in as many turns as are left of `turns`. Its
-/// trace and its scene are appended. On a fault the buffer is as it was.
+/// Runs a viewer as `plan` says. It joins with the pieces that arrive, takes turns like
+/// `view_until`, and gives its snapshot in the remaining turns. Then its trace and its scene are
+/// appended. On a failure the buffer is unchanged.
 ///
-/// `TurnsUsedUp` where the turns came to less, `Join` where what it gathered is no snapshot of its
-/// scene that it may begin in: `BootNotNew` where its boot isn't above the snapshot's. A turn that
-/// ends early ends the run.
+/// Fails with `TurnsUsedUp` if the turns don't suffice, or `Join` if what the viewer gathered isn't
+/// a snapshot of its scene that it may start from: among the causes is `BootNotNew`, if its boot
+/// isn't above the snapshot's. A turn that ends early ends the run.
 pub fn view_run<B: Behaviour, P: Port>(
     alloc: Global,
     viewer: &mut Viewer<B>,

@@ -19,7 +19,7 @@ use share_law::{TakeFault, Taken};
 use share_port::{Port, PortFault, RECEIVED};
 use x3d_values::Point;
 
-/// Offers the point of a turn, and says whether it was offered.
+/// Offers the point of a turn, if there is one. Returns whether it was offered.
 fn offer<B: Behaviour>(viewer: &mut Viewer<B>, point: Option<Point>) -> bool
     ensures others { viewer.new ≡ with_state viewer.old viewer.new.state }
     ensures offered { IsOffered viewer.old.state point result viewer.new.state }
@@ -30,8 +30,8 @@ fn offer<B: Behaviour>(viewer: &mut Viewer<B>, point: Option<Point>) -> bool
     }
 }
 
-/// Goes on after a datagram, unless memory was refused to its input. One that was refused for
-/// another cause is dropped.
+/// Goes on after a datagram, unless memory was refused to its input. A datagram that was refused
+/// for another cause is dropped.
 fn after_take(answer: Result<Taken, TakeFault>) -> Result<(), TurnFault>
     ensures refused { is_err result ≡ says_memory (ViewerTook answer) }
     ensures fault { OnErr result (result ≡ Err Memory) }
@@ -86,7 +86,8 @@ fn send_offer<B: Behaviour, P: Port>(
     }
 }
 
-/// Sends the offer that has waited longest, if one waits, and asks for what the viewer lacks.
+/// Sends the offer that has waited longest, if one waits, and asks for the inputs that the viewer
+/// lacks.
 fn send_requests<B: Behaviour, P: Port>(
     viewer: &Viewer<B>,
     host: u16,
@@ -100,14 +101,13 @@ fn send_requests<B: Behaviour, P: Port>(
     port.send(host, viewer.ask().as_slice())
 }
 
-/// A turn of a viewer: it offers a point, if there is one; then it takes at most 64 datagrams; then
-/// it sends to its host the offer that has waited longest and an ask for what it lacks. Says
-/// whether the point was offered: where too many offers wait, or there are no more numbers for
-/// them, it may be handed in again. A datagram that is refused for another cause than memory is
-/// dropped.
+/// Runs a turn of a viewer. First the viewer offers a point, if there is one. Then it takes at most
+/// 64 datagrams. Then it sends to its host the offer that has waited longest, and an ask for the
+/// inputs that it lacks. Returns whether the point was offered. If too many offers wait, it isn't,
+/// and may be passed in again. A datagram that is refused for a cause other than memory is dropped.
 ///
-/// `Spoiled` where memory was refused to the viewer before: then nothing is done. `Port` where a
-/// send or a receive failed, `Memory` where memory was refused to an input: either ends the turn at
+/// Fails with `Spoiled` if memory was refused to the viewer before; then nothing is done. `Port`,
+/// if a send or a receive failed, and `Memory`, if memory was refused to an input, end the turn at
 /// once.
 pub fn viewer_turn<B: Behaviour, P: Port>(
     viewer: &mut Viewer<B>,
