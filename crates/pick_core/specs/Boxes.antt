@@ -18,14 +18,14 @@ pub record Placed : Type 0 where
   pub path : List ℕ
   pub bounds : Bounds
 
--- what is inside a node that stands at a position, seen from outside
+-- a box inside the node at a position, seen from outside the node
 abbrev pub under : SceneView → List Fields → ℕ → ℕ → Placed → Placed
 under scene state position node p = record {
   path = position ∷ p.path;
   bounds = moved_at scene state node p.bounds;
 }
 
--- the child that a Switch shows; none where the choice is negative or too large
+-- the child that a Switch shows; None if the choice is negative or too large
 unfoldable pub shown_child : List ℕ → ℤ → Option Place
 shown_child children (pos which) =
     option_map (λ node. record { position = which; node = node }) (slice_get children which)
@@ -44,7 +44,7 @@ layer seen inside which (Shape (Some size)) children =
     record { path = []; bounds = box_of size } ∷ []
 layer seen inside which Other children = []
 
--- the boxes inside a node, no more than so many nodes deep, in the node's own system
+-- the boxes inside a node, at most this many nodes deep, in the node's own coordinates
 unfoldable pub inside : SceneView → List Fields → ℕ → ℕ → List Placed
 inside scene state zero node = []
 inside scene state (suc depth) node =

@@ -1,5 +1,5 @@
--- Where a hit lies for a sensor (ISO/IEC 19775-1, pointing device sensor component:
--- hitPoint_changed; the rounding and the limit are our choice).
+-- The point of a hit in the coordinates of a sensor (ISO/IEC 19775-1, pointing device sensor
+-- component: hitPoint_changed; the rounding and the limit are our choice).
 use Rattle.std.specs.Prelude.{◌≡◌, ℕ, ◌*◌, ◌<◌, ◌==◌, ℤ, pos, neg_ℤ, ◌+ℤ◌, ◌-ℤ◌, ◌*ℤ◌, int_lt, List, [], ◌∷◌, Option, Some, None, slice_get, if◌then◌else◌}
 use Rattle.std.specs.Int.{int_div_euclid}
 use Rattle.std.specs.List.{list_any}
@@ -22,7 +22,7 @@ use Rattle.pick_core.specs.Sensors.{list_of, siblings_in}
 abbrev pub on_axis : ℤ → ℤ → ℕ → ℕ → ℤ
 on_axis origin dir n m = origin +ℤ int_div_euclid (pos n *ℤ dir) (pos m)
 
--- where a ray is at n / m of its way
+-- the point of a ray at n / m of its way
 abbrev pub on_ray : RayView → ℕ → ℕ → Vec3
 on_ray ray n m = record {
   x = on_axis ray.origin.x ray.dir.x n m;
@@ -30,7 +30,7 @@ on_ray ray n m = record {
   z = on_axis ray.origin.z ray.dir.z n m;
 }
 
--- the same, no further out than the limit: where a box of a scene is hit, that changes nothing
+-- like `on_axis`, clamped to the limit; the limit doesn't change where a box of a scene is hit
 -- (specs/Within)
 unfoldable pub reached : ℤ → ℤ → ℕ → ℕ → ℤ
 reached origin dir n m = clamped (on_axis origin dir n m)
@@ -44,7 +44,7 @@ point_of ray n m = record {
 
 -- ---- into the coordinates inside a Transform
 
--- rounded down; 0 where the scale is 0
+-- z / scale, rounded down; 0 if the scale is 0
 abbrev pub quotient : ℤ → ℤ → ℤ
 quotient z scale =
     if int_lt scale (pos 0)
@@ -70,7 +70,7 @@ entered_by Switch own p = p
 entered_by (Shape size) own p = p
 entered_by Other own p = p
 
--- a point round a node, in the coordinates inside it
+-- a point around a node, in the coordinates inside it
 unfoldable pub entered : SceneView → List Fields → ℕ → Vec3 → Vec3
 entered scene state node p = entered_by (kind_of scene node) (slice_get state node) p
 
@@ -94,14 +94,13 @@ abbrev pub or_world : Option Vec3 → Vec3 → Vec3
 or_world None world = world
 or_world (Some p) world = p
 
--- the point of a hit in the coordinates of a sensor; no sensor stands in two lists that a hit
--- concerns
+-- the point of a hit in the coordinates of a sensor; no sensor is in two lists that a hit concerns
 unfoldable pub local_of : SceneView → List Fields → Hit → RayView → ℕ → Vec3
 local_of scene state hit ray sensor =
     or_world (local_along scene state sensor None hit.path (point_of ray hit.n hit.m))
     (point_of ray hit.n hit.m)
 
--- the path and the value of the fraction decide where a hit lies
+-- the point depends only on the path and the value of the fraction
 abbrev pub OneLocal : Type 0
 OneLocal = (scene : SceneView) (state : List Fields) (ray : RayView) (sensor : ℕ) (h k : Hit)
     → 0 < h.m → 0 < k.m → h.path ≡ k.path → h.n * k.m ≡ k.n * h.m

@@ -14,7 +14,7 @@ use Rattle.pick_core.specs.declared.look.Role.TheVariants as kind
 use Rattle.pick_core.specs.declared.look.Motion.{Motion}
 use Rattle.pick_core.specs.declared.numbers.TheConstants.{GEOMETRY, SIZE, CENTER, SCALE, TRANSLATION, WHICH_CHOICE}
 
--- ---- what a scene says of a node for good
+-- -- the part of a node that the scene fixes
 
 abbrev pub vector_in : Option Value → Option Vec3
 vector_in (Some (SFVec3f v)) = Some v
@@ -48,7 +48,7 @@ kind_of scene node = kind_as scene node (type_at scene node)
 unfoldable pub listed : SceneView → ℕ → List ℕ
 listed scene node = children_of scene node
 
--- ---- what a state says of a node
+-- -- the part of a node that the state says
 
 abbrev pub value_in : Option Fields → ℕ → Option Value
 value_in own number = option_and_then (λ (fields : Fields). field_value fields number) own
@@ -57,7 +57,7 @@ abbrev pub vector_or : Vec3 → Option Value → Vec3
 vector_or default (Some (SFVec3f v)) = v
 vector_or default _ = default
 
--- a part that the state lacks moves nothing
+-- a field that the state lacks moves nothing
 unfoldable pub motion_of : Option Fields → Motion
 motion_of own =
     record {
@@ -72,6 +72,6 @@ abbrev pub choice_in : Option Value → ℤ
 choice_in (Some (SFInt32 which)) = which
 choice_in _ = negsuc 0
 
--- which child a Switch shows; none below 0
+-- the position of the child that a Switch shows; a negative number shows no child
 unfoldable pub choice_of : Option Fields → ℤ
 choice_of own = choice_in (value_in own WHICH_CHOICE)

@@ -1,4 +1,4 @@
--- The numbers of the fields that picking reads are those of their names.
+-- The numbers of the fields that picking reads are those of the fields' names.
 use Rattle.std.specs.Prelude.{◌≡◌, ℕ, List, Some, codes}
 use Rattle.std.specs.Option.{option_map}
 use Rattle.x3d_values.specs.declared.node_type.NodeType.{NodeType}
@@ -7,7 +7,7 @@ use Rattle.x3d_values.specs.declared.table.FieldRow.{FieldRow}
 use Rattle.x3d_values.specs.Tables.{rows, row_named}
 use Rattle.pick_core.specs.declared.numbers.TheConstants.{CENTER, SCALE, TRANSLATION, WHICH_CHOICE, GEOMETRY, SIZE, ENABLED, PLANE_ENABLED}
 
--- the field of that name has that number
+-- the field with that name has that number
 abbrev pub IsNumbered : NodeType → List ℕ → ℕ → Type 0
 IsNumbered node_type name number =
     option_map (λ (row : FieldRow). row.number) (row_named 0 name (rows node_type)) ≡ Some number

@@ -14,7 +14,7 @@ abbrev pub is_nearer : Fraction → Option Hit → Bool
 is_nearer at None = true
 is_nearer at (Some hit) = nat_lt (at.n * hit.m) (hit.n * at.m)
 
--- how far the best hit is
+-- the fraction of the best hit
 abbrev pub fraction_of : Option Hit → Option Fraction
 fraction_of None = None
 fraction_of (Some hit) = Some (record { n = hit.n; m = hit.m })
@@ -33,7 +33,7 @@ nearer ray best b = closer b best (entry_of b.bounds ray)
 abbrev pub picked : RayView → List Placed → Option Hit
 picked ray bs = fold (nearer ray) None bs
 
--- it is the nearest of a scene's boxes
+-- the hit that is picked is the nearest of a scene's boxes
 abbrev pub PicksNearest : Type 0
 PicksNearest = (scene : SceneView) (state : List Fields) (ray : RayView)
     → IsPicked ray (boxes scene state) (picked ray (boxes scene state))

@@ -1,4 +1,4 @@
--- The places of boxes, shown or not, and the rows that a cache keeps of them.
+-- The places of boxes, shown or not, and the rows that a cache stores for them.
 use Rattle.std.specs.Prelude.{◌≡◌, ℕ, zero, suc, pos, negsuc, ℤ, List, [], ◌∷◌, ◌++◌, map, slice_get, Option, Some, None, Bool, true, false, ◌==◌, ◌&&◌, if◌then◌else◌}
 use Rattle.std.specs.List.{list_any}
 use Rattle.x3d_values.specs.Ranges.{max_depth}
@@ -37,7 +37,7 @@ sites_in scene zero node = []
 sites_in scene (suc depth) node =
     site_layer (sites_in scene depth) (kind_of scene node) (listed scene node)
 
--- all places of boxes
+-- all places of boxes in the scene
 unfoldable pub sites : SceneView → List Site
 sites scene = spread site_under (sites_in scene max_depth) 0 scene.roots
 
@@ -58,20 +58,20 @@ unfoldable pub allows : SceneView → List Fields → ℕ → ℕ → Bool
 allows scene state node position =
     allows_as (choice_of (slice_get state node)) (kind_of scene node) position
 
--- whether all below a node up to the end of a trail is shown
+-- whether all nodes of a trail that begins below a node are shown
 unfoldable pub is_shown : SceneView → List Fields → ℕ → List Place → Bool
 is_shown scene state node [] = true
 is_shown scene state node (p ∷ ps) =
     allows scene state node p.position && is_shown scene state p.node ps
 
--- the same from the roots
+-- like `is_shown`, for a trail from the roots
 abbrev pub is_shown_from_roots : SceneView → List Fields → List Place → Bool
 is_shown_from_roots scene state [] = true
 is_shown_from_roots scene state (p ∷ ps) = is_shown scene state p.node ps
 
 -- ---- rows
 
--- what a row says of a box of a size at the end of a trail
+-- the row of a box of a size at the end of a trail
 abbrev pub row_of : SceneView → List Fields → List Place → Vec3 → BoxRow
 row_of scene state trail size =
     record {
@@ -85,7 +85,7 @@ row_of scene state trail size =
 abbrev pub row_at : SceneView → List Fields → List Place → Site → BoxRow
 row_at scene state trail s = row_of scene state (trail ++ s.trail) s.size
 
--- the rows of a state
+-- the rows of a scene in a state
 unfoldable pub rows_of : SceneView → List Fields → List BoxRow
 rows_of scene state = map (λ (s : Site). row_of scene state s.trail s.size) (sites scene)
 
@@ -97,7 +97,7 @@ unfoldable pub shown_rows : List BoxRow → List Placed
 shown_rows [] = []
 shown_rows (r ∷ rs) = if r.shown then placed_row r ∷ shown_rows rs else shown_rows rs
 
--- a row in a state
+-- a row updated to a state
 abbrev pub fresh : SceneView → List Fields → BoxRow → BoxRow
 fresh scene state r = row_of scene state r.trail r.size
 
@@ -105,16 +105,16 @@ fresh scene state r = row_of scene state r.trail r.size
 abbrev pub touches : ℕ → List Place → Bool
 touches node trail = list_any (λ (p : Place). p.node == node) trail
 
--- a row in a state that differs at a node
+-- a row updated to a state that differs at a node
 abbrev pub renewed : SceneView → List Fields → ℕ → BoxRow → BoxRow
 renewed scene state node r = if touches node r.trail then fresh scene state r else r
 
--- two states are the same but at a node
+-- two states are equal except at a node
 abbrev pub IsSameBut : ℕ → List Fields → List Fields → Type 0
 IsSameBut node before after = (k : ℕ) → (k ≡ node → ⊥) → slice_get before k ≡ slice_get after k
 
--- a ray sees the same of a node with these fields as with those: the motion of a Transform, the
--- choice of a Switch
+-- a ray sees the same with fields `a` of a node as with fields `b`: the motion of a Transform is
+-- equal, or the choice of a Switch
 abbrev pub IsAlike : Role → Option Fields → Option Fields → Type 0
 IsAlike Transform a b = motion_of a ≡ motion_of b
 IsAlike Switch a b = choice_of a ≡ choice_of b
@@ -126,7 +126,7 @@ abbrev pub AreAlike : SceneView → List Fields → List Fields → Type 0
 AreAlike scene before after = (k : ℕ)
     → IsAlike (kind_of scene k) (slice_get before k) (slice_get after k)
 
--- what a ray doesn't see changes no row
+-- a change that a ray can't see changes no row
 abbrev pub AlikeRows : Type 0
 AlikeRows = (scene : SceneView) (before after : List Fields) → AreAlike scene before after
     → rows_of scene before ≡ rows_of scene after

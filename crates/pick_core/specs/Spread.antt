@@ -1,4 +1,4 @@
--- What stands inside nodes side by side.
+-- What is inside the nodes of a list.
 use Rattle.std.specs.Prelude.{ℕ, ◌+◌, List, [], ◌∷◌, ◌++◌, map}
 
 -- all that is inside the nodes of a list, from a position on, each seen from outside its node

@@ -1,4 +1,5 @@
--- Where a box of a scene is hit lies within the limit of size, so that the limit changes no hit.
+-- The point where a box of a scene is hit is within the coordinate limit, so the limit changes no
+-- hit.
 use Rattle.std.specs.Prelude.{◌≡◌, ℕ, true, List, Some}
 use Rattle.x3d_values.specs.declared.fields.Fields.{Fields}
 use Rattle.x3d_values.specs.declared.vector.Vec3.{Vec3}
@@ -12,12 +13,12 @@ use Rattle.pick_core.specs.Nearest.{IsPicked}
 use Rattle.pick_core.specs.declared.hit.Hit.{Hit}
 use Rattle.pick_core.specs.declared.look.Role.TheVariants.{Shape}
 
--- the size of each Box is one that a document can give
+-- each Box has a size that a document can give
 abbrev pub AreSized : SceneView → Type 0
 AreSized scene = (node : ℕ) (size : Vec3) → kind_of scene node ≡ Shape (Some size)
     → coordinates_fit size ≡ true
 
--- the point of a hit is where its ray is
+-- the point of a hit is the point of its ray
 abbrev pub HitsAreOnRays : Type 0
 HitsAreOnRays = (scene : SceneView) (state : List Fields) (ray : RayView) (hit : Hit)
     → AreSized scene → IsPicked ray (boxes scene state) (Some hit)

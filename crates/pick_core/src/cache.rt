@@ -1,4 +1,4 @@
-//! The boxes of a scene in a state, kept so that a ray needs no walk.
+//! The boxes of a scene in a state, stored so that a ray needs no walk of the scene.
 
 ghost use Rattle.std.specs.Prelude.{◌≡◌, ◌<◌, [], ◌∷◌, None, length, take};
 ghost use Rattle.std.specs.List.{fold};
@@ -20,8 +20,8 @@ use std::alloc::{AllocError, Global};
 use std::marker::Model;
 use x3d_values::{Fields, Ray};
 
-/// The boxes of a scene in a state, for each node which of them stand below it, and the boxes round
-/// runs of them.
+/// The boxes of a scene in a state, for each node the boxes below it, and the boxes around runs of
+/// boxes.
 #[derive(Drop)]
 pub struct BoxCache {
     rows: Vec<BoxRow>,
@@ -53,7 +53,8 @@ impl BoxCache {
     ghost use Rattle.pick_core.specs.Picked.{picked};
     ghost use Rattle.pick_core.specs.Sites as spec;
 
-    /// The boxes of the scene in a state: what each of its nodes keeps, by number.
+    /// Creates the cache for a scene in a state. `state` has the fields that each node of the scene
+    /// keeps, by the node's number. Fails if memory runs out.
     pub fn new(alloc: Global, scene: &Scene, state: &[Fields]) -> Result<BoxCache, AllocError>
         ensures { IfOk result (λ cache. cache ≡ spec.rows_of scene.now state.now) }
     {
@@ -63,8 +64,8 @@ impl BoxCache {
         Ok(BoxCache { rows, ranges, tree })
     }
 
-    /// The nearest box that the ray hits, in the state for which the cache stands. It takes no
-    /// memory.
+    /// Returns the nearest box that the ray hits in the state of the cache, or `None` if the ray
+    /// hits no box. Allocates nothing.
     pub fn pick(&self, ray: Ray) -> Option<Hit>
         ensures nearest { (scene : SceneView) → (state : List FieldsOf)
             → self.now ≡ spec.rows_of scene state → IsPicked ray (boxes scene state) result }
@@ -74,8 +75,8 @@ impl BoxCache {
         pick_rows(self.rows.as_slice(), &self.tree, ray)
     }
 
-    /// Where the cache stood for a state that differs from this one at most at the node, it stands
-    /// for this one. It looks at the boxes below the node alone, and takes no memory.
+    /// Updates the cache to a state that differs from the cache's state at most at `node`. Looks
+    /// only at the boxes below `node`, and allocates nothing.
     pub fn renew(&mut self, scene: &Scene, state: &[Fields], node: u32)
         ensures { (before : List FieldsOf) → self.old ≡ spec.rows_of scene.now before
             → spec.IsSameBut node before state.now → self.new ≡ spec.rows_of scene.now state.now }
@@ -93,8 +94,7 @@ impl BoxCache {
         );
     }
 
-    /// Where the cache stood for any state of the scene, it stands for this one. It takes no
-    /// memory.
+    /// Updates the cache to any state of the same scene. Allocates nothing.
     pub fn renew_all(&mut self, scene: &Scene, state: &[Fields])
         ensures { (before : List FieldsOf) → self.old ≡ spec.rows_of scene.now before
             → self.new ≡ spec.rows_of scene.now state.now }
@@ -112,8 +112,8 @@ fn pick_row(row: &BoxRow, ray: Ray, best: &mut Option<Hit>)
     }
 }
 
-/// Goes past the rows from a place on that a tree tells to be no nearer than the best, or past one
-/// that it looks at, and answers the place of the next.
+/// Skips the rows from `at` on that, according to the tree, are no nearer than the best hit. If the
+/// tree shows none, checks the row at `at`. Returns the place of the next row.
 fn pick_next(rows: &[BoxRow], tree: &Tree, at: usize, ray: Ray, best: &mut Option<Hit>) -> usize
     requires tree { IsTreeOf tree.now (seen_in rows.now) }
     requires inside { at < length rows.now }

@@ -13,14 +13,14 @@ use scene_core::Scene;
 use std::alloc::{AllocError, Global};
 use x3d_values::{Fields, Vec3};
 
-/// Where a walk is, and the rows so far.
+/// Where a walk is, and the rows found so far.
 #[derive(Drop)]
 struct Gathering {
     trail: ArrayVec<Place, DEPTH>,
     rows: Vec<BoxRow>,
 }
 
-/// The rows of all boxes of the scene, in a state.
+/// Returns the rows of all boxes of the scene in a state.
 pub(crate) fn gathered(
     alloc: Global,
     scene: &Scene,
@@ -36,7 +36,7 @@ pub(crate) fn gathered(
     Ok(walk.rows)
 }
 
-/// A Shape with a Box of this size stands at the end of the trail.
+/// Adds the row of a Shape with a Box of this size at the end of the trail.
 fn push_row(
     alloc: Global,
     scene: &Scene,

@@ -7,7 +7,8 @@ use crate::trail::{DEPTH, Place};
 use arrayvec::ArrayVec;
 use std::marker::Model;
 
-/// The positions that lead from the roots of a scene down to a Shape, from 0, the root's first.
+/// The positions, counted from 0, that lead from the roots of a scene down to a Shape. The root's
+/// position comes first.
 #[derive(Drop)]
 pub struct Path {
     positions: ArrayVec<usize, DEPTH>,
@@ -21,8 +22,8 @@ impl Model for Path {
     ghost view = { λ p. p.positions.items };
 }
 
-/// A box that a ray hits, by its path, and the place `n / m` of the way along the ray's direction
-/// where it enters the box. `m` is above 0.
+/// A box that a ray hits, given by its path, and where the ray enters the box: at `n / m` of the
+/// way along the ray's direction. `m` is above 0.
 #[derive(Drop)]
 pub struct Hit {
     pub path: Path,
@@ -35,7 +36,7 @@ impl Path {
     ghost use Rattle.x3d_values.specs.Ranges.{max_depth};
     ghost use Rattle.pick_core.specs.Trail.{positions};
 
-    /// The positions of a trail.
+    /// Returns the positions of a trail.
     pub(crate) fn along(trail: &[Place]) -> Path
         requires { length trail.now ≤ max_depth }
         ensures { result ≡ positions trail.now }
@@ -47,6 +48,7 @@ impl Path {
         Path { positions: path }
     }
 
+    /// Returns the positions, the root's first.
     pub fn as_slice(&self) -> &[usize]
         ensures { result.now ≡ self.now }
     {

@@ -1,5 +1,5 @@
-//! What a viewer's ray hits: the nearest Box of a scene, which sensors that concerns, and where it
-//! lies for them.
+//! What a viewer's ray hits: the nearest Box of a scene, the sensors that the hit concerns, and the
+//! point of the hit in their coordinates.
 #![tactic(auto)]
 
 mod cache;

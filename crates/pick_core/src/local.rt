@@ -1,4 +1,4 @@
-//! Where a hit lies for a sensor.
+//! The point of a hit in the coordinates of a sensor.
 
 ghost use Rattle.std.specs.Prelude.{◌≡◌, ◌-◌, ◌<◌, ◌==◌, ◌^◌, ◌≤◌, pos, ◌-ℤ◌, ◌*ℤ◌, unsigned_abs, Some, None, if◌then◌else◌};
 ghost use Rattle.std.specs.Int.{int_div_euclid};
@@ -13,7 +13,8 @@ use crate::sensors::{is_held, list_of};
 use scene_core::Scene;
 use x3d_values::{Fields, Ray, Vec3};
 
-/// The point where the ray hits the box, in millionths, in the coordinates of a sensor of the hit.
+/// Returns the point where the ray hits the box, in millionths, in the coordinates of a sensor of
+/// the hit. If no list along the hit's path holds the sensor, returns the point in the world.
 #[tactic(auto, unfolding(crate::specs::Local::local_of))]
 pub fn local_point(scene: &Scene, state: &[Fields], hit: &Hit, ray: Ray, sensor: u32) -> Vec3
     requires { 0 < hit.now.m }
@@ -26,7 +27,7 @@ pub fn local_point(scene: &Scene, state: &[Fields], hit: &Hit, ray: Ray, sensor:
     }
 }
 
-/// A part of a direction, rounded down.
+/// Returns `n / m` of a direction, rounded down.
 fn way(dir: i64, n: u64, m: u64) -> i128
     requires { 0 < m }
     ensures value { result ≡ int_div_euclid (pos n *ℤ dir) (pos m) }
@@ -35,7 +36,7 @@ fn way(dir: i64, n: u64, m: u64) -> i128
     (n as i128 * dir as i128).div_euclid(m as i128)
 }
 
-/// A coordinate on a ray.
+/// Returns a coordinate of a ray at `n / m` of its way, clamped to the limit.
 #[tactic(auto, unfolding(crate::specs::Local::reached))]
 fn reached(origin: i64, dir: i64, n: u64, m: u64) -> i64
     requires { 0 < m }
@@ -57,7 +58,8 @@ fn point_of(ray: Ray, n: u64, m: u64) -> Vec3
     }
 }
 
-/// Rounded down; 0 where the scale is 0. The sum of it and a coordinate fits.
+/// Returns `z / scale`, rounded down, or 0 if the scale is 0. The sum of the quotient and a
+/// coordinate fits into an `i128`.
 pub fn quotient(z: i128, scale: i64) -> i128
     requires { unsigned_abs z ≤ 2 ^ 127 - 2 ^ 63 }
     ensures value { result ≡ spec.quotient z scale }
@@ -73,7 +75,7 @@ pub fn quotient(z: i128, scale: i64) -> i128
     0
 }
 
-/// How far a coordinate lies from the centre of a Transform, times a million.
+/// Returns how far a coordinate is from the centre of a Transform, times a million.
 fn away(translation: i64, center: i64, at: i64) -> i128
     ensures value { result ≡ (at -ℤ translation -ℤ center) *ℤ pos 1000000 }
     ensures fits { unsigned_abs result ≤ 2 ^ 100 }
@@ -81,7 +83,7 @@ fn away(translation: i64, center: i64, at: i64) -> i128
     (at as i128 - translation as i128 - center as i128) * 1_000_000
 }
 
-/// A coordinate inside a Transform.
+/// Converts a coordinate from outside a Transform to inside it.
 #[tactic(auto, unfolding(crate::specs::Local::back_along))]
 fn back_along(translation: i64, scale: i64, center: i64, at: i64) -> i64
     ensures { result ≡ spec.back_along translation scale center at }
@@ -90,7 +92,8 @@ fn back_along(translation: i64, scale: i64, center: i64, at: i64) -> i64
     clamped(center as i128 + quotient(away, scale))
 }
 
-/// A point round a Transform, in the coordinates inside it.
+/// Converts a point from the coordinates around a Transform to those inside it, in millionths.
+/// Quotients are rounded down, and results are clamped to the coordinate limit.
 #[tactic(auto, using(crate::proofs::Passed::passed), unfolding(crate::specs::Local::moved_back))]
 pub fn moved_back(motion: Motion, at: Vec3) -> Vec3
     ensures { result ≡ spec.moved_back motion at }
@@ -103,7 +106,7 @@ pub fn moved_back(motion: Motion, at: Vec3) -> Vec3
     }
 }
 
-/// A point round a node, in the coordinates inside it.
+/// Converts a point from the coordinates around a node to those inside it.
 #[tactic(auto, unfolding(crate::specs::Local::entered))]
 fn entered(scene: &Scene, state: &[Fields], node: u32, at: Vec3) -> Vec3
     ensures { result ≡ spec.entered scene.now state.now node at }
@@ -114,7 +117,7 @@ fn entered(scene: &Scene, state: &[Fields], node: u32, at: Vec3) -> Vec3
     }
 }
 
-/// The point, if the sensor is in the list.
+/// Returns the point if the list holds the sensor.
 fn if_held(scene: &Scene, owner: Option<u32>, sensor: u32, at: Vec3) -> Option<Vec3>
     ensures { result
         ≡ (if list_any (λ n. n == sensor) (siblings_of scene.now owner) then Some at else None) }
@@ -125,8 +128,8 @@ fn if_held(scene: &Scene, owner: Option<u32>, sensor: u32, at: Vec3) -> Option<V
     None
 }
 
-/// A point in the coordinates of the lowest list along a path that holds the sensor, from a list
-/// on.
+/// Converts a point from the coordinates of the list at which a path begins to those of the lowest
+/// list along the path that holds the sensor. Returns `None` if there is no such list.
 #[tactic(auto, unfolding(crate::specs::Local::local_along))]
 fn local_along(
     scene: &Scene,

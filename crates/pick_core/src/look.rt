@@ -1,4 +1,4 @@
-//! What a ray sees of a node: what a scene says of it for good, and what a state says.
+//! What a ray sees of a node: the part that the scene fixes, and the part that the state says.
 
 ghost use Rattle.std.specs.Prelude.{◌≡◌, slice_get};
 ghost use Rattle.std.specs.Option.{option_copied};
@@ -9,7 +9,7 @@ use crate::numbers::{CENTER, GEOMETRY, SCALE, SIZE, TRANSLATION, WHICH_CHOICE};
 use scene_core::Scene;
 use x3d_values::{Fields, NodeType, Value, Vec3};
 
-/// What a node is for a ray. A Shape may hold a Box of a size.
+/// The role of a node for a ray. A Shape may hold a Box of a size.
 #[derive(Clone, Copy)]
 pub(crate) enum Role {
     Group,
@@ -35,7 +35,7 @@ const ONES: Vec3 = Vec3 {
     z: 1_000_000,
 };
 
-/// The size of a geometry, if it is a Box.
+/// Returns the size of a geometry if it is a Box.
 fn size_of(scene: &Scene, geometry: u32) -> Option<Vec3>
     ensures { result ≡ spec.size_as scene.now geometry (type_at scene.now geometry) }
 {
@@ -48,7 +48,7 @@ fn size_of(scene: &Scene, geometry: u32) -> Option<Vec3>
     }
 }
 
-/// The size of the Box in a Shape, if it holds one.
+/// Returns the size of the Box in a Shape, if the Shape holds one.
 fn size_in(scene: &Scene, shape: u32) -> Option<Vec3>
     ensures { result ≡ spec.size_of scene.now (spec.node_in (value_at scene.now shape GEOMETRY)) }
 {
@@ -58,7 +58,7 @@ fn size_in(scene: &Scene, shape: u32) -> Option<Vec3>
     }
 }
 
-/// What a node is for a ray.
+/// Returns the role of a node for a ray.
 #[tactic(auto, unfolding(crate::specs::Looks::kind_of))]
 pub(crate) fn kind_of(scene: &Scene, node: u32) -> Role
     ensures { result ≡ spec.kind_of scene.now node }
@@ -72,7 +72,7 @@ pub(crate) fn kind_of(scene: &Scene, node: u32) -> Role
     }
 }
 
-/// The nodes in the list `children` of a node.
+/// Returns the nodes in the list `children` of a node.
 #[tactic(auto, unfolding(crate::specs::Looks::listed))]
 pub(crate) fn listed(scene: &Scene, node: u32) -> &[u32]
     ensures { result.now ≡ spec.listed scene.now node }
@@ -92,7 +92,8 @@ fn vector_at(own: Option<&Fields>, number: u16, default: Vec3) -> Vec3
     }
 }
 
-/// How a Transform with these fields moves what is inside it.
+/// Returns how a Transform with these fields moves what is inside it. A missing field moves
+/// nothing.
 #[tactic(auto, unfolding(crate::specs::Looks::motion_of))]
 pub fn motion_of(own: Option<&Fields>) -> Motion
     ensures { result ≡ spec.motion_of (option_copied own.entry) }
@@ -104,7 +105,8 @@ pub fn motion_of(own: Option<&Fields>) -> Motion
     }
 }
 
-/// Which child a Switch with these fields shows; none below 0.
+/// Returns the position of the child that a Switch with these fields shows. A negative number shows
+/// no child.
 #[tactic(auto, unfolding(crate::specs::Looks::choice_of))]
 pub(crate) fn choice_of(own: Option<&Fields>) -> i32
     ensures { result ≡ spec.choice_of (option_copied own.entry) }

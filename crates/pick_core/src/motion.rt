@@ -1,4 +1,4 @@
-//! Boxes in the systems round transforms.
+//! Boxes in the coordinates around Transforms.
 
 ghost use Rattle.std.specs.Prelude.{◌≡◌, ◌^◌, ◌<◌, ◌≤◌, true, pos, ◌-ℤ◌, ◌*ℤ◌, unsigned_abs};
 ghost use Rattle.std.specs.Int.{int_div_euclid};
@@ -13,13 +13,13 @@ use x3d_values::{Fields, Vec3};
 /// The scale that changes nothing, in millionths.
 const ONE: i64 = 1_000_000;
 
-/// Numbers below it need 64 bits, with their sign.
+/// Numbers with an absolute value below this fit into 64 bits with their sign.
 const SHORT: u128 = 1 << 63;
 
-/// The largest size of a coordinate.
+/// The largest absolute value of a coordinate, in millionths.
 const LIMIT: i128 = x3d_values::MAX_COORDINATE as i128;
 
-/// A box inside a node, in the system round it.
+/// Converts a box from the coordinates inside a node to those around it.
 #[tactic(auto, unfolding(crate::specs::Motion::moved_at))]
 pub(crate) fn move_box(scene: &Scene, state: &[Fields], node: u32, bounds: Bounds) -> Bounds
     ensures { result ≡ moved_at scene.now state.now node bounds }
@@ -30,7 +30,7 @@ pub(crate) fn move_box(scene: &Scene, state: &[Fields], node: u32, bounds: Bound
     }
 }
 
-/// A box in the system round a transform.
+/// Converts a box from the coordinates inside a Transform to those around it.
 #[tactic(auto, unfolding(crate::specs::Motion::moved_box))]
 fn moved_box(motion: Motion, bounds: Bounds) -> Bounds
     ensures { result ≡ moved_box motion bounds }
@@ -41,14 +41,14 @@ fn moved_box(motion: Motion, bounds: Bounds) -> Bounds
     )
 }
 
-/// A coordinate in the system round a transform.
+/// Converts a coordinate from inside a Transform to around it.
 fn along(translation: i64, scale: i64, center: i64, at: i64) -> i64
     ensures { result ≡ along_of translation scale center at }
 {
     clamped(translation as i128 + center as i128 + scaled(scale, center, at))
 }
 
-/// How far a coordinate lies from the centre of a transform, scaled, rounded down.
+/// Returns how far a coordinate is from the centre of a Transform, scaled and rounded down.
 fn scaled(scale: i64, center: i64, at: i64) -> i128
     ensures value { result ≡ int_div_euclid (scale *ℤ (at -ℤ center)) (pos 1000000) }
     ensures fits { unsigned_abs result ≤ 2 ^ 108 }
@@ -60,14 +60,15 @@ fn scaled(scale: i64, center: i64, at: i64) -> i128
     millionth(scale as i128 * away)
 }
 
-/// Whether 64 bits hold a number.
+/// Reports whether a number fits into 64 bits.
 fn is_short(number: i128) -> bool
     ensures { result ≡ true → unsigned_abs number < 2 ^ 63 }
 {
     number.unsigned_abs() < SHORT
 }
 
-/// Rounded down. A number of 64 bits is divided as one, for which the processor needs no division.
+/// Returns a millionth of the number, rounded down. A number that fits into 64 bits is divided as
+/// such, which takes no division instruction.
 fn millionth(number: i128) -> i128
     ensures { result ≡ int_div_euclid number (pos 1000000) }
 {
@@ -77,14 +78,15 @@ fn millionth(number: i128) -> i128
     number.div_euclid(1_000_000)
 }
 
-/// At most 10^15 in size.
+/// Returns the nearest number whose absolute value is at most 10^15.
 pub fn clamped(coordinate: i128) -> i64
     ensures { result ≡ clamped coordinate }
 {
     coordinate.clamp(-LIMIT, LIMIT) as i64
 }
 
-/// The place of a point in the system round a transform.
+/// Converts a point from the coordinates inside a Transform to those around it, in millionths.
+/// Products are rounded down, and results are clamped to the coordinate limit.
 pub fn move_point(motion: Motion, at: Vec3) -> Vec3
     ensures { result ≡ moved motion at }
 {
@@ -96,7 +98,7 @@ pub fn move_point(motion: Motion, at: Vec3) -> Vec3
     }
 }
 
-/// The box between two corners, however they lie.
+/// Returns the box between two opposite corners, in any order.
 fn bounds_between(a: Vec3, b: Vec3) -> Bounds
     ensures { result ≡ sides_along a b }
 {
@@ -114,7 +116,7 @@ fn bounds_between(a: Vec3, b: Vec3) -> Bounds
     }
 }
 
-/// The Box of a size round the origin.
+/// Returns the Box of a size around the origin.
 pub(crate) fn box_round(size: Vec3) -> Bounds
     ensures { result ≡ box_of size }
 {

@@ -1,4 +1,4 @@
-//! The nearest of the boxes so far.
+//! The nearest hit so far.
 
 ghost use Rattle.std.specs.Prelude.{◌≡◌, ◌≤◌, length};
 ghost use Rattle.x3d_values.specs.Ranges.{max_depth};
@@ -11,7 +11,7 @@ use pick_rules::{Bounds, Fraction, entry};
 use pick_tree::is_before;
 use x3d_values::Ray;
 
-/// Keeps the hit of a box at the end of a trail where it is nearer than the best.
+/// Keeps the hit of a box at the end of a trail if it is nearer than the best.
 #[tactic(auto, unfolding(crate::specs::Picked::nearer))]
 pub(crate) fn keep_nearer(trail: &[Place], bounds: Bounds, ray: Ray, best: &mut Option<Hit>)
     requires { length trail.now ≤ max_depth }
@@ -30,14 +30,15 @@ pub(crate) fn keep_nearer(trail: &[Place], bounds: Bounds, ray: Ray, best: &mut 
     }
 }
 
-/// Whether a fraction is less than that of the best hit.
+/// Reports whether a fraction is less than that of the best hit. If there is no hit, every fraction
+/// is.
 fn is_nearer(at: Fraction, best: &Option<Hit>) -> bool
     ensures { result ≡ spec.is_nearer at best.now }
 {
     is_before(at, fraction_of(best))
 }
 
-/// How far the best hit is.
+/// Returns the fraction of the best hit.
 pub(crate) fn fraction_of(best: &Option<Hit>) -> Option<Fraction>
     ensures { result ≡ spec.fraction_of best.now }
 {

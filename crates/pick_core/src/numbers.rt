@@ -1,25 +1,25 @@
-//! The numbers of fields that picking reads, which are their places in the table of fields.
-//! `numbers_law` ties each to its name.
+//! The numbers of the fields that picking reads, which are the fields' places in the table of
+//! fields. `numbers_law` ties each number to the field's name.
 
-/// Of a Transform.
+/// `center` of a Transform.
 pub(crate) const CENTER: u16 = 3;
 
-/// Of a Transform.
+/// `scale` of a Transform.
 pub(crate) const SCALE: u16 = 6;
 
-/// Of a Transform.
+/// `translation` of a Transform.
 pub(crate) const TRANSLATION: u16 = 8;
 
-/// Of a Switch.
+/// `whichChoice` of a Switch.
 pub(crate) const WHICH_CHOICE: u16 = 4;
 
-/// Of a Shape.
+/// `geometry` of a Shape.
 pub(crate) const GEOMETRY: u16 = 4;
 
-/// Of a Box.
+/// `size` of a Box.
 pub(crate) const SIZE: u16 = 1;
 
-/// Of a TouchSensor.
+/// `enabled` of a TouchSensor.
 pub(crate) const ENABLED: u16 = 2;
 
 /// `enabled` of a PlaneSensor.

@@ -17,7 +17,7 @@ use scene_core::Scene;
 use std::alloc::{AllocError, Global};
 use x3d_values::Fields;
 
-/// For each node the ranges of rows whose trails lead through it.
+/// Returns, for each node, the ranges of rows whose trails lead through the node.
 pub(crate) fn ranges_of(alloc: Global, rows: &[BoxRow]) -> Result<RowRanges, AllocError>
     ensures { IfOk result (λ ranges. AreRangesOf ranges rows.now) }
 {
@@ -28,7 +28,7 @@ pub(crate) fn ranges_of(alloc: Global, rows: &[BoxRow]) -> Result<RowRanges, All
     Ok(ranges)
 }
 
-/// The row at a place is one of each node's on its trail.
+/// Adds the row at a place to the rows of each node on the row's trail.
 fn add_at(ranges: &mut RowRanges, at: usize, row: &BoxRow) -> Result<(), AllocError>
     ensures added { OnOk result
         ((n : ℕ) → touches n row.now.trail ≡ true → HasRow ranges.new n at) }
@@ -37,7 +37,7 @@ fn add_at(ranges: &mut RowRanges, at: usize, row: &BoxRow) -> Result<(), AllocEr
     add_trail(ranges, at, row.trail.as_slice())
 }
 
-/// The row at a place is one of each node's on a trail.
+/// Adds the row at a place to the rows of each node on a trail.
 fn add_trail(ranges: &mut RowRanges, at: usize, trail: &[Place]) -> Result<(), AllocError>
     ensures added { OnOk result
         ((n : ℕ) → touches n trail.now ≡ true → HasRow ranges.new n at) }
@@ -49,8 +49,8 @@ fn add_trail(ranges: &mut RowRanges, at: usize, trail: &[Place]) -> Result<(), A
     Ok(())
 }
 
-/// The rows that lead through a node then are those of this state, and the tree is round them. Each
-/// of them is in the range at a place, or in one that follows it.
+/// Updates the rows that lead through a node to this state, and then the tree around the rows. Each
+/// of these rows is in the range at `first` or in one that follows it.
 pub(crate) fn renew_ranges(
     scene: &Scene,
     state: &[Fields],
@@ -85,8 +85,7 @@ fn range_at(ranges: &[RowRange], place: usize) -> Option<RowRange>
     ranges.get(place).copied()
 }
 
-/// The rows of a range then are those of this state, where they lead through the node. All others
-/// stay as they are.
+/// Updates the rows of a range that lead through the node to this state. No other row changes.
 fn renew_range(scene: &Scene, state: &[Fields], node: u32, range: RowRange, rows: &mut [BoxRow])
     ensures long { length rows.new ≡ length rows.old }
     ensures inside { (k : ℕ) (r : RowOf) → IsInRange range k → slice_get rows.old k ≡ Some r

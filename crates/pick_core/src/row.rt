@@ -1,4 +1,4 @@
-//! A box at its place, as a cache keeps it.
+//! A box at its place, as a cache stores it.
 
 ghost use Rattle.std.specs.Prelude.{◌≡◌, ◌≤◌, length, map, slice_get, IfOk};
 ghost use Rattle.x3d_values.specs.Ranges.{max_depth};
@@ -12,7 +12,7 @@ use scene_core::Scene;
 use std::alloc::{AllocError, Global};
 use x3d_values::{Fields, Vec3};
 
-/// A Box of a size at the end of a trail, with its corners in the world, shown or not.
+/// A Box of a size at the end of a trail, shown or not, with its corners in the world.
 #[derive(Drop)]
 pub struct BoxRow {
     pub(crate) bounds: Bounds,
@@ -21,7 +21,7 @@ pub struct BoxRow {
     pub(crate) trail: Trail,
 }
 
-/// The row of a Box of this size at the end of a trail.
+/// Returns the row of a Box of this size at the end of a trail.
 pub(crate) fn row_of(
     alloc: Global,
     scene: &Scene,
@@ -40,14 +40,14 @@ pub(crate) fn row_of(
     })
 }
 
-/// Whether a node that shows this child shows the one at a position.
+/// Reports whether a Switch with the choice `which` shows the child at a position.
 fn shows(which: i32, position: usize) -> bool
     ensures { result ≡ spec.shows which position }
 {
     which >= 0 && which as usize == position
 }
 
-/// Whether a node shows its child at a position.
+/// Reports whether a node shows its child at a position.
 #[tactic(auto, unfolding(crate::specs::Sites::allows))]
 fn allows(scene: &Scene, state: &[Fields], node: u32, position: usize) -> bool
     ensures { result ≡ spec.allows scene.now state.now node position }
@@ -58,7 +58,7 @@ fn allows(scene: &Scene, state: &[Fields], node: u32, position: usize) -> bool
     }
 }
 
-/// Whether all below a node up to the end of a trail is shown.
+/// Reports whether all nodes of a trail that begins below a node are shown.
 #[tactic(auto, unfolding(crate::specs::Sites::is_shown))]
 fn is_shown(scene: &Scene, state: &[Fields], node: u32, trail: &[Place]) -> bool
     ensures { result ≡ spec.is_shown scene.now state.now node trail.now }
@@ -75,7 +75,7 @@ fn is_shown(scene: &Scene, state: &[Fields], node: u32, trail: &[Place]) -> bool
     }
 }
 
-/// Whether all along a trail from the roots is shown.
+/// Reports whether all nodes of a trail from the roots are shown.
 fn is_shown_from_roots(scene: &Scene, state: &[Fields], trail: &[Place]) -> bool
     ensures { result ≡ spec.is_shown_from_roots scene.now state.now trail.now }
 {
@@ -85,7 +85,7 @@ fn is_shown_from_roots(scene: &Scene, state: &[Fields], trail: &[Place]) -> bool
     }
 }
 
-/// The row then is that of this state.
+/// Updates a row to this state.
 pub(crate) fn refresh(scene: &Scene, state: &[Fields], row: &mut BoxRow)
     ensures { row.new ≡ spec.fresh scene.now state.now row.old }
 {
@@ -101,14 +101,14 @@ pub(crate) fn refresh_all(scene: &Scene, state: &[Fields], rows: &mut [BoxRow])
     }
 }
 
-/// Whether a trail leads through a node.
+/// Reports whether a trail leads through a node.
 fn touches(node: u32, trail: &[Place]) -> bool
     ensures { result ≡ spec.touches node trail.now }
 {
     trail.iter().any(|place| place.node == node)
 }
 
-/// The row then is that of this state, where it leads through the node.
+/// Updates a row to this state if its trail leads through the node.
 pub(crate) fn renew_row(scene: &Scene, state: &[Fields], node: u32, row: &mut BoxRow)
     ensures { row.new ≡ spec.renewed scene.now state.now node row.old }
 {

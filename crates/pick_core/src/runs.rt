@@ -1,4 +1,4 @@
-//! The boxes round runs of rows.
+//! The boxes around runs of rows.
 
 ghost use Rattle.std.specs.Prelude.{◌≡◌, ℕ, Option, Some, slice_get, IfOk};
 ghost use Rattle.pick_rules.specs.declared.bounds.Bounds.{Bounds as BoundsOf};
@@ -10,14 +10,14 @@ use pick_rules::Bounds;
 use pick_tree::{Tree, WIDTH, empty_tree, joined, renew_groups};
 use std::alloc::{AllocError, Global};
 
-/// The box of a row that is shown.
+/// Returns the box of a row, if the row is shown.
 fn seen(row: &BoxRow) -> Option<Bounds>
     ensures { result ≡ spec.seen row.now }
 {
     if row.shown { Some(row.bounds) } else { None }
 }
 
-/// The box round all rows of a run that are shown.
+/// Returns the box around all rows of a run that are shown.
 fn box_round(rows: &[BoxRow], run: usize) -> Option<Bounds>
     ensures { (n : ℕ) (b : Option BoundsOf) → slice_get (spec.seen_in rows.now) n ≡ Some b
         → IsOf n run → IsIn b result }
@@ -35,8 +35,7 @@ fn box_round(rows: &[BoxRow], run: usize) -> Option<Bounds>
     outer
 }
 
-/// The boxes of the runs then are round their rows again, where the rows from `first` to `last`
-/// have changed.
+/// Updates the boxes of the runs after the rows from `first` to `last` have changed.
 fn renew_boxes(rows: &[BoxRow], first: usize, last: usize, runs: &mut [Option<Bounds>])
     requires { IsOverBut first last runs.old (spec.seen_in rows.now) }
     ensures { IsRenewed first last runs.old runs.new (spec.seen_in rows.now) }
@@ -51,7 +50,7 @@ fn renew_boxes(rows: &[BoxRow], first: usize, last: usize, runs: &mut [Option<Bo
     }
 }
 
-/// The tree then is round the rows again, where those from `first` to `last` have changed.
+/// Updates the tree after the rows from `first` to `last` have changed.
 pub(crate) fn renew_runs(rows: &[BoxRow], first: usize, last: usize, tree: &mut Tree)
     requires { IsTreeBut first last tree.old (spec.seen_in rows.now) }
     ensures { IsTreeOf tree.new (spec.seen_in rows.now) }
@@ -65,7 +64,7 @@ pub(crate) fn renew_runs(rows: &[BoxRow], first: usize, last: usize, tree: &mut 
     );
 }
 
-/// A tree round the rows.
+/// Returns a tree around the rows.
 pub(crate) fn tree_of(alloc: Global, rows: &[BoxRow]) -> Result<Tree, AllocError>
     ensures { IfOk result (λ tree. IsTreeOf tree (spec.seen_in rows.now)) }
 {

@@ -18,7 +18,7 @@ pub struct Place {
     pub node: u32,
 }
 
-/// How many places a trail may have: as many as a chain has nodes.
+/// The most places in a trail, which is the most nodes in a chain.
 pub(crate) const DEPTH: usize = MAX_DEPTH as usize;
 
 /// The places from a root of a scene down to a node, at most `DEPTH`.
@@ -60,7 +60,7 @@ impl Trail {
     }
 }
 
-/// A box at the end of a trail, in the world.
+/// Converts a box from the end of a trail to the world.
 pub(crate) fn carry(scene: &Scene, state: &[Fields], trail: &[Place], bounds: Bounds) -> Bounds
     ensures { result ≡ carried scene.now state.now trail.now bounds }
 {

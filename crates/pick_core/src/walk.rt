@@ -27,9 +27,9 @@ struct Walk {
     best: Option<Hit>,
 }
 
-/// The nearest box that the ray hits: none where it hits no box. Of boxes that it enters at the
-/// same place, the one with the least path. `state` has what each node of the scene keeps, by
-/// number.
+/// Returns the nearest box that the ray hits, or `None` if the ray hits no box. Of the boxes that
+/// the ray enters at the same place, returns the one with the least path. `state` has the fields
+/// that each node of the scene keeps, by the node's number.
 pub fn pick(scene: &Scene, state: &[Fields], ray: Ray) -> Option<Hit>
     ensures nearest { IsPicked ray (boxes scene.now state.now) result }
     ensures value { result ≡ picked ray (boxes scene.now state.now) }
@@ -42,7 +42,8 @@ pub fn pick(scene: &Scene, state: &[Fields], ray: Ray) -> Option<Hit>
     walk.best
 }
 
-/// A Shape with a Box of this size stands at the end of the trail.
+/// Keeps the hit of a Shape with a Box of this size at the end of the trail, if the hit is nearer
+/// than the best.
 fn consider(scene: &Scene, state: &[Fields], ray: Ray, size: Vec3, walk: &mut Walk)
     ensures trail { walk.new.trail.items ≡ walk.old.trail.items }
     ensures best { walk.new.best
@@ -55,7 +56,7 @@ fn consider(scene: &Scene, state: &[Fields], ray: Ray, size: Vec3, walk: &mut Wa
     keep_nearer(walk.trail.as_slice(), bounds, ray, &mut walk.best);
 }
 
-/// The child that a Switch shows.
+/// Returns the child that a Switch with the choice `which` shows.
 #[tactic(auto, unfolding(crate::specs::Boxes::shown_child))]
 fn shown_child(which: i32, children: &[u32]) -> Option<Place>
     ensures { result ≡ shown_child_of children.now which }
@@ -73,7 +74,7 @@ fn shown_child(which: i32, children: &[u32]) -> Option<Place>
     }
 }
 
-/// The child that a Switch of that number shows.
+/// Returns the child that the Switch of that number shows.
 #[tactic(auto, using(crate::proofs::Passed::passed))]
 fn shown_place(scene: &Scene, state: &[Fields], node: u32) -> Option<Place>
     ensures { result

@@ -1,5 +1,5 @@
-//! Which rows of a list concern a node, as ranges of rows, so that a change at the node looks at no
-//! other row.
+//! Which rows of a list concern a node, stored as ranges of rows, so that a change at the node
+//! looks at no other row.
 #![tactic(auto)]
 
 mod ranges;

@@ -5,11 +5,11 @@ ghost use Rattle.pick_ranges.specs.Ranges as spec;
 
 use std::alloc::{AllocError, Global};
 
-/// Where no range stands.
+/// A place at which there is no range.
 const NONE: usize = usize::MAX;
 
-/// The rows from `first` to `last`, which is one of them. `next` is the place of another range of
-/// the same node; where none stands there, it is the last one.
+/// The rows from `first` to `last`, inclusive. `next` is the place of another range of the same
+/// node. If there is no range at that place, this is the node's last range.
 #[derive(Clone, Copy)]
 pub struct RowRange {
     pub first: usize,
@@ -17,14 +17,14 @@ pub struct RowRange {
     pub next: usize,
 }
 
-/// The ranges of all nodes in one list, and by node the place of the first of its ranges.
+/// The ranges of all nodes in one list, and for each node the place of its first range.
 #[derive(Drop)]
 pub struct RowRanges {
     pub firsts: Vec<usize>,
     pub ranges: Vec<RowRange>,
 }
 
-/// No rows of any node.
+/// Creates ranges in which no node has a row.
 pub fn no_rows(alloc: Global) -> RowRanges
     ensures firsts { result.firsts.items ≡ [] }
     ensures ranges { result.ranges.items ≡ [] }
@@ -35,7 +35,8 @@ pub fn no_rows(alloc: Global) -> RowRanges
     }
 }
 
-/// The place of the first range of a node; where none stands there, it has no row.
+/// Returns the place of the first range of a node. If there is no range at that place, the node has
+/// no row.
 pub fn first_place(ranges: &RowRanges, node: u32) -> usize
     ensures { (row : ℕ) → spec.HasRow ranges.now node row
         → spec.IsAmong ranges.now.ranges.items (length ranges.now.ranges.items) result row }
@@ -46,7 +47,7 @@ pub fn first_place(ranges: &RowRanges, node: u32) -> usize
     }
 }
 
-/// A row is one of a node's.
+/// Adds a row to the rows of a node. Fails if memory runs out.
 pub fn add_row(ranges: &mut RowRanges, node: u32, row: usize) -> Result<(), AllocError>
     ensures added { OnOk result (spec.HasRow ranges.new node row) }
     ensures kept { OnOk result
@@ -60,7 +61,7 @@ pub fn add_row(ranges: &mut RowRanges, node: u32, row: usize) -> Result<(), Allo
     push_range(ranges, node as usize, place, row)
 }
 
-/// The list then has a place for the node.
+/// Extends `firsts` until there is a place for the node.
 fn make_room(firsts: &mut Vec<usize>, node: usize) -> Result<(), AllocError>
     ensures room { OnOk result (node < length firsts.new.items) }
     ensures kept { OnOk result (spec.IsLonger firsts.old.items firsts.new.items) }
@@ -71,14 +72,15 @@ fn make_room(firsts: &mut Vec<usize>, node: usize) -> Result<(), AllocError>
     Ok(())
 }
 
-/// Whether a row stands in a range, or next behind it.
+/// Reports whether a row is in a range or directly follows it.
 fn is_next(range: RowRange, row: usize) -> bool
     ensures { result ≡ true → range.first ≤ row }
 {
     range.first <= row && row <= range.last.saturating_add(1)
 }
 
-/// The range at a place takes the row, where that stands in it or next behind it.
+/// Adds a row to the range at a place if the row is in the range or directly follows it. Reports
+/// whether the range has the row.
 fn take_next(ranges: &mut [RowRange], place: usize, row: usize) -> bool
     ensures taken { result ≡ true → spec.IsAt ranges.new place row }
     ensures kept { spec.IsGrown ranges.old ranges.new }
@@ -99,7 +101,7 @@ fn take_next(ranges: &mut [RowRange], place: usize, row: usize) -> bool
     true
 }
 
-/// A row begins a range of a node, before the one at a place.
+/// Adds a range of one row for a node. The range at `place` follows it.
 fn push_range(
     ranges: &mut RowRanges,
     node: usize,

@@ -1,4 +1,4 @@
--- Where a ray enters a box, by the sides that it passes on each axis.
+-- Where a ray enters a box, by the sides that the ray passes on each axis.
 use Rattle.std.specs.Prelude.{ℕ, ◌*◌, ◌==◌, nat_le, nat_lt, ℤ, pos, negsuc, ◌-ℤ◌, int_lt, unsigned_abs, Bool, ◌&&◌, Option, Some, None, MatchOption, if◌then◌else◌}
 use Rattle.std.specs.Option.{option_and_then}
 use Rattle.x3d_values.specs.Pointing.{RayView}
@@ -12,7 +12,8 @@ abbrev pub from_0 : ℤ → ℕ
 from_0 (pos n) = n
 from_0 (negsuc n) = 0
 
--- between two sides, the near and the far one, that lie so far ahead; none where both are behind
+-- the span between two sides at distances near and far ahead; None if both are behind the ray's
+-- origin
 unfoldable pub span_at : ℤ → ℤ → ℕ → Option Stretch
 span_at near far slope =
     if int_lt far (pos 0) then None
@@ -25,14 +26,14 @@ span_of low high origin dir =
     then span_at (origin -ℤ high) (origin -ℤ low) (unsigned_abs dir)
     else span_at (low -ℤ origin) (high -ℤ origin) (unsigned_abs dir)
 
--- the first fraction from one on that is not before near / slope
+-- the first fraction, from `from` on, that is not before near / slope
 unfoldable pub push_of : Fraction → ℕ → ℕ → Option Fraction
 push_of from near slope =
     if nat_le (from.m * near) (from.n * slope)
     then Some from
     else (if slope == 0 then None else Some (record { n = near; m = slope }))
 
--- a fraction is not behind far / slope
+-- a fraction is not past far / slope
 abbrev pub is_before : Fraction → Stretch → Bool
 is_before at s = nat_le (at.n * s.slope) (at.m * s.far)
 
@@ -46,7 +47,7 @@ abbrev pub if_before : Spans → Fraction → Option Fraction
 if_before s at = if is_before at s.x && (is_before at s.y && is_before at s.z) then Some at
     else None
 
--- the last of the near sides is passed, and no far side
+-- the first fraction that is not before any near side, if it is not past a far side
 unfoldable pub first_within : Spans → Option Fraction
 first_within s = option_and_then (if_before s) (last_pushed s)
 
@@ -67,7 +68,7 @@ spans_of b ray =
 unfoldable pub entry_of : Bounds → RayView → Option Fraction
 entry_of b ray = option_and_then first_within (spans_of b ray)
 
--- it is where the box is hit first; none where it is missed
+-- `entry_of` is the fraction at which the box is hit first; None if the box is missed
 abbrev pub Entries : Type 0
 Entries = (b : Bounds) (ray : RayView)
     → MatchOption (entry_of b ray) (IsMissed b ray) (λ (at : Fraction). IsEntered b ray at.n at.m)

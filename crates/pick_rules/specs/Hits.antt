@@ -3,7 +3,7 @@ use Rattle.std.specs.Prelude.{ℕ, ◌*◌, ◌<◌, ◌≤◌, ℤ, pos, ◌+�
 use Rattle.x3d_values.specs.Pointing.{RayView}
 use Rattle.pick_rules.specs.declared.bounds.Bounds.{Bounds}
 
--- on one axis the ray is between the sides at n / m of its way
+-- on one axis, the ray is between the sides at n / m of its way
 pub record IsCrossed (low high origin dir : ℤ) (n m : ℕ) : Type 0 where
   pub above : (pos m *ℤ low) ≤ℤ (pos m *ℤ origin +ℤ pos n *ℤ dir)
   pub below : (pos m *ℤ origin +ℤ pos n *ℤ dir) ≤ℤ (pos m *ℤ high)
@@ -18,7 +18,7 @@ pub record IsHit (b : Bounds) (ray : RayView) (n m : ℕ) : Type 0 where
 abbrev pub IsMissed : Bounds → RayView → Type 0
 IsMissed b ray = (n m : ℕ) → 0 < m → ¬ IsHit b ray n m
 
--- the box is hit at n / m, and nowhere before
+-- the box is hit at n / m, and at no fraction before
 pub record IsEntered (b : Bounds) (ray : RayView) (n m : ℕ) : Type 0 where
   pub positive : 0 < m
   pub hit : IsHit b ray n m

@@ -7,7 +7,8 @@ ghost use Rattle.pick_rules.specs.Entry as spec;
 use crate::bounds::{Bounds, Fraction};
 use x3d_values::{Ray, Vec3};
 
-/// The ray is between two sides of a box from `near / slope` to `far / slope` of its way.
+/// The part of a ray between two opposite sides of a box: from `near / slope` to `far / slope` of
+/// the ray's way.
 #[derive(Clone, Copy)]
 pub(crate) struct Stretch {
     pub near: u64,
@@ -15,7 +16,7 @@ pub(crate) struct Stretch {
     pub slope: u64,
 }
 
-/// The spans of the three axes.
+/// The spans of a ray on the three axes.
 #[derive(Clone, Copy)]
 pub(crate) struct Spans {
     pub x: Stretch,
@@ -23,7 +24,7 @@ pub(crate) struct Spans {
     pub z: Stretch,
 }
 
-/// The first fraction at which the ray hits the box.
+/// Returns the first fraction at which the ray hits the box, or `None` if the ray misses the box.
 #[tactic(auto, unfolding(crate::specs::Entry::entry_of))]
 pub fn entry(bounds: Bounds, ray: Ray) -> Option<Fraction>
     ensures { result ≡ spec.entry_of bounds ray }
@@ -34,7 +35,8 @@ pub fn entry(bounds: Bounds, ray: Ray) -> Option<Fraction>
     }
 }
 
-/// The span between two sides that lie so far ahead.
+/// Returns the span between two sides at distances `near` and `far` ahead, or `None` if both sides
+/// are behind the ray's origin.
 #[tactic(auto, unfolding(crate::specs::Entry::span_at))]
 fn span_at(near: i128, far: i128, slope: u64) -> Option<Stretch>
     requires near { near <ℤ pos (2 ^ 64) }
@@ -52,7 +54,7 @@ fn span_at(near: i128, far: i128, slope: u64) -> Option<Stretch>
     })
 }
 
-/// The span between the two sides of one axis.
+/// Returns the span between the two sides of one axis.
 #[tactic(auto, using(crate::proofs::Wide::passed), unfolding(crate::specs::Entry::span_of))]
 fn span_of(low: i64, high: i64, origin: i64, dir: i64) -> Option<Stretch>
     ensures { result ≡ spec.span_of low high origin dir }
@@ -71,7 +73,8 @@ fn times(a: u64, b: u64) -> u128
     a as u128 * b as u128
 }
 
-/// The first fraction from `from` on that is not before `near / slope`.
+/// Returns the first fraction, from `from` on, that is not before `near / slope`, or `None` if the
+/// ray never gets there.
 #[tactic(auto, unfolding(crate::specs::Entry::push_of))]
 fn push(from: Fraction, near: u64, slope: u64) -> Option<Fraction>
     ensures { result ≡ spec.push_of from near slope }
@@ -85,14 +88,15 @@ fn push(from: Fraction, near: u64, slope: u64) -> Option<Fraction>
     Some(Fraction { n: near, m: slope })
 }
 
-/// Whether a fraction is not behind the far side.
+/// Reports whether a fraction is not past the far side of a span.
 fn is_before(at: Fraction, span: Stretch) -> bool
     ensures { result ≡ spec.is_before at span }
 {
     times(at.n, span.slope) <= times(at.m, span.far)
 }
 
-/// The spans of the ray in the box; none where an axis is never between its sides.
+/// Returns the spans of the ray in the box, or `None` if both sides of an axis are behind the ray's
+/// origin.
 #[tactic(auto, unfolding(crate::specs::Entry::spans_of))]
 fn spans_of(bounds: Bounds, origin: Vec3, dir: Vec3) -> Option<Spans>
     ensures { result ≡ spec.spans_of bounds (record { origin = origin; dir = dir }) }
@@ -110,7 +114,7 @@ fn spans_of(bounds: Bounds, origin: Vec3, dir: Vec3) -> Option<Spans>
     Some(Spans { x, y, z })
 }
 
-/// The first fraction that has passed the near sides.
+/// Returns the first fraction that is not before any of the three near sides.
 #[tactic(auto, unfolding(crate::specs::Entry::last_pushed))]
 fn last_pushed(spans: Spans) -> Option<Fraction>
     ensures { result ≡ spec.last_pushed spans }
@@ -124,7 +128,7 @@ fn last_pushed(spans: Spans) -> Option<Fraction>
     push(at, spans.z.near, spans.z.slope)
 }
 
-/// The first fraction within all three spans.
+/// Returns the first fraction within all three spans.
 #[tactic(auto, unfolding(crate::specs::Entry::first_within))]
 fn first_within(spans: Spans) -> Option<Fraction>
     ensures { result ≡ spec.first_within spans }
@@ -138,7 +142,7 @@ fn first_within(spans: Spans) -> Option<Fraction>
     None
 }
 
-/// Whether a fraction is less than another.
+/// Reports whether a fraction is less than another.
 pub fn is_less(at: Fraction, other: Fraction) -> bool
     ensures { result ≡ spec.is_less at other }
 {

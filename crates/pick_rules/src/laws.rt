@@ -1,9 +1,9 @@
-//! What holds of places along a ray.
+//! Laws about places along a ray.
 
 ghost use Rattle.pick_rules.specs.Entry.{Entries};
 
-/// The fraction at which a ray enters a box is the first at which it is in it; none where it
-/// never is.
+/// Proves that `entry` returns the first fraction at which the ray is in the box, or `None` if the
+/// ray never is.
 pub fn entries_law()
     ensures { Entries }
 {}

@@ -1,7 +1,7 @@
-//! Where a ray enters a box, and which of two places along it is nearer.
+//! Where a ray enters a box, and which of two places along the ray is nearer.
 //!
-//! `bounds` has boxes and places along a ray, `crossing` the first place at which a box is hit,
-//! `laws` that it is the first.
+//! `bounds` has boxes and places along a ray, `crossing` finds the first place at which a box is
+//! hit, and `laws` proves that this place is the first.
 #![tactic(auto)]
 
 mod bounds;

@@ -1,4 +1,4 @@
--- Rays and planes, in millionths; the values are by hand.
+-- Rays and planes, in millionths; the values were computed by hand.
 use Rattle.std.specs.Prelude.{◌≡◌, ℕ, ℤ, pos, negsuc, Some, None}
 use Rattle.x3d_values.specs.declared.vector.Vec3.{Vec3}
 use Rattle.x3d_values.specs.Pointing.{RayView}
@@ -11,7 +11,7 @@ use Rattle.pick_track.specs.Track.{met}
 abbrev zero : ℤ
 zero = pos 0
 
--- minus n + 1
+-- -(n + 1)
 abbrev minus : ℕ → ℤ
 minus n = negsuc n
 
@@ -36,8 +36,8 @@ level = record {
   dir = at (pos 1000000) zero zero;
 }
 
--- inside `translation 10 0 0 scale 2 2 2` a drag that began at 0 0 1 has its plane at height 2; the
--- ray from 14 4 20 meets it at 14 4 2, which is 2 2 1 inside
+-- inside `translation 10 0 0 scale 2 2 2`, a drag that began at 0 0 1 has its plane at height 2;
+-- the ray from 14 4 20 meets this plane at 14 4 2, which is 2 2 1 inside
 abbrev ten : Vec3
 ten = at (pos 10000000) zero zero
 
@@ -60,16 +60,16 @@ pub record Tracking : Type 0 where
       ≡ at (pos 2000000) (pos 2000000) (pos 1000000)
   -- 15 down from 20 to 5: 11.25 along x, -7.5 along y
   pub slants : met aslant (pos 5000000) ≡ Some (at (pos 11250000) (minus 7499999) (pos 5000000))
-  -- a millionth down is 0.75 and -0.5 millionths, rounded down
+  -- one millionth down moves 0.75 and -0.5 millionths, rounded down
   pub rounds : met aslant (pos 19999999) ≡ Some (at zero (minus 0) (pos 19999999))
-  -- it begins on the plane
+  -- the ray begins on the plane
   pub begins : met aslant (pos 20000000) ≡ Some (at zero zero (pos 20000000))
-  -- the plane lies behind
+  -- the plane is behind the ray's origin
   pub behind : met down (pos 20000001) ≡ None
-  -- along the plane, and along another
+  -- the ray runs in the plane, and parallel to another plane
   pub along : met level (pos 20000000) ≡ None
   pub above : met level (pos 2000000) ≡ None
-  -- a scale below 0 turns x round, one of 0 leaves the center alone, one of 0.5 doubles z
+  -- a scale below 0 flips x, a scale of 0 gives the centre, and a scale of 0.5 doubles z
   pub turned : moved_back odd (at (pos 14000000) (pos 4000000) (pos 1000000))
       ≡ at (minus 1999999) zero (pos 2000000)
   pub back : moved odd (at (minus 1999999) zero (pos 2000000))

@@ -1,4 +1,4 @@
--- The way down a scene to one of its lists, and points along it (ISO/IEC 19775-1, grouping
+-- The path down a scene to one of its lists, and points along it (ISO/IEC 19775-1, grouping
 -- component: Transform; the rounding and the limit are our choice).
 use Rattle.std.specs.Prelude.{ℕ, ◌+◌, ◌==◌, Bool, false, true, not, ◌&&◌, List, [], ◌∷◌, slice_get, Option, Some, None, if◌then◌else◌}
 use Rattle.std.specs.List.{list_any}
@@ -15,13 +15,13 @@ use Rattle.pick_core.specs.Sensors.{list_of}
 
 -- ---- the nodes along a path
 
--- the children of a node, if there is one, and so on
+-- the child, if there is one, and the nodes below it
 abbrev pub then_along : (ℕ → List ℕ) → Option ℕ → List ℕ
 then_along below None = []
 then_along below (Some child) = child ∷ below child
 
--- the nodes that a path of positions leads through from a list on, as far as it leads; the list is
--- that of the roots, or the children of a node
+-- the nodes that a path of positions leads through, from a list on; if a position doesn't exist,
+-- the path ends before it. The list is that of the roots, or the children of a node
 unfoldable pub nodes_along : SceneView → Option ℕ → List ℕ → List ℕ
 nodes_along scene owner [] = []
 nodes_along scene owner (p ∷ ps) =
@@ -36,22 +36,22 @@ is_transform_as _ = false
 abbrev pub is_transform : SceneView → ℕ → Bool
 is_transform scene node = is_transform_as (type_at scene node)
 
--- a point inside a node, in the coordinates round it: a Transform moves it
+-- a point inside a node, in the coordinates around it: a Transform moves the point
 unfoldable pub outside : SceneView → List Fields → ℕ → Vec3 → Vec3
 outside scene state node p =
     if is_transform scene node then moved (motion_of (slice_get state node)) p else p
 
--- a point round a node, in the coordinates inside it
+-- a point around a node, in the coordinates inside it
 unfoldable pub inside : SceneView → List Fields → ℕ → Vec3 → Vec3
 inside scene state node p =
     if is_transform scene node then moved_back (motion_of (slice_get state node)) p else p
 
--- a point inside the last of these nodes, in the coordinates round the first
+-- a point inside the last of these nodes, in the coordinates around the first
 unfoldable pub outward : SceneView → List Fields → List ℕ → Vec3 → Vec3
 outward scene state [] p = p
 outward scene state (node ∷ nodes) p = outside scene state node (outward scene state nodes p)
 
--- a point round the first of these nodes, in the coordinates inside the last
+-- a point around the first of these nodes, in the coordinates inside the last
 unfoldable pub inward : SceneView → List Fields → List ℕ → Vec3 → Vec3
 inward scene state [] p = p
 inward scene state (node ∷ nodes) p = inward scene state nodes (inside scene state node p)
@@ -69,12 +69,12 @@ abbrev pub has_sensors : SceneView → Option ℕ → Bool
 has_sensors scene None = true
 has_sensors scene (Some node) = not (is_switch scene node)
 
--- a list holds a sensor; the children of a Switch count as no sensors
+-- a list holds a sensor; the children of a Switch don't count
 abbrev pub holds : SceneView → Option ℕ → ℕ → Bool
 holds scene owner sensor =
     has_sensors scene owner && list_any (λ n. n == sensor) (list_of scene owner)
 
--- a path leads from a list on to one that holds the sensor
+-- a path leads from a list to one that holds the sensor
 unfoldable pub leads_to : SceneView → Option ℕ → List ℕ → ℕ → Bool
 leads_to scene owner [] sensor = holds scene owner sensor
 leads_to scene owner (p ∷ ps) sensor =
@@ -89,7 +89,7 @@ abbrev pub or_here : Option ℕ → Option ℕ → Option ℕ
 or_here None here = here
 or_here (Some depth) here = Some depth
 
--- how many positions of a path lead from a list on to the lowest list along it that holds the
+-- how many positions of a path lead from a list to the lowest list along the path that holds the
 -- sensor
 unfoldable pub depth_along : SceneView → ℕ → Option ℕ → List ℕ → Option ℕ
 depth_along scene sensor owner [] = None

@@ -7,7 +7,7 @@ use Rattle.scene_core.specs.Scene.{SceneView}
 use Rattle.pick_core.specs.Local.{local_along}
 use Rattle.pick_track.specs.Paths.{depth_along, inward, leads_to, nodes_along}
 
--- where a hit lies for a sensor is its point, taken inwards along that part
+-- the point of a hit in a sensor's coordinates is the hit's point taken inwards along that part
 abbrev pub SensorsPointsAreInward : Type 0
 SensorsPointsAreInward =
     (scene : SceneView) (state : List Fields) (sensor : ℕ) (owner : Option ℕ) (path : List ℕ)
@@ -17,7 +17,7 @@ SensorsPointsAreInward =
     (λ depth. inward scene state (nodes_along scene owner (take depth path)) at)
     (depth_along scene sensor owner path)
 
--- that part leads to a list with the sensor
+-- that part leads to a list that holds the sensor
 abbrev pub SensorsPathsLead : Type 0
 SensorsPathsLead =
     (scene : SceneView) (sensor : ℕ) (owner : Option ℕ) (path : List ℕ) (depth : ℕ)

@@ -10,8 +10,8 @@ use Rattle.pick_core.specs.Local.{quotient}
 use Rattle.pick_core.specs.Motion.{clamped}
 use Rattle.pick_track.specs.Paths.{inward, nodes_along, outward}
 
--- a ray that begins at one height and goes so far along z comes to another height, or begins there:
--- (height - from) / along isn't below 0, and there is such a number
+-- a ray that begins at height `from`, with direction `along` along z, reaches another height:
+-- (height - from) / along exists and isn't below 0
 abbrev pub comes_to : ℤ → ℤ → ℤ → Bool
 comes_to from along height =
     if int_lt along (pos 0) then int_le height from
@@ -29,22 +29,24 @@ met_at origin dir height = record {
   z = height;
 }
 
--- the point where a ray comes to a height; none where it goes along it, or away
+-- the point where a ray reaches a height; None if the ray runs parallel to the plane there or away
+-- from it
 unfoldable pub met : RayView → ℤ → Option Vec3
 met ray height =
     if comes_to ray.origin.z ray.dir.z height then Some (met_at ray.origin ray.dir height) else None
 
--- on the plane across z through a point
+-- the point p moved along z to the height of `start`
 abbrev pub at_height : Vec3 → Vec3 → Vec3
 at_height start p = record { x = p.x; y = p.y; z = start.z }
 
--- where a ray meets the plane across z through `start`, all in the coordinates inside these nodes
+-- where a ray meets the plane through `start` perpendicular to z, in the coordinates inside these
+-- nodes
 abbrev pub tracked : SceneView → List Fields → List ℕ → Vec3 → RayView → Option Vec3
 tracked scene state nodes start ray =
     option_map (λ p. at_height start (inward scene state nodes p))
     (met ray (outward scene state nodes start).z)
 
--- the same in the coordinates of the list at the end of a path
+-- like `tracked`, in the coordinates of the list at the end of a path
 unfoldable pub track_of : SceneView → List Fields → List ℕ → Vec3 → RayView → Option Vec3
 track_of scene state path start ray =
     tracked scene state (nodes_along scene None path) start ray

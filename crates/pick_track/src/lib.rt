@@ -1,12 +1,12 @@
-//! Where a viewer's ray goes while it drags: the way down to the list that holds a sensor, points
-//! taken inwards and outwards along it, and the point where a ray meets the plane of a drag.
+//! Where a viewer's ray goes during a drag: the path down to the list that holds a sensor, points
+//! taken inwards and outwards along this path, and the point where a ray meets the plane of a drag.
 //!
 //! | Module | Has |
 //! |---|---|
 //! | `track` | where a ray meets the plane of a drag, in the sensor's coordinates |
-//! | `paths` | points along a path, the list that it leads to, and a hit's path to a sensor |
+//! | `paths` | points along a path, the list at its end, and how much of a path leads to a sensor |
 //! | `motion` | a point inside and outside a node |
-//! | `laws` | what holds of points |
+//! | `laws` | what holds for points |
 #![tactic(auto)]
 
 mod laws;

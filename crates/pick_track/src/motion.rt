@@ -1,4 +1,4 @@
-//! A point inside and outside a node.
+//! Points inside and outside a node.
 
 ghost use Rattle.std.specs.Prelude.{◌≡◌};
 ghost use Rattle.pick_track.specs.Paths as spec;
@@ -16,7 +16,7 @@ fn is_transform(scene: &Scene, node: u32) -> bool
     }
 }
 
-/// A point round a node, in the coordinates inside it.
+/// Converts a point from the coordinates around a node to those inside it.
 #[tactic(auto, unfolding(crate::specs::Paths::inside))]
 pub(crate) fn inside(scene: &Scene, state: &[Fields], node: u32, at: Vec3) -> Vec3
     ensures { result ≡ spec.inside scene.now state.now node at }
@@ -27,7 +27,7 @@ pub(crate) fn inside(scene: &Scene, state: &[Fields], node: u32, at: Vec3) -> Ve
     moved_back(motion_of(state.get(node as usize)), at)
 }
 
-/// A point inside a node, in the coordinates round it.
+/// Converts a point from the coordinates inside a node to those around it.
 #[tactic(auto, unfolding(crate::specs::Paths::outside))]
 pub(crate) fn outside(scene: &Scene, state: &[Fields], node: u32, at: Vec3) -> Vec3
     ensures { result ≡ spec.outside scene.now state.now node at }

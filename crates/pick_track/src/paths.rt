@@ -1,4 +1,4 @@
-//! The way down a scene to one of its lists.
+//! The path down a scene to one of its lists.
 
 ghost use Rattle.std.specs.Prelude.{◌≡◌, ◌+◌, ◌<◌, None, IfSome};
 ghost use Rattle.std.specs.Option.{option_map};
@@ -10,7 +10,7 @@ use pick_core::is_held;
 use scene_core::Scene;
 use x3d_values::{Fields, Vec3};
 
-/// The list of the roots, or the children of a node.
+/// Returns the list of the roots, or the children of a node.
 #[tactic(auto, unfolding(pick_core::specs::Looks::listed))]
 fn list_of(scene: &Scene, owner: Option<u32>) -> &[u32]
     ensures { result.now ≡ sensors.list_of scene.now owner }
@@ -21,15 +21,15 @@ fn list_of(scene: &Scene, owner: Option<u32>) -> &[u32]
     }
 }
 
-/// Whether a list holds a sensor.
+/// Reports whether a list holds a sensor.
 fn holds(scene: &Scene, owner: Option<u32>, sensor: u32) -> bool
     ensures { result ≡ spec.holds scene.now owner sensor }
 {
     is_held(scene, owner, sensor)
 }
 
-/// A point in the coordinates of a list, as far as the path leads, in those of the list that the
-/// path begins at.
+/// Converts a point from the coordinates of the list at the end of the path to those of the list at
+/// which the path begins. If a position doesn't exist, the path ends before it.
 #[tactic(auto, unfolding(crate::specs::Paths::nodes_along, crate::specs::Paths::outward))]
 fn outward_from(scene: &Scene, state: &[Fields], owner: Option<u32>, path: &[u32], at: Vec3) -> Vec3
     ensures { result
@@ -47,8 +47,8 @@ fn outward_from(scene: &Scene, state: &[Fields], owner: Option<u32>, path: &[u32
     }
 }
 
-/// A point in the coordinates of a list, as far as the path leads, from those of the list that the
-/// path begins at.
+/// Converts a point from the coordinates of the list at which the path begins to those of the list
+/// at its end. If a position doesn't exist, the path ends before it.
 #[tactic(auto, unfolding(crate::specs::Paths::nodes_along, crate::specs::Paths::inward))]
 fn inward_from(scene: &Scene, state: &[Fields], owner: Option<u32>, path: &[u32], at: Vec3) -> Vec3
     ensures { result
@@ -66,8 +66,9 @@ fn inward_from(scene: &Scene, state: &[Fields], owner: Option<u32>, path: &[u32]
     }
 }
 
-/// A point in the coordinates of the list at the end of a path, in the world's. Positions are from
-/// 0, the root's first; where a path leads nowhere, its front counts that leads somewhere.
+/// Converts a point from the coordinates of the list at the end of a path to those of the world.
+/// Positions are counted from 0, the root's first. If a position doesn't exist, the path ends
+/// before it.
 pub fn outward(scene: &Scene, state: &[Fields], path: &[u32], at: Vec3) -> Vec3
     ensures { result
         ≡ spec.outward scene.now state.now (spec.nodes_along scene.now None path.now) at }
@@ -75,7 +76,8 @@ pub fn outward(scene: &Scene, state: &[Fields], path: &[u32], at: Vec3) -> Vec3
     outward_from(scene, state, None, path, at)
 }
 
-/// A point in the world, in the coordinates of the list at the end of a path.
+/// Converts a point from the coordinates of the world to those of the list at the end of a path. If
+/// a position doesn't exist, the path ends before it.
 pub fn inward(scene: &Scene, state: &[Fields], path: &[u32], at: Vec3) -> Vec3
     ensures { result
         ≡ spec.inward scene.now state.now (spec.nodes_along scene.now None path.now) at }
@@ -98,15 +100,15 @@ fn leads_from(scene: &Scene, owner: Option<u32>, path: &[u32], sensor: u32) -> b
     }
 }
 
-/// Whether a path leads from the roots to a list that holds the sensor. The children of a Switch
-/// count as no list of sensors.
+/// Reports whether a path leads from the roots to a list that holds the sensor. The children of a
+/// Switch don't count as a list of sensors.
 pub fn leads_to(scene: &Scene, path: &[u32], sensor: u32) -> bool
     ensures { result ≡ spec.leads_to scene.now None path.now sensor }
 {
     leads_from(scene, None, path, sensor)
 }
 
-/// No more of a path, if the list that it begins at holds the sensor.
+/// Returns depth 0 if the list holds the sensor, otherwise `None`.
 fn if_held(scene: &Scene, owner: Option<u32>, sensor: u32) -> Option<usize>
     ensures { result ≡ spec.if_held scene.now owner sensor }
 {
@@ -116,7 +118,7 @@ fn if_held(scene: &Scene, owner: Option<u32>, sensor: u32) -> Option<usize>
     None
 }
 
-/// One position more, of so many.
+/// Adds 1 to a depth that is below `len`.
 fn deeper(depth: Option<usize>, len: usize) -> Option<usize>
     requires { IfSome depth (λ d. d < len) }
     ensures { result ≡ option_map (λ d. d + 1) depth }
@@ -127,7 +129,8 @@ fn deeper(depth: Option<usize>, len: usize) -> Option<usize>
     }
 }
 
-/// How much of a path leads to the lowest list along it that holds the sensor, if one does.
+/// Returns how many positions of a path lead to the lowest list along it that holds the sensor, or
+/// `None` if there is no such list.
 #[tactic(auto, unfolding(crate::specs::Paths::depth_along))]
 fn depth_from(scene: &Scene, owner: Option<u32>, path: &[usize], sensor: u32) -> Option<usize>
     ensures { result ≡ spec.depth_along scene.now sensor owner path.now }
@@ -148,7 +151,8 @@ fn depth_from(scene: &Scene, owner: Option<u32>, path: &[usize], sensor: u32) ->
     }
 }
 
-/// How many positions of a hit's path lead to the list by which it concerns the sensor, if it does.
+/// Returns how many positions of a hit's path lead to the lowest list along it that holds the
+/// sensor, or `None` if there is no such list.
 pub fn sensor_depth(scene: &Scene, path: &[usize], sensor: u32) -> Option<usize>
     ensures { result ≡ spec.depth_along scene.now sensor None path.now }
 {

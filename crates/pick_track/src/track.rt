@@ -8,8 +8,8 @@ use pick_core::{clamped, quotient};
 use scene_core::Scene;
 use x3d_values::{Fields, Ray, Vec3};
 
-/// Whether a ray that begins at one height and goes so far along z on its way comes to another
-/// height, or begins there.
+/// Reports whether a ray reaches a height. The ray begins at height `from`, and `along` is its
+/// direction along z. If `along` is 0, the ray reaches no height, not even its own.
 fn comes_to(from: i64, along: i64, height: i64) -> bool
     ensures { result ≡ spec.comes_to from along height }
 {
@@ -22,7 +22,7 @@ fn comes_to(from: i64, along: i64, height: i64) -> bool
     from <= height
 }
 
-/// A coordinate of a ray where it comes to a height.
+/// Returns a coordinate of the point where a ray reaches a height.
 #[tactic(auto, unfolding(crate::specs::Track::met_on))]
 fn met_on(origin: i64, dir: i64, from: i64, along: i64, height: i64) -> i64
     ensures { result ≡ spec.met_on origin dir from along height }
@@ -31,7 +31,7 @@ fn met_on(origin: i64, dir: i64, from: i64, along: i64, height: i64) -> i64
     clamped(origin as i128 + quotient(way, along))
 }
 
-/// The point of a ray where it comes to a height.
+/// Returns the point where a ray reaches a height.
 #[tactic(auto, using(pick_core::proofs::Passed::passed))]
 fn met_at(origin: Vec3, dir: Vec3, height: i64) -> Vec3
     ensures { result ≡ spec.met_at origin dir height }
@@ -43,7 +43,7 @@ fn met_at(origin: Vec3, dir: Vec3, height: i64) -> Vec3
     }
 }
 
-/// The point where a ray comes to a height, if it does.
+/// Returns the point where a ray reaches a height, or `None` if the ray doesn't reach it.
 #[tactic(auto, using(pick_core::proofs::Passed::passed), unfolding(crate::specs::Track::met))]
 fn met(ray: Ray, height: i64) -> Option<Vec3>
     ensures { result ≡ spec.met ray height }
@@ -55,10 +55,10 @@ fn met(ray: Ray, height: i64) -> Option<Vec3>
     Some(met_at(origin, dir, height))
 }
 
-/// Where a ray meets the plane of a drag that began at `start`, in the coordinates of the list at
-/// the end of the path, in millionths: the plane across z there through `start`. None where the ray
-/// goes along the plane or away from it. Where the path leads nowhere, its front counts that leads
-/// somewhere.
+/// Returns the point where a ray meets the plane of a drag, or `None` if the ray runs along the
+/// plane or away from it. The drag began at `start`, and its plane goes through `start`
+/// perpendicular to z. `start` and the result are in the coordinates of the list at the end of the
+/// path, in millionths. If a position of the path doesn't exist, the path ends before it.
 #[tactic(auto, unfolding(crate::specs::Track::track_of))]
 pub fn track_point(
     scene: &Scene,

@@ -1,4 +1,4 @@
-//! The box round others, and which boxes a ray enters in time.
+//! The box around others, and which boxes a ray enters before the best hit so far.
 
 ghost use Rattle.std.specs.Prelude.{◌≡◌};
 ghost use Rattle.pick_tree.specs.Passed as spec;
@@ -36,7 +36,7 @@ fn round_two(a: Bounds, b: Bounds) -> Bounds
     }
 }
 
-/// The box round two boxes; where there is one alone, that one.
+/// Returns the box around two boxes. If there is only one box, returns that box.
 pub fn joined(a: Option<Bounds>, b: Option<Bounds>) -> Option<Bounds>
     ensures value { result ≡ spec.joined a b }
     ensures first { IsIn a result }
@@ -51,7 +51,8 @@ pub fn joined(a: Option<Bounds>, b: Option<Bounds>) -> Option<Bounds>
     }
 }
 
-/// Whether a place along a ray is nearer than the best so far: each is, where there is none.
+/// Reports whether a place along a ray is strictly nearer than the best so far. If there is no
+/// best, every place is nearer.
 pub fn is_before(at: Fraction, best: Option<Fraction>) -> bool
     ensures { result ≡ spec.is_before at best }
 {
@@ -61,7 +62,8 @@ pub fn is_before(at: Fraction, best: Option<Fraction>) -> bool
     }
 }
 
-/// Whether the ray enters the box at a place that is nearer than the best so far.
+/// Reports whether the ray enters the box at a place strictly nearer than the best so far. Returns
+/// false if there is no box.
 #[tactic(auto, unfolding(crate::specs::Passed::enters_before))]
 pub fn enters_before(cover: Option<Bounds>, ray: Ray, best: Option<Fraction>) -> bool
     ensures { result ≡ spec.enters_before cover ray best }

@@ -1,8 +1,9 @@
-//! What holds of boxes inside others.
+//! Laws about boxes inside others.
 
 ghost use Rattle.pick_tree.specs.Tree.{PassedInside};
 
-/// A ray that enters a box nowhere before the best so far enters no box inside it before that.
+/// Proves that if a ray doesn't enter a box before the best so far, it doesn't enter a box inside
+/// that box before the best either.
 pub fn passed_inside_law()
     ensures { PassedInside }
 {}

@@ -1,8 +1,9 @@
-//! Boxes round runs of boxes, so that a ray that enters the outer one too late looks at none
+//! Boxes around runs of boxes, so that a ray that enters the outer box too late looks at no box
 //! inside.
 //!
-//! `cover` has the box round others and which boxes a ray enters before the best so far, `tree` the
-//! runs of 16 and the groups of these, `laws` what holds of boxes inside others.
+//! `cover` has the box around others and which boxes a ray enters before the best so far, `tree`
+//! has the runs of 16 boxes and the groups of 16 runs, and `laws` has what holds for boxes inside
+//! others.
 #![tactic(auto)]
 
 mod cover;

@@ -1,4 +1,4 @@
-//! Runs of boxes, and runs of these.
+//! Runs of boxes, and groups of runs.
 
 ghost use Rattle.std.specs.Prelude.{◌≡◌, ◌*◌, ◌≤◌, ◌/◌, ℕ, List, Option, length, true, false, Some, slice_get, IfOk};
 ghost use Rattle.pick_rules.specs.declared.bounds.Bounds.{Bounds as BoundsOf};
@@ -10,21 +10,22 @@ use pick_rules::{Bounds, Fraction};
 use std::alloc::{AllocError, Global};
 use x3d_values::Ray;
 
-/// How many boxes a run has, and how many runs a group.
+/// The number of boxes in a run, and of runs in a group.
 pub const WIDTH: usize = 16;
 
-/// How many boxes a group has.
+/// The number of boxes in a group.
 const GROUP: usize = 256;
 
-/// The box round each run of 16 boxes of a list, and round each group of 16 runs; none where it has
-/// no box.
+/// The box around each run of 16 boxes of a list, and around each group of 16 runs; `None` for a
+/// run or group that has no box.
 #[derive(Drop)]
 pub struct Tree {
     pub runs: Vec<Option<Bounds>>,
     pub groups: Vec<Option<Bounds>>,
 }
 
-/// Room for the runs of so many boxes, with no box in it.
+/// Creates a tree with room for the runs of `many` boxes, with no box in it. Fails if memory runs
+/// out.
 pub fn empty_tree(alloc: Global, many: usize) -> Result<Tree, AllocError>
     ensures runs { IfOk result (λ tree. many ≤ 16 * length tree.runs.items) }
     ensures groups { IfOk result (λ tree. spec.IsOver tree.groups.items tree.runs.items) }
@@ -37,7 +38,7 @@ pub fn empty_tree(alloc: Global, many: usize) -> Result<Tree, AllocError>
     })
 }
 
-/// The box round all boxes of a run.
+/// Returns the box around all boxes of a run.
 fn box_round(lower: &[Option<Bounds>], run: usize) -> Option<Bounds>
     ensures { (n : ℕ) (b : Option BoundsOf) → slice_get lower.now n ≡ Some b → spec.IsOf n run
         → spec.IsIn b result }
@@ -55,8 +56,7 @@ fn box_round(lower: &[Option<Bounds>], run: usize) -> Option<Bounds>
     outer
 }
 
-/// The boxes of the groups then are round their runs again, where the runs from `first` to `last`
-/// have changed.
+/// Updates the boxes of the groups after the boxes of the runs from `first` to `last` have changed.
 pub fn renew_groups(
     runs: &[Option<Bounds>],
     first: usize,
@@ -82,7 +82,8 @@ fn box_at(boxes: &[Option<Bounds>], at: usize) -> Option<Option<Bounds>>
     boxes.get(at).copied()
 }
 
-/// Whether the ray doesn't enter in time what stands at a place, a box or none.
+/// Reports whether the list has place `at` and the ray doesn't enter the box there before the best
+/// so far. If there is no box at the place, the ray enters none.
 fn is_passed(boxes: &[Option<Bounds>], at: usize, ray: Ray, best: Option<Fraction>) -> bool
     ensures { result ≡ true → spec.IsPassed boxes.now at ray best }
 {
@@ -92,7 +93,7 @@ fn is_passed(boxes: &[Option<Bounds>], at: usize, ray: Ray, best: Option<Fractio
     !enters_before(outer, ray, best)
 }
 
-/// Whether a group begins at a place that the ray doesn't enter in time.
+/// Reports whether a group begins at place `at` that the ray doesn't enter before the best so far.
 fn is_group_passed(groups: &[Option<Bounds>], at: usize, ray: Ray, best: Option<Fraction>) -> bool
     ensures { result ≡ true → (at ≡ 256 * (at / 256))
         × spec.IsPassed groups.now (at / 256) ray best }
@@ -103,8 +104,8 @@ fn is_group_passed(groups: &[Option<Bounds>], at: usize, ray: Ray, best: Option<
     is_passed(groups, at / GROUP, ray, best)
 }
 
-/// How many boxes from a place on the ray enters nowhere before the best so far, as the boxes round
-/// them tell; 0 where these don't tell.
+/// Returns how many boxes, from place `at` on, the ray enters nowhere before the best so far,
+/// judged by the boxes of the tree. Returns 0 if the tree doesn't show this.
 pub fn passed(tree: &Tree, at: usize, ray: Ray, best: Option<Fraction>) -> usize
     ensures { (boxes : List (Option BoundsOf)) → spec.IsTreeOf tree.now boxes
         → spec.ArePassed boxes at result ray best }

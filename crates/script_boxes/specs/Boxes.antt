@@ -1,4 +1,4 @@
--- The boxes that are made for scripts (our choice of kinds).
+-- The boxes that are created for scripts (our choice of kinds).
 use Rattle.std.specs.Prelude.{ℤ, pos, false, List, [], ◌∷◌, Option, Some, None}
 use Rattle.std.specs.List.{filter_map}
 use Rattle.std.specs.Option.{option_map}
@@ -19,7 +19,7 @@ stock_kind (stock.Batch state) = kinds.Batch
 stock_kind (stock.Mover state) = kinds.Mover
 stock_kind (stock.Meter state) = kinds.Meter
 
--- a script of the stock is its state
+-- a script of the stock means its state
 abbrev pub stock_state : StockScript → List ℤ
 stock_state (stock.Counter state) = state
 stock_state (stock.Gate state) = state
@@ -28,11 +28,11 @@ stock_state (stock.Batch state) = state
 stock_state (stock.Mover state) = state
 stock_state (stock.Meter state) = state
 
--- a box that was made, before it is initialized
+-- a new box, not initialized
 abbrev pub made_of : StockScript → SlotView
 made_of script = fresh_record stock_kind stock_state script
 
--- the state of a script that isn't told its start
+-- the state of a script whose start state isn't given
 abbrev pub zeros : Kind → List ℤ
 zeros kinds.Counter = pos 0 ∷ pos 0 ∷ []
 zeros kinds.Gate = pos 0 ∷ []
@@ -41,7 +41,7 @@ zeros kinds.Batch = pos 0 ∷ []
 zeros kinds.Mover = pos 0 ∷ pos 0 ∷ pos 0 ∷ pos 0 ∷ pos 0 ∷ pos 0 ∷ []
 zeros kinds.Meter = []
 
--- the start that was asked for, unless it is no state of the kind
+-- the start state that was asked for, or zeros if it is not a state of the kind
 abbrev pub start_or_zeros : Kind → List ℤ → Option StateFault → List ℤ
 start_or_zeros kind start None = start
 start_or_zeros kind start (Some fault) = zeros kind
@@ -54,7 +54,7 @@ made kind start = record {
   initialized = false;
 }
 
--- the box of a script, where its kind is known
+-- the box of a script, if its kind is known
 abbrev pub made_for : ScriptSpec → Option SlotView
 made_for asked = option_map (λ (kind : Kind). made kind asked.start) asked.kind
 

@@ -1,4 +1,4 @@
-//! An adder: it sends the sum of its two terms.
+//! An adder: sends the sum of its two terms.
 
 ghost use Rattle.std.specs.Prelude.{◌≡◌, ◌∷◌, [], pos, None, Some, IfOk, OnOk, IfErr};
 ghost use Rattle.script_host.specs.States.{adder_fault};
@@ -20,7 +20,7 @@ const B: u32 = 1;
 /// The output `sum`.
 const SUM: u32 = 0;
 
-/// Both terms are of a size of up to 10^15 millionths.
+/// An adder. Both terms are at most 10^15 millionths in absolute value.
 #[derive(Debug, Drop)]
 pub struct Adder {
     a: i64,
@@ -39,6 +39,7 @@ impl Model for Adder {
 }
 
 impl Adder {
+    /// Creates an adder whose terms are 0.
     pub fn new() -> Adder
         ensures { result ≡ pos 0 ∷ pos 0 ∷ [] }
     {

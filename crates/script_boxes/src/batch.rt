@@ -1,5 +1,5 @@
-//! A batch: it counts the items of a timestamp, and sends their number when its events were
-//! processed.
+//! A batch: counts the items of a timestamp, and sends their number after the timestamp's events
+//! were processed.
 
 ghost use Rattle.std.specs.Prelude.{◌≡◌, ◌∷◌, [], pos, None, Some, IfOk, OnOk, IfErr};
 ghost use Rattle.script_host.specs.States.{batch_fault};
@@ -23,7 +23,7 @@ const ANY: u32 = 1;
 /// TRUE as a number.
 const TRUE: i64 = 1;
 
-/// The number of pending items is at least 0.
+/// A batch. The number of pending items is at least 0.
 #[derive(Debug, Drop)]
 pub struct Batch {
     pending: i32,
@@ -41,6 +41,7 @@ impl Model for Batch {
 }
 
 impl Batch {
+    /// Creates a batch without pending items.
     pub fn new() -> Batch
         ensures { result ≡ pos 0 ∷ [] }
     {

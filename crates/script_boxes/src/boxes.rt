@@ -1,4 +1,4 @@
-//! A box for each script that is asked for.
+//! Boxes for the scripts that a scene asks for.
 
 ghost use Rattle.std.specs.Prelude.{◌≡◌, ◌⊎◌, ◌++◌, List, [], IfOk, IfErr, None, OnOk, Some, map};
 ghost use Rattle.std.specs.List.{cons_option};
@@ -21,7 +21,8 @@ use x3d_values::{Kind, ScriptSpec, Vec3};
 
 const ORIGIN: Vec3 = Vec3 { x: 0, y: 0, z: 0 };
 
-/// A script of the kind that isn't told its start.
+/// Creates a script of the kind whose start state isn't given: all its numbers are 0, and a meter
+/// has no readings. Fails only for a meter, if memory runs out.
 pub fn blank_box(alloc: Global, kind: Kind) -> Result<StockScript, AllocError>
     ensures kind { IfOk result (λ script. stock_kind script ≡ kind) }
     ensures zeros { IfOk result (λ script. stock_state script ≡ zeros kind) }
@@ -36,7 +37,8 @@ pub fn blank_box(alloc: Global, kind: Kind) -> Result<StockScript, AllocError>
     }
 }
 
-/// A script of the kind in this state, where it is one of the kind.
+/// Creates a script of the kind in state `start`, or with zeros if `start` isn't a state of the
+/// kind.
 fn started(alloc: Global, kind: Kind, start: &[i64]) -> Result<StockScript, AllocError>
     ensures { IfOk result (λ script. made_of script ≡ made kind start.now) }
 {
@@ -49,7 +51,7 @@ fn started(alloc: Global, kind: Kind, start: &[i64]) -> Result<StockScript, Allo
     }
 }
 
-/// Appends the box of a script, where its kind is known.
+/// Appends the box of a script if its kind is known.
 fn push_box(
     alloc: Global,
     spec: &ScriptSpec,
@@ -65,8 +67,8 @@ fn push_box(
     Ok(())
 }
 
-/// A box for each script whose kind is known, in the state in which it starts; with zeros where
-/// that is no state of its kind.
+/// Creates a box for each script whose kind is known, in the script's start state. If that isn't a
+/// state of its kind, the box has zeros. Fails if memory runs out.
 pub fn boxes_of(alloc: Global, specs: &[ScriptSpec]) -> Result<Vec<StockScript>, AllocError>
     ensures { IfOk result (λ boxes. map made_of boxes.items ≡ stock_for specs.now) }
 {
@@ -77,9 +79,11 @@ pub fn boxes_of(alloc: Global, specs: &[ScriptSpec]) -> Result<Vec<StockScript>,
     Ok(boxes)
 }
 
-/// The scripts that are asked for, with boxes of the stock, which are not initialized. They are
-/// refused for memory, or else for the first whose kind is unknown, and then for the first whose
-/// interface isn't that of its kind, or that is to start in no state of its kind.
+/// Creates the scripts that are asked for, in boxes of the stock. None of them is initialized.
+/// Fails with `Memory` if memory runs out, otherwise with `UnknownScript` for the first script of
+/// an unknown kind. If all kinds are known, the first script that doesn't fit its kind is reported:
+/// with `InterfaceMismatch` if its interface isn't that of its kind, or with `StartMismatch` if its
+/// start state isn't a state of its kind.
 pub fn attach_stock(
     alloc: Global,
     specs: &[ScriptSpec],

@@ -19,6 +19,7 @@ const COUNT: u32 = 0;
 /// TRUE as a number.
 const TRUE: i64 = 1;
 
+/// A counter: its count, and the step that it adds.
 #[derive(Debug, Drop)]
 pub struct Counter {
     count: i32,
@@ -34,6 +35,7 @@ impl Model for Counter {
 }
 
 impl Counter {
+    /// Creates a counter with this count and this step.
     pub fn new(start: i32, step: i32) -> Counter
         ensures { result ≡ start ∷ step ∷ [] }
     {

@@ -1,4 +1,4 @@
-//! A gate: it passes pulses on while it is open.
+//! A gate: passes pulses on while it is open.
 
 ghost use Rattle.std.specs.Prelude.{◌≡◌, ◌∷◌, [], pos, None, Some, IfOk, OnOk, IfErr, cond, if◌then◌else◌};
 ghost use Rattle.script_host.specs.States.{gate_fault};
@@ -22,6 +22,7 @@ const IS_OPEN: u32 = 0;
 /// The output `passed`.
 const PASSED: u32 = 1;
 
+/// A gate, open or closed.
 #[derive(Debug, Drop)]
 pub struct Gate {
     open: bool,
@@ -36,6 +37,7 @@ impl Model for Gate {
 }
 
 impl Gate {
+    /// Creates a gate, open if `start_open`.
     pub fn new(start_open: bool) -> Gate
         ensures { result ≡ (if start_open then pos 1 else pos 0) ∷ [] }
     {

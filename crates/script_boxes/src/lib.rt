@@ -1,9 +1,9 @@
-//! The stock: the kinds of scripts that this core runs, each as a handler of its own, and the boxes
-//! of the scripts that a scene asks for, each one of these.
+//! The stock: a handler for each kind of script that this core runs, and the boxes for the scripts
+//! that a scene asks for.
 //!
-//! `adder`, `batch`, `counter`, `gate`, `meter` and `mover` are the kinds, `stock` is a script of
-//! one of them, `boxes` makes one for each script that is asked for, and `laws` says that they are
-//! the only ones that fit.
+//! `adder`, `batch`, `counter`, `gate`, `meter` and `mover` are the kinds. `stock` is a script of
+//! any one of these kinds. `boxes` creates a box for each script that is asked for. `laws` says
+//! that no other stock boxes fit.
 #![tactic(auto)]
 
 mod adder;

@@ -1,4 +1,4 @@
-//! A meter: it sends the mean of its last readings.
+//! A meter: sends the mean of its last readings.
 
 ghost use Rattle.std.specs.Prelude.{◌≡◌, ◌≤◌, ◌<◌, ◌∷◌, ◌++◌, [], length, vec_len, vec_capacity, None, Some, IsTrue, IfOk, OnOk, IfErr};
 ghost use Rattle.std.specs.List.{list_all};
@@ -20,11 +20,11 @@ const READING: u32 = 0;
 /// The output `mean`.
 const MEAN: u32 = 0;
 
-/// How many readings are kept.
+/// The most readings that are kept.
 const MAX_READINGS: usize = 8;
 
-/// The last readings, oldest first: at most 8, of sizes up to 10^15 millionths. There is room for
-/// 8, so that a reading takes no memory.
+/// The last readings, oldest first: at most 8, each at most 10^15 millionths in absolute value.
+/// There is room for 8, so a reading allocates nothing.
 #[derive(Debug, Drop)]
 pub struct Meter {
     readings: Vec<i64>,
@@ -51,7 +51,7 @@ fn all_fit(readings: &[i64]) -> bool
     readings.iter().all(|reading| coordinate_fits(*reading))
 }
 
-/// Whether a list of numbers is a state.
+/// Checks that a list of numbers is a state of a meter; returns why it isn't.
 fn check(state: &[i64]) -> Result<(), StateFault>
     ensures ok { OnOk result (meter_fault state.now ≡ None) }
     ensures err { IfErr result (λ fault. meter_fault state.now ≡ Some fault) }
@@ -65,7 +65,7 @@ fn check(state: &[i64]) -> Result<(), StateFault>
     Ok(())
 }
 
-/// Appends a reading, and drops the oldest of more than 8.
+/// Appends a reading, and drops the oldest if there are more than 8.
 fn keep(readings: &mut Vec<i64>, reading: i64)
     requires few { vec_len readings.old ≤ 8 }
     requires room { 8 ≤ vec_capacity readings.old }
@@ -84,6 +84,7 @@ fn keep(readings: &mut Vec<i64>, reading: i64)
 }
 
 impl Meter {
+    /// Creates a meter without readings. Fails if memory runs out.
     pub fn new(alloc: Global) -> Result<Meter, AllocError>
         ensures { IfOk result (λ meter. meter ≡ []) }
     {

@@ -1,4 +1,4 @@
-//! A mover: it turns fractions into places between two places.
+//! A mover: turns fractions into places between two places.
 
 ghost use Rattle.std.specs.Prelude.{◌≡◌, ◌∷◌, [], None, Some, IfOk, OnOk, IfErr, IsTrue};
 ghost use Rattle.script_host.specs.Behaviour.{part_way};
@@ -19,7 +19,7 @@ const FRACTION: u32 = 0;
 /// The output `position`.
 const POSITION: u32 = 0;
 
-/// All coordinates are of sizes up to 10^15 millionths.
+/// A mover. All coordinates are at most 10^15 millionths in absolute value.
 #[derive(Debug, Drop)]
 pub struct Mover {
     from: Vec3,
@@ -37,7 +37,7 @@ impl Model for Mover {
     ghost invariant = { λ m. IsTrue (coordinates_fit m.from && coordinates_fit m.to) };
 }
 
-/// What is sent at a fraction of the way between two places.
+/// Returns what is sent for a fraction, in millionths, of the way between two places.
 fn position(fraction: i64, from: Vec3, to: Vec3) -> Reply
     ensures output { result.output ≡ 0 }
     ensures numbers { result.numbers ≡
@@ -57,7 +57,7 @@ fn position(fraction: i64, from: Vec3, to: Vec3) -> Reply
 }
 
 impl Mover {
-    /// `Vec3::fits` is the test of a place.
+    /// Creates a mover between two places. `Vec3::fits` tests that a place is in range.
     pub fn new(from: Vec3, to: Vec3) -> Mover
         requires from { IsTrue (coordinates_fit from) }
         requires to { IsTrue (coordinates_fit to) }

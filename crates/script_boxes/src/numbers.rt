@@ -1,28 +1,29 @@
-//! Numbers that are rounded down and kept in their range.
+//! Arithmetic that rounds down and clamps its results.
 
 ghost use Rattle.std.specs.Prelude.{◌≡◌, ◌≤◌, ◌<◌, ◌+ℤ◌, length, IsTrue};
 ghost use Rattle.std.specs.List.{list_all};
 ghost use Rattle.script_host.specs.Behaviour.{clamped, part_way, mean};
 ghost use Rattle.x3d_values.specs.Ranges.{coordinate_fits};
 
-/// The largest size of a number, in millionths.
+/// The largest absolute value of a number, in millionths.
 const LIMIT: i128 = x3d_values::MAX_COORDINATE as i128;
 
-/// A number, or the nearest one of a size of up to 10^15.
+/// Returns the nearest number whose absolute value is at most 10^15.
 fn clamped(number: i128) -> i64
     ensures { result ≡ clamped number }
 {
     number.clamp(-LIMIT, LIMIT) as i64
 }
 
-/// A sum, in its range.
+/// Returns the sum, clamped to an absolute value of at most 10^15.
 pub fn clamped_sum(a: i64, b: i64) -> i64
     ensures { result ≡ clamped (a +ℤ b) }
 {
     clamped(a as i128 + b as i128)
 }
 
-/// A fraction, in millionths, of the way from one number to another, rounded down.
+/// Returns the number at a fraction, in millionths, of the way from one number to another, rounded
+/// down and clamped to an absolute value of at most 10^15.
 pub fn part_way(fraction: i64, from: i64, to: i64) -> i64
     ensures { result ≡ part_way fraction from to }
 {
@@ -30,7 +31,7 @@ pub fn part_way(fraction: i64, from: i64, to: i64) -> i64
     clamped(from as i128 + product.div_euclid(1_000_000))
 }
 
-/// The mean of at most 8 numbers, rounded down.
+/// Returns the mean of 1 to 8 numbers, rounded down.
 pub fn mean(readings: &[i64]) -> i64
     requires some { 0 < length readings.now }
     requires few { length readings.now ≤ 8 }

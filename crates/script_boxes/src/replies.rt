@@ -4,7 +4,7 @@ ghost use Rattle.std.specs.Prelude.{◌≡◌, [], ◌∷◌};
 
 use script_host::{Replies, Reply};
 
-/// One reply.
+/// Returns a list of one reply.
 pub fn one(reply: Reply) -> Replies
     ensures { result.items ≡ reply ∷ [] }
 {
@@ -13,7 +13,7 @@ pub fn one(reply: Reply) -> Replies
     replies
 }
 
-/// Two replies, in order.
+/// Returns a list of two replies, in order.
 pub fn two(first: Reply, second: Reply) -> Replies
     ensures { result.items ≡ first ∷ second ∷ [] }
 {

@@ -1,4 +1,4 @@
-//! A script of the stock, whichever its kind is.
+//! A script of the stock, of any kind.
 
 use crate::adder::Adder;
 use crate::batch::Batch;
@@ -10,7 +10,7 @@ use script_host::{Behaviour, Replies, StateFault};
 use std::alloc::AllocError;
 use x3d_values::Kind;
 
-/// A script of one of the six kinds: each call goes to the one that it is.
+/// A script of one of the six kinds. Each call is forwarded to the script inside.
 #[derive(Drop)]
 pub enum StockScript {
     Counter(Counter),

@@ -10,8 +10,8 @@ use Rattle.script_host.specs.Hosting.{SlotView}
 pub use Rattle.script_slots.specs.Asked.{KnownBelow}
 use Rattle.script_host.specs.Pairs.{PairAt, PairsBelow}
 
--- a box is what its script asks for: of its kind, for an interface that fits, in the state in which
--- it starts
+-- a box is what its script asks for: it is of the script's kind, the interface fits, and its state
+-- is the one in which the script starts
 pub record Meets (s : ScriptSpec) (r : SlotView) : Type 0 where
   pub kind : s.kind ≡ Some r.kind
   pub interface : s.fits ≡ true
@@ -23,7 +23,8 @@ pub record Fits (specs : List ScriptSpec) (boxes : List SlotView) : Type 0 where
   pub count : length specs ≡ length boxes
   pub meet : PairsBelow Meets specs boxes (length specs)
 
--- all kinds are known, there are as many boxes as scripts, those before k meet, and P holds at k
+-- all kinds are known, there are as many boxes as scripts, the boxes before k are what their
+-- scripts ask for, and P holds at k
 pub record FirstAt (P : ScriptSpec → SlotView
     → Type 0) (specs : List ScriptSpec) (boxes : List SlotView) (k : ℕ) : Type 0 where
   pub known : KnownBelow specs (length specs)
@@ -31,20 +32,20 @@ pub record FirstAt (P : ScriptSpec → SlotView
   pub before : PairsBelow Meets specs boxes k
   pub here : PairAt P specs boxes k
 
--- of another kind
+-- the box is of another kind
 abbrev pub IsOther : ScriptSpec → SlotView → Type 0
 IsOther s r = s.kind ≢ Some r.kind
 
--- of the kind, but for an interface that doesn't fit
+-- the box is of the kind, but the interface doesn't fit
 abbrev pub IsUnfit : ScriptSpec → SlotView → Type 0
 IsUnfit s r = (s.kind ≡ Some r.kind) × (s.fits ≡ false)
 
--- of the kind, but in another state
+-- the box is of the kind and the interface fits, but its state is another
 abbrev pub IsElsewhere : ScriptSpec → SlotView → Type 0
 IsElsewhere s r = (s.kind ≡ Some r.kind) × (s.fits ≡ true) × (r.state ≢ s.start)
 
--- the fault that is answered: unknown kinds first, then the number of boxes, then the first box
--- that doesn't meet
+-- the fault that is reported: unknown kinds first, then the number of boxes, then the first box
+-- that isn't what its script asks for
 abbrev pub Refuses : AttachFault → List ScriptSpec → List SlotView → Type 0
 Refuses (UnknownScript k) specs boxes = KnownBelow specs k
     × IsSomeAnd (slice_get specs k) (λ s. s.kind ≡ None)
@@ -61,7 +62,7 @@ IsMismatch (InterfaceMismatch j) k s r = (j ≡ k) × IsUnfit s r
 IsMismatch (StartMismatch j) k s r = (j ≡ k) × IsElsewhere s r
 IsMismatch _ k s r = ⊥
 
--- why a box of this kind doesn't take the place of a script
+-- why a box of this kind can't replace the box of a script
 abbrev pub RefusesPlace : ReplaceFault → Option SlotView → Kind → Type 0
 RefusesPlace replace.NoSuchScript place kind = place ≡ None
 RefusesPlace replace.KindDiffers place kind = IsSomeAnd place (λ r. kind ≢ r.kind)

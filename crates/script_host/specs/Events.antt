@@ -1,2 +1,2 @@
--- What scripts may be given: the definitions of script_slots.
+-- Which events scripts take: the definitions of script_slots.
 pub use Rattle.script_slots.specs.Events.{truth_fits, number_fits, event_fits, takes_event}

@@ -6,11 +6,11 @@ use Rattle.script_host.specs.Behaviour.{behave, Call}
 use Rattle.script_host.specs.Interface.{outputs}
 use Rattle.script_slots.specs.declared.reply.Reply.{Reply}
 
--- all replies leave from outputs of the kind
+-- all replies are sent from outputs of the kind
 abbrev pub leave_by_outputs : Kind → List Reply → Bool
 leave_by_outputs kind replies = list_all (λ r. nat_lt r.output (length (outputs kind))) replies
 
--- every call on every state sends from outputs of the kind alone
+-- every call in every state sends only from outputs of the kind
 abbrev pub SendsByOutputs : Type 0
 SendsByOutputs = (kind : Kind) (call : Call) (state : List ℤ)
     → IsTrue (leave_by_outputs kind (behave kind call state).replies)

@@ -1,7 +1,7 @@
--- Two lists, place by place.
+-- Two lists compared place by place.
 use Rattle.std.specs.Prelude.{ℕ, ◌<◌, List, slice_get, IsSomeAnd}
 
--- P holds of what stands at place k of both lists
+-- both lists have a place k, and P holds of the two items there
 abbrev pub PairAt : {X Y : Type 0} → (X → Y → Type 0) → List X → List Y → ℕ → Type 0
 PairAt P xs ys k = IsSomeAnd (slice_get xs k) (λ x. IsSomeAnd (slice_get ys k) (λ y. P x y))
 

@@ -1,4 +1,4 @@
--- How scripts are given states that were kept.
+-- How scripts are put into saved states.
 use Rattle.std.specs.Prelude.{◌≡◌, ◌≢◌, ◌⊎◌, ℕ, ℤ, List, [], ◌∷◌, length, take, Some, None}
 use Rattle.script_slots.specs.declared.fault.StateFault.{StateFault}
 use Rattle.script_slots.specs.declared.fault.StateFault.TheVariants.{StateLength, StateRange, Memory}
@@ -15,8 +15,8 @@ pub record AreStates (rs : List SlotView) (states : List (List ℤ)) : Type 0 wh
   pub count : length rs ≡ length states
   pub fit : PairsBelow IsStateOf rs states (length rs)
 
--- there are as many lists as scripts, those before some k are states, and the one at k is refused
--- for this fault
+-- there are as many lists as scripts, those before some k are states of their scripts, and the one
+-- at k is refused with this fault
 pub record IsFirstFault (fault : StateFault) (rs : List SlotView)
     (states : List (List ℤ)) : Type 0 where
   pub count : length rs ≡ length states
@@ -24,13 +24,13 @@ pub record IsFirstFault (fault : StateFault) (rs : List SlotView)
   pub before : PairsBelow IsStateOf rs states at
   pub here : PairAt (λ r state. state_fault r.kind state ≡ Some fault) rs states at
 
--- the first scripts have these states, the others their own
+-- the first scripts have these states, the others keep their own
 abbrev pub with_states : List SlotView → List (List ℤ) → List SlotView
 with_states rs [] = rs
 with_states [] (state ∷ states) = []
 with_states (r ∷ rs) (state ∷ states) = record r { state = state } ∷ with_states rs states
 
--- why states are refused, and what stands then: where memory was refused some scripts have their
+-- why states are refused, and the scripts afterwards: if memory ran out, some scripts have their
 -- new states
 abbrev pub RefusesStates : StateFault → List SlotView → List (List ℤ) → List SlotView
     → Type 0

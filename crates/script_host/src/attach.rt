@@ -1,4 +1,4 @@
-//! Whether boxes are those that a world's scripts ask for.
+//! Checks whether boxes are those that a world's scripts ask for.
 
 ghost use Rattle.std.specs.Prelude.{◌≡◌, ◌↔◌, length, map, IsTrue, IfErr, IfOk, IsOkUnless, OnOk, MatchOption, Some, None};
 ghost use Rattle.script_host.specs.Attaching.{KnownBelow, Meets, IsMismatch, Fits, Refuses};
@@ -10,7 +10,8 @@ use script_slots::{Behaviour, are_as_many, first_unknown, starts_in};
 use std::alloc::{AllocError, Global};
 use x3d_values::{Kind, ScriptSpec};
 
-/// Whether the boxes are those that a world's scripts ask for.
+/// Checks that the boxes are those that a world's scripts ask for. Otherwise returns the first
+/// fault, or `Memory` if memory runs out.
 pub fn check<B: Behaviour>(
     alloc: Global,
     specs: &[ScriptSpec],
@@ -41,7 +42,8 @@ fn is_of_kind(spec: &ScriptSpec, kind: Kind) -> bool
     spec.kind == Some(kind)
 }
 
-/// Why the box at place `k` isn't what its script asks for. `state` is room to work in.
+/// Returns why the box at place `k` isn't what its script asks for, or `None` if it is. `state` is
+/// scratch space.
 fn mismatch<B: Behaviour>(
     k: usize,
     spec: &ScriptSpec,
@@ -67,7 +69,7 @@ fn mismatch<B: Behaviour>(
     }
 }
 
-/// The fault of the first box that isn't what its script asks for.
+/// Returns the fault of the first box that isn't what its script asks for, if there is one.
 fn first_mismatch<B: Behaviour>(
     alloc: Global,
     specs: &[ScriptSpec],

@@ -1,4 +1,4 @@
-//! What scripts may be given.
+//! Which events scripts take.
 
 ghost use Rattle.std.specs.Prelude.{◌≡◌, slice_get};
 ghost use Rattle.script_host.specs.Events.{number_fits, event_fits, takes_event};
@@ -6,7 +6,7 @@ ghost use Rattle.script_host.specs.Events.{number_fits, event_fits, takes_event}
 use crate::kinds::inputs;
 use x3d_values::{FieldType, Kind, coordinate_fits};
 
-/// The largest size of a time, in microseconds.
+/// The largest absolute value of a time, in microseconds.
 const MAX_TIME: u64 = x3d_values::MAX_TIME as u64;
 
 fn number_fits(field_type: FieldType, number: i64) -> bool
@@ -27,7 +27,8 @@ fn event_fits(field_type: FieldType, event: [i64; 3]) -> bool
     number_fits(field_type, first) && second == 0 && third == 0
 }
 
-/// Whether an event is a value of the type of that input; an input that the kind lacks takes any.
+/// Reports whether an event is a value of the type of input `input`. An input that the kind doesn't
+/// have takes any event.
 pub fn takes_event(kind: Kind, input: u32, event: [i64; 3]) -> bool
     ensures { result ≡ takes_event kind input event }
 {

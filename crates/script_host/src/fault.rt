@@ -1,4 +1,4 @@
-//! What is refused, and why.
+//! Why boxes are refused.
 
 ghost use Rattle.std.specs.Prelude.{◌≡◌};
 ghost use Rattle.script_host.specs.Faults.{attach_fault_name, replace_fault_name};
@@ -9,8 +9,9 @@ use std::alloc::{AllocError, AllocFailed};
 use std::fmt;
 use thiserror::Error;
 
-/// Why boxes are not those of a world's scripts. Scripts of unknown kinds come first, then the
-/// number of boxes, then the first box that isn't what its script asks for, with its place from 0.
+/// Why boxes are not those of a world's scripts. The first script of an unknown kind is reported
+/// first, then a wrong number of boxes, then the first box that isn't what its script asks for. The
+/// number is the script's place, from 0.
 #[derive(Clone, Copy, Debug, PartialEq, Eq, Error)]
 pub enum AttachFault {
     #[error("the kind of script {0} is unknown")]
@@ -28,6 +29,7 @@ pub enum AttachFault {
 }
 
 impl AttachFault {
+    /// Returns the name of the fault.
     pub fn name(self) -> &'static str
         ensures { result.now ≡ attach_fault_name self }
     {
@@ -50,7 +52,7 @@ impl From<AllocError> for AttachFault {
     }
 }
 
-/// Why a box doesn't take the place of a script's box. The first that holds is told.
+/// Why a box doesn't replace a script's box. The first fault that applies is reported.
 #[derive(Clone, Copy, Debug, PartialEq, Eq, Error)]
 pub enum ReplaceFault {
     #[error("there is no such script")]
@@ -62,6 +64,7 @@ pub enum ReplaceFault {
 }
 
 impl ReplaceFault {
+    /// Returns the name of the fault.
     pub fn name(self) -> &'static str
         ensures { result.now ≡ replace_fault_name self }
     {

@@ -1,4 +1,4 @@
-//! The kinds of scripts by their words, and the fields that the Script of each declares.
+//! The kinds of scripts by their words, and the fields that a Script of each kind declares.
 
 ghost use Rattle.std.specs.Prelude.{◌≡◌, ◌≤◌, length, map};
 ghost use Rattle.x3d_values.specs.Tables.{entry};
@@ -51,7 +51,7 @@ static KINDS: [Kind; 6] = [
     Kind::Meter,
 ];
 
-// Of each kind the inputs come first, and the outputs last.
+// In each table the inputs come first and the outputs last.
 
 static COUNTER: [Field; 4] = [
     input!("tick", SFBool),
@@ -89,7 +89,7 @@ static MOVER: [Field; 4] = [
 
 static METER: [Field; 2] = [input!("reading", SFFloat), output!("mean", SFFloat)];
 
-/// The word by which a Script asks for the kind.
+/// Returns the word by which a Script asks for the kind.
 fn kind_word(kind: Kind) -> &'static str
     ensures { result.now ≡ kind_word kind }
 {
@@ -103,14 +103,14 @@ fn kind_word(kind: Kind) -> &'static str
     }
 }
 
-/// The kind of that word; none where the word is not known.
+/// Returns the kind with that word, or `None` if the word is unknown.
 pub fn kind_named(word: &str) -> Option<Kind>
     ensures { result ≡ kind_named word.now }
 {
     first_kind(&KINDS, word)
 }
 
-/// The first of these kinds that has the word.
+/// Returns the first of these kinds that has the word.
 fn first_kind(kinds: &[Kind], word: &str) -> Option<Kind>
     ensures { result ≡ first_kind word.now kinds.now }
 {
@@ -126,8 +126,8 @@ fn first_kind(kinds: &[Kind], word: &str) -> Option<Kind>
     }
 }
 
-/// The fields that a Script of the kind declares: its inputs, what it is given at the start, and
-/// its outputs.
+/// Returns the fields that a Script of the kind declares: its inputs, then the fields that it is
+/// given at the start, then its outputs.
 pub fn interface(kind: Kind) -> &'static [Field]
     ensures { map entry result.now ≡ interface_of kind }
 {
@@ -141,7 +141,7 @@ pub fn interface(kind: Kind) -> &'static [Field]
     }
 }
 
-/// The inputs of a kind by their numbers.
+/// Returns the inputs of a kind, in the order of their numbers.
 pub fn inputs(kind: Kind) -> &'static [Field]
     ensures are { map entry result.now ≡ inputs_of kind }
     ensures few { length result.now ≤ 2 }
@@ -156,7 +156,7 @@ pub fn inputs(kind: Kind) -> &'static [Field]
     }
 }
 
-/// The outputs of a kind by their numbers.
+/// Returns the outputs of a kind, in the order of their numbers.
 pub fn outputs(kind: Kind) -> &'static [Field]
     ensures are { map entry result.now ≡ outputs_of kind }
     ensures few { length result.now ≤ 2 }

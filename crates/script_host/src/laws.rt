@@ -2,7 +2,7 @@
 
 ghost use Rattle.script_host.specs.Outputs.{SendsByOutputs};
 
-/// A script sends from outputs of its kind alone.
+/// Proves that a script sends only from outputs of its kind.
 pub fn outputs_law()
     ensures { SendsByOutputs }
 {}

@@ -1,6 +1,6 @@
-//! Scripts behind one contract: a script is its kind and its state, a list of whole numbers, and
-//! what each call does with them is said once for each kind. The host keeps the scripts of one
-//! world in order, and is generic in the box that holds a script.
+//! Scripts with one contract. A script is its kind and its state, a list of whole numbers. What
+//! each call does is defined once for each kind. The host keeps the scripts of one world in order
+//! and is generic in the box that holds a script.
 #![tactic(auto)]
 
 mod attach;

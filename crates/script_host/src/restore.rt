@@ -1,4 +1,4 @@
-//! Giving scripts the states that were kept.
+//! Puts scripts into saved states.
 
 ghost use Rattle.std.specs.Prelude.{◌≡◌, ℕ, length, take, OnOk, OnErr, IfErr};
 ghost use Rattle.script_host.specs.Restoring.{AreStates, IsFirstFault, with_states};
@@ -7,7 +7,8 @@ use script_slots::{Behaviour, Slot, StateFault};
 use std::alloc::AllocError;
 use x3d_values::Items;
 
-/// Whether there is a state for each script. Takes no memory.
+/// Checks that each of the states is a state of its script; returns the fault of the first that
+/// isn't. Allocates nothing.
 pub fn all_fit<B: Behaviour>(slots: &[Slot<B>], states: &[Items<i64>]) -> Result<(), StateFault>
     requires { length slots.now ≡ length states.now }
     ensures ok { OnOk result (AreStates slots.now states.now) }
@@ -19,7 +20,8 @@ pub fn all_fit<B: Behaviour>(slots: &[Slot<B>], states: &[Items<i64>]) -> Result
     Ok(())
 }
 
-/// Gives each script its state, in order; where memory is refused the first ones have theirs.
+/// Puts each script into its state, in order. If memory runs out, the first scripts have their new
+/// states and the others their old ones.
 pub fn restore_each<B: Behaviour>(
     slots: &mut [Slot<B>],
     states: &[Items<i64>],

@@ -16,11 +16,11 @@ use std::alloc::{AllocError, Global};
 use std::marker::Model;
 use x3d_values::{Items, Kind, ScriptSpec};
 
-/// The scripts of a world. Callers see of each its kind, its state and whether it counts as
-/// initialized.
+/// The scripts of a world. Callers see the kind and the state of each script, and whether it counts
+/// as initialized.
 ///
-/// Where this is dropped or closed, the scripts that count as initialized are shut down in order,
-/// and then all are dropped.
+/// When this is dropped or closed, the scripts that count as initialized are shut down in order,
+/// and then all boxes are dropped.
 pub struct Scripts<B: Behaviour> {
     slots: Vec<Slot<B>>,
 }
@@ -34,7 +34,7 @@ impl<B: Behaviour> Model for Scripts<B> {
     ghost view = { λ s. s.slots.items };
 }
 
-/// Puts a box of the same kind in the place of this one, in its state.
+/// Replaces a box with one of the same kind, in the state of the old one.
 fn put_in<B: Behaviour>(slot: &mut Slot<B>, alloc: Global, script: B) -> Result<(), ReplaceFault>
     ensures same { slot.new ≡ slot.old }
     ensures ok { OnOk result (B.kind_of script ≡ slot.old.kind) }
@@ -61,20 +61,20 @@ impl<B: Behaviour> Scripts<B> {
         Ok(Scripts { slots })
     }
 
-    /// Takes the boxes that a world's scripts ask for; none of them is initialized. Where they are
-    /// refused they are dropped without a call that changes them.
+    /// Takes the boxes that a world's scripts ask for. None of the scripts counts as initialized.
+    /// If the boxes are refused, they are dropped without a call that changes them.
     pub fn attach(
         alloc: Global,
         specs: &[ScriptSpec],
         boxes: Vec<B>,
     ) -> Result<Scripts<B>, AttachFault>
-        // What is attached are the boxes, and they are what is asked for.
+        // The result consists of the boxes, and the boxes are what the scripts ask for.
         ensures boxes { IfOk result (λ scripts.
             scripts ≡ map (fresh_record B.kind_of B.numbers) boxes.items) }
         ensures fits { IfOk result (λ scripts. Fits specs.now scripts) }
 
-        // Boxes that are what is asked for are refused for memory alone, others for the first
-        // fault.
+        // Boxes that are what the scripts ask for are refused only if memory runs out. Other boxes
+        // are refused with the first fault.
         ensures takes { Fits specs.now (map (fresh_record B.kind_of B.numbers) boxes.items)
             → IsOkUnless result Memory }
         ensures refused { IfErr result (λ fault.
@@ -87,18 +87,21 @@ impl<B: Behaviour> Scripts<B> {
         Ok(Scripts::from_boxes(alloc, boxes)?)
     }
 
+    /// Returns the number of scripts.
     pub fn len(&self) -> usize
         ensures { result ≡ length self.now }
     {
         self.slots.len()
     }
 
+    /// Reports whether there are no scripts.
     pub fn is_empty(&self) -> bool
         ensures { IsTrue result ↔ (self.now ≡ []) }
     {
         self.slots.is_empty()
     }
 
+    /// Returns the kind of the k-th script.
     pub fn kind(&self, k: usize) -> Kind
         requires { k < length self.now }
         ensures { IsSomeAnd (slice_get self.now k) (λ r. result ≡ r.kind) }
@@ -106,6 +109,7 @@ impl<B: Behaviour> Scripts<B> {
         self.slots[k].kind()
     }
 
+    /// Initializes the k-th script, and returns what it sends.
     pub fn call_initialize(&mut self, k: usize) -> Replies
         requires { k < length self.old }
         ensures { CalledAt Initialize k self.old self.new result.items }
@@ -113,7 +117,8 @@ impl<B: Behaviour> Scripts<B> {
         self.slots[k].initialize()
     }
 
-    /// `takes_event` of the script's kind is the test that it takes the event.
+    /// Hands an event to input `input` of the k-th script, and returns what the script sends.
+    /// `takes_event` for the script's kind tests that the script takes the event.
     pub fn call_receive(&mut self, k: usize, input: u32, event: [i64; 3]) -> Replies
         requires there { k < length self.old }
         requires fits { TakesAt k input event self.old }
@@ -122,7 +127,7 @@ impl<B: Behaviour> Scripts<B> {
         receive_at(self.slots.as_mut_slice(), k, input, event)
     }
 
-    /// The events of a timestamp were received.
+    /// Settles the k-th script after the events of a timestamp, and returns what it sends.
     pub fn call_settle(&mut self, k: usize) -> Replies
         requires { k < length self.old }
         ensures { CalledAt Settle k self.old self.new result.items }
@@ -143,7 +148,7 @@ impl<B: Behaviour> Scripts<B> {
         Ok(())
     }
 
-    /// Appends the states of all scripts, or leaves the buffer as it was.
+    /// Appends the states of all scripts to `out`. If memory runs out, `out` is unchanged.
     pub fn states(&self, out: &mut Vec<Items<i64>>) -> Result<(), AllocError>
         ensures ok { OnOk result (out.new.items ≡ out.old.items ++ map (λ r. r.state) self.now) }
         ensures fit { OnOk result (AreStates self.now (map (λ r. r.state) self.now)) }
@@ -157,7 +162,9 @@ impl<B: Behaviour> Scripts<B> {
         pushed
     }
 
-    /// Gives each script the state of its place in a list of states, by `restore`.
+    /// Puts each script into the state at its place in `states`. If a list isn't a state of its
+    /// script, or the number of states is wrong, nothing changes. If memory runs out, the first
+    /// scripts may have their new states.
     pub fn restore_all(&mut self, states: &[Items<i64>]) -> Result<(), StateFault>
         ensures fit { OnOk result (AreStates self.old states.now) }
         ensures ok { OnOk result (self.new ≡ with_states self.old states.now) }
@@ -171,9 +178,10 @@ impl<B: Behaviour> Scripts<B> {
         Ok(())
     }
 
-    /// Puts a box of the same kind in the place of the k-th one, in its state. The old one is shut
-    /// down where it counts as initialized, and dropped; the new one then counts as that without a
-    /// call. Where the new one is refused it is dropped.
+    /// Replaces the k-th box with one of the same kind, in the state of the old one. The old box is
+    /// shut down if it counts as initialized, and is dropped; the new one then counts as
+    /// initialized without a call. A box that is refused is dropped: there is no such script, the
+    /// kinds differ, or memory ran out.
     pub fn replace(&mut self, k: usize, script: B) -> Result<(), ReplaceFault>
         ensures same { self.new ≡ self.old }
         ensures ok { OnOk result
@@ -188,7 +196,7 @@ impl<B: Behaviour> Scripts<B> {
         put_in(&mut self.slots[k], alloc, script)
     }
 
-    /// Shuts down what counts as initialized, in order, and then drops the boxes.
+    /// Shuts down the scripts that count as initialized, in order, and then drops the boxes.
     pub fn close(self) {
         drop(self);
     }

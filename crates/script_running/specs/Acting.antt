@@ -8,7 +8,7 @@ use Rattle.script_host.specs.Behaviour.{Call}
 use Rattle.script_host.specs.Hosting.{SlotView, after_call, answer_of}
 use Rattle.script_running.specs.Ports.{PortsView, call_at, reply_of}
 
--- the scripts after a call, and what the node of the script that was called sends, in order
+-- the scripts after a call, and what the node of the called script sends, in order
 pub record Acted : Type 0 where
   pub scripts : List SlotView
   pub replies : List node.SentEvent
@@ -16,7 +16,7 @@ pub record Acted : Type 0 where
 abbrev pub idle : List SlotView → Acted
 idle scripts = record { scripts = scripts; replies = [] }
 
--- the script of that number is called, if there is one
+-- script k is called, if there is one
 abbrev pub acting : PortsView → Call → ℕ → List SlotView → Option SlotView → Acted
 acting ports call k scripts (Some r) = record {
   scripts = slice_set scripts k (after_call call r);
@@ -27,7 +27,7 @@ acting ports call k scripts None = idle scripts
 unfoldable pub act : PortsView → Call → ℕ → List SlotView → Acted
 act ports call k scripts = acting ports call k scripts (slice_get scripts k)
 
--- the call that an event at a field of its node is for the script of that number
+-- the call that script k gets from an event at a field of its node
 abbrev pub call_of : PortsView → ℕ → ℕ → Value → List SlotView → Option Call
 call_of ports k field value scripts =
     option_and_then (λ (r : SlotView). call_at r.kind ports field value) (slice_get scripts k)
@@ -36,11 +36,11 @@ abbrev pub receiving : PortsView → ℕ → List SlotView → Option Call → A
 receiving ports k scripts (Some call) = act ports call k scripts
 receiving ports k scripts None = idle scripts
 
--- an event comes to a field of its node
+-- an event reaches a field of the node of script k
 abbrev pub receive : PortsView → ℕ → ℕ → Value → List SlotView → Acted
 receive ports k field value scripts =
     receiving ports k scripts (call_of ports k field value scripts)
 
--- the kinds of the scripts, for good
+-- the kinds of the scripts, which no call changes
 abbrev pub kinds_of : List SlotView → List Kind
 kinds_of scripts = map (λ (r : SlotView). r.kind) scripts

@@ -1,4 +1,4 @@
--- What holds of the scripts of all scenes, of all their calls, and of the values that they take
+-- What holds for the scripts of all scenes, for all their calls, and for the values that they take
 -- and send.
 use Rattle.std.specs.Prelude.{◌≡◌, ℕ, Bool, true, false, List, Some, slice_get}
 use Rattle.std.specs.List.{list_all}
@@ -22,12 +22,12 @@ use Rattle.script_running.specs.Values.{numbers_of, value_of}
 
 -- ---- by which fields the nodes of scripts send
 
--- a node with these fields sends by that one
+-- a node with these fields can send by this field
 abbrev pub is_sent_by : List FieldRowView → ℕ → Bool
 is_sent_by rows field =
     option_map_or (λ (row : FieldRowView). sends row.access) (slice_get rows field) false
 
--- a script of a known kind that declares what its kind has sends by outputs of its node
+-- a script of a known kind that declares the fields of its kind sends by outputs of its node
 abbrev pub SendByOutputs : Type 0
 SendByOutputs = (s : SceneView) (k : ℕ) (asked : ScriptSpec) (kind : Kind)
     → slice_get (script_list s) k ≡ Some asked → asked.kind ≡ Some kind → asked.fits ≡ true
@@ -49,6 +49,6 @@ IsSent (SFTime time) = Unit {0}
 IsSent (SFVec3f place) = Unit {0}
 IsSent _ = ⊥
 
--- it is what its numbers stand for
+-- a value is recovered from its numbers
 abbrev pub ValuesReturn : Type 0
 ValuesReturn = (v : Value) → IsSent v → value_of (type_of v) (numbers_of v) ≡ v

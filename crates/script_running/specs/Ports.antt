@@ -1,4 +1,4 @@
--- Which fields of its node the inputs and outputs of a script are (ISO/IEC 19775-1, Script: its
+-- Which fields of its node are the inputs and outputs of a script (ISO/IEC 19775-1, Script: its
 -- interface), and which call an event at a field is.
 use Rattle.std.specs.Prelude.{ℕ, ℤ, ◌+◌, Bool, false, ◌&&◌, ◌==◌, List, [], ◌∷◌, Option, Some, None, slice_get, slice_index_or, if◌then◌else◌}
 use Rattle.std.specs.Option.{option_and_then, option_map_or}
@@ -17,19 +17,20 @@ use Rattle.script_host.specs.Interface.{inputs, outputs}
 use Rattle.script_running.specs.Values.{numbers_of, value_of}
 
 -- the numbers of the fields that are a script's inputs and outputs, in the order of its kind's
+-- inputs and outputs
 pub record PortsView : Type 0 where
   pub inputs : List ℕ
   pub outputs : List ℕ
 
--- ---- an event comes to a field
+-- -- an event reaches a field
 
--- the first of these places, numbered from n on, where the field stands
+-- the place, counted from n, at which the field first appears
 abbrev pub place_from : ℕ → ℕ → List ℕ → Option ℕ
 place_from field n [] = None
 place_from field n (other ∷ others) =
     if other == field then Some n else place_from field (n + 1) others
 
--- the input that the field is
+-- the number of the input that the field is
 abbrev pub input_at : PortsView → ℕ → Option ℕ
 input_at ports field = place_from field 0 ports.inputs
 
@@ -38,7 +39,7 @@ is_of_type kind input value =
     option_map_or (λ (e : FieldRowView). sameb types.the_type e.field_type (type_of value))
     (slice_get (inputs kind) input) false
 
--- the value is of the type of that input, and in its range
+-- the value is of the type of that input, and in the range of the type
 abbrev pub takes : Kind → ℕ → Value → Bool
 takes kind input value =
     is_of_type kind input value && takes_event kind input (numbers_of value)
@@ -47,18 +48,19 @@ abbrev pub call_by : Kind → Value → ℕ → Option Call
 call_by kind value input =
     if takes kind input value then Some (Receive input (numbers_of value)) else None
 
--- the call that an event is: none where the field is no input of the script, or takes no such value
+-- the call that an event is; no call if the field is not an input of the script, or doesn't take
+-- such a value
 abbrev pub call_at : Kind → PortsView → ℕ → Value → Option Call
 call_at kind ports field value = option_and_then (call_by kind value) (input_at ports field)
 
 -- ---- a script sends
 
--- the value that leaves by an output of the kind
+-- the value that is sent by an output of the kind
 abbrev pub value_from : Option FieldRowView → List ℤ → Value
 value_from (Some e) numbers = value_of e.field_type numbers
 value_from None numbers = SFBool false
 
--- what the node sends where its script sends this
+-- what the node sends if its script sends this reply
 abbrev pub reply_of : Kind → PortsView → Reply → node.SentEvent
 reply_of kind ports r = record {
   field = slice_index_or ports.outputs r.output 0;

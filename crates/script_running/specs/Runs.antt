@@ -12,7 +12,7 @@ use Rattle.scene_core.specs.Scene.{SceneView, rows_at}
 use Rattle.script_running.specs.declared.run.Run.{Run}
 use Rattle.script_running.specs.Scripts.{script_list}
 
--- the number of the field of that name among these, 0 where there is none
+-- the number of the field with that name among these, or 0 if there is none
 abbrev pub number_in : List FieldRowView → FieldRowView → ℕ
 number_in rows e = option_map_or (λ (row : FieldRow). row.number) (row_named 0 e.name rows) 0
 
@@ -22,7 +22,7 @@ ports_of rows kind = record {
   outputs = map (number_in rows) (outputs kind);
 }
 
--- a script of no known kind has none
+-- a script of an unknown kind has no ports
 abbrev pub ports_by : List FieldRowView → Option Kind → PortsView
 ports_by rows (Some kind) = ports_of rows kind
 ports_by rows None = record { inputs = []; outputs = [] }

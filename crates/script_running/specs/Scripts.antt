@@ -21,7 +21,7 @@ use Rattle.scene_core.specs.Scene.{SceneView, declared_at, rows_at, type_at, val
 
 -- ---- what the fields of a node hold at the start
 
--- the opening value of the field of that name
+-- the opening value of the field with that name
 abbrev pub value_named : SceneView → ℕ → List ℕ → Option Value
 value_named s node name =
     option_and_then (λ row. value_at s node row.number) (row_named 0 name (rows_at s node))
@@ -43,7 +43,7 @@ abbrev pub place_in : Option Value → List ℤ
 place_in (Some (SFVec3f place)) = place.x ∷ place.y ∷ place.z ∷ []
 place_in _ = pos 0 ∷ pos 0 ∷ pos 0 ∷ []
 
--- ---- which Scripts are run, by the word behind `x3dshare:`
+-- -- which Scripts are run, by the word after `x3dshare:`
 
 abbrev pub scheme : List ℕ
 scheme = codes "x3dshare:"
@@ -73,8 +73,9 @@ is_field e d =
     pointwise nat_eq d.name e.name
     && (sameb accesses.the_type d.access e.access && sameb types.the_type d.field_type e.field_type)
 
--- the declared fields are those of the kind, in any order: no two fields of a kind have one name,
--- so as many as the kind has, each of the kind's among them, are those alone
+-- the declared fields are those of the kind, in any order: no two fields of a kind have the same
+-- name, so if there are as many declared fields as the kind has, and each field of the kind is
+-- among them, there are no others
 abbrev pub declares : Kind → List DeclaredField → Bool
 declares kind declared =
     (length declared == length (interface kind))
@@ -92,7 +93,7 @@ start_of s node Mover =
     place_in (value_named s node (codes "from")) ++ place_in (value_named s node (codes "to"))
 start_of s node Meter = []
 
--- where the interface isn't that of the kind no state is asked for
+-- if the interface isn't that of the kind, no state is asked for
 abbrev pub start_where : SceneView → ℕ → Kind → Bool → List ℤ
 start_where s node kind fits = if fits then start_of s node kind else []
 
@@ -112,6 +113,6 @@ spec_by s node None = record { node = node; kind = None; fits = false; start = [
 abbrev pub script_at : SceneView → ℕ → Option ScriptSpec
 script_at s node = option_map (λ word. spec_by s node (kind_named word)) (word_of s node)
 
--- what the scene asks for, in the order of the nodes' numbers
+-- what the Scripts of the scene ask for, in the order of the nodes' numbers
 unfoldable pub script_list : SceneView → List ScriptSpec
 script_list s = filter_map (script_at s) (range_with_len 0 (length s.nodes))

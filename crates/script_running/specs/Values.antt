@@ -1,4 +1,4 @@
--- The values that scripts receive and send, as three whole numbers; those that a type doesn't use
+-- The values that scripts receive and send, as three whole numbers; numbers that a type doesn't use
 -- are 0 (our choice).
 use Rattle.std.specs.Prelude.{◌^◌, ◌-◌, ℤ, pos, neg_ℤ, Bool, true, false, List, [], ◌∷◌}
 use Rattle.std.specs.Int.{int_max, int_min}
@@ -16,7 +16,7 @@ number_of_truth false = pos 0
 abbrev pub one_number : ℤ → List ℤ
 one_number number = number ∷ pos 0 ∷ pos 0 ∷ []
 
--- the numbers of a value; zeros of one of a type that no script takes
+-- the numbers of a value; zeros if no script takes or sends its type
 abbrev pub numbers_of : Value → List ℤ
 numbers_of (SFBool truth) = one_number (number_of_truth truth)
 numbers_of (SFInt32 number) = one_number number
@@ -25,11 +25,11 @@ numbers_of (SFTime time) = one_number time
 numbers_of (SFVec3f place) = place.x ∷ place.y ∷ place.z ∷ []
 numbers_of _ = one_number (pos 0)
 
--- the nearest number of 32 bits: a script sends no other
+-- the nearest 32-bit integer; a script sends no other
 abbrev pub as_integer : ℤ → ℤ
 as_integer z = int_max (neg_ℤ (pos (2 ^ 31))) (int_min z (pos (2 ^ 31 - 1)))
 
--- the value of that type with these numbers; FALSE where no script sends the type
+-- the value of that type with these numbers; FALSE if no script sends the type
 abbrev pub value_by : FieldType → ℤ → ℤ → ℤ → Value
 value_by types.SFBool x y z = SFBool (is_one x)
 value_by types.SFInt32 x y z = SFInt32 (as_integer x)

@@ -1,4 +1,4 @@
-//! Calls of the scripts of a world, and what their nodes send.
+//! Calls to the scripts of a world, and what their nodes send.
 
 ghost use Rattle.std.specs.Prelude.{◌≡◌, ◌++◌, ◌<◌, [], is_some, length, map, slice_get};
 ghost use Rattle.script_host.specs.Behaviour.{Initialize, Settle};
@@ -11,7 +11,7 @@ use react_core::Outbox;
 use script_host::{Behaviour, Replies, Scripts};
 use x3d_values::{Kind, Value};
 
-/// What the node of a script sends where the script sends these.
+/// Adds to `out` what the node of a script sends if the script sends these replies.
 fn push_replies(kind: Kind, ports: &Ports, replies: &Replies, out: &mut Outbox)
     requires empty { out.old.items ≡ [] }
     ensures { out.new.items ≡ map (port_spec.reply_of kind ports.now) replies.now.items }
@@ -27,7 +27,7 @@ fn push_replies(kind: Kind, ports: &Ports, replies: &Replies, out: &mut Outbox)
     }
 }
 
-/// The k-th script is initialized, and its node sends what it sends. Takes no memory.
+/// Initializes the k-th script, and adds to `out` what its node sends. Allocates nothing.
 #[tactic(auto, using(crate::proofs::CallLemmas::kinds_kept), unfolding(crate::specs::Acting::act))]
 pub fn initialize<B: Behaviour>(scripts: &mut Scripts<B>, k: usize, ports: &Ports, out: &mut Outbox)
     requires there { k < length scripts.old }
@@ -41,7 +41,8 @@ pub fn initialize<B: Behaviour>(scripts: &mut Scripts<B>, k: usize, ports: &Port
     push_replies(kind, ports, &replies, out);
 }
 
-/// The events of a timestamp were received by the k-th script. Takes no memory.
+/// Settles the k-th script after the events of a timestamp, and adds to `out` what its node sends.
+/// Allocates nothing.
 #[tactic(auto, using(crate::proofs::CallLemmas::kinds_kept), unfolding(crate::specs::Acting::act))]
 pub fn settle<B: Behaviour>(scripts: &mut Scripts<B>, k: usize, ports: &Ports, out: &mut Outbox)
     requires there { k < length scripts.old }
@@ -55,8 +56,8 @@ pub fn settle<B: Behaviour>(scripts: &mut Scripts<B>, k: usize, ports: &Ports, o
     push_replies(kind, ports, &replies, out);
 }
 
-/// An event comes to a field of the node of the k-th script: whether the script received it, whose
-/// node then sends what it sends. Takes no memory.
+/// Hands an event at a field of its node to the k-th script, and adds to `out` what the node sends.
+/// Reports whether the script received the event. Allocates nothing.
 #[tactic(auto, using(crate::proofs::CallLemmas::kinds_kept), unfolding(crate::specs::Acting::act))]
 pub fn receive<B: Behaviour>(
     scripts: &mut Scripts<B>,

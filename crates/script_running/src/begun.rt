@@ -38,7 +38,7 @@ impl<B: Behaviour> BegunScripts<B> {
     ghost use Rattle.script_running.specs.Acting.{act, call_of, kinds_of, receive as received};
     ghost use Rattle.script_running.specs.Running.{are_begun, running, states_of};
 
-    /// These scripts, which were initialized.
+    /// Wraps scripts that were all initialized.
     pub fn new(scripts: Scripts<B>) -> BegunScripts<B>
         requires { are_begun scripts ≡ true }
         ensures { result ≡ scripts }
@@ -46,14 +46,14 @@ impl<B: Behaviour> BegunScripts<B> {
         BegunScripts { scripts }
     }
 
-    /// How many there are.
+    /// Returns the number of scripts.
     pub fn len(&self) -> usize
         ensures { result ≡ length self.now }
     {
         self.scripts.len()
     }
 
-    /// A timestamp begins: none of the scripts has received.
+    /// Begins a timestamp: no script has received an event in it.
     #[tactic(auto, using(crate::proofs::Initialized::begun_running))]
     pub fn begin(&self, settling: &mut DueScripts)
         requires counted { settling.old.count ≡ length self.now }
@@ -64,8 +64,8 @@ impl<B: Behaviour> BegunScripts<B> {
         settling.begin();
     }
 
-    /// An event comes to a field of the node of the k-th script: whether the script received it,
-    /// whose node then sends what it sends.
+    /// Hands an event at a field of its node to the k-th script, and adds to `out` what the node
+    /// sends. Reports whether the script received the event.
     #[tactic(auto, using(crate::proofs::Initialized::receive_begun))]
     pub fn receive(
         &mut self,
@@ -86,7 +86,8 @@ impl<B: Behaviour> BegunScripts<B> {
         acting::receive(&mut self.scripts, k, ports, field, value, out)
     }
 
-    /// The events of a timestamp were received by the k-th script.
+    /// Settles the k-th script after the events of a timestamp, and adds to `out` what its node
+    /// sends.
     #[tactic(auto, using(crate::proofs::Initialized::act_begun))]
     pub fn settle(&mut self, k: usize, ports: &Ports, out: &mut Outbox)
         requires there { k < length self.old }
@@ -98,7 +99,7 @@ impl<B: Behaviour> BegunScripts<B> {
         acting::settle(&mut self.scripts, k, ports, out);
     }
 
-    /// Appends the states of all scripts, or leaves the buffer as it was.
+    /// Appends the states of all scripts to `out`. If memory runs out, `out` is unchanged.
     pub fn states(&self, out: &mut Vec<Items<i64>>) -> Result<(), AllocError>
         ensures ok { OnOk result (out.new.items ≡ out.old.items ++ states_of self.now) }
         ensures err { OnErr result (out.new.items ≡ out.old.items) }
@@ -106,7 +107,9 @@ impl<B: Behaviour> BegunScripts<B> {
         self.scripts.states(out)
     }
 
-    /// Gives each script the state of its place in a list.
+    /// Puts each script into the state at its place in `states`. If a list isn't a state of its
+    /// script, or the number of states is wrong, nothing changes. If memory runs out, the first
+    /// scripts may have their new states.
     #[tactic(auto, using(crate::proofs::Initialized::restores))]
     pub fn restore(&mut self, states: &[Items<i64>]) -> Result<(), StateFault>
         ensures fit { OnOk result (AreStates self.old states.now) }
@@ -117,7 +120,8 @@ impl<B: Behaviour> BegunScripts<B> {
         self.scripts.restore_all(states)
     }
 
-    /// Puts a box of the same kind in the place of the k-th one, in its state.
+    /// Replaces the k-th box with one of the same kind, in the state of the old one. Fails if there
+    /// is no such script, if the kinds differ, or if memory runs out.
     pub fn replace(&mut self, k: usize, script: B) -> Result<(), ReplaceFault>
         ensures same { self.new ≡ self.old }
         ensures ok { OnOk result

@@ -1,4 +1,4 @@
-//! What the fields of a node hold before any event, by their names.
+//! The values that the fields of a node hold before any event, by the names of the fields.
 
 ghost use Rattle.std.specs.Prelude.{◌≡◌, ◌∷◌, []};
 ghost use Rattle.std.specs.Option.{option_copied};
@@ -7,7 +7,8 @@ ghost use Rattle.script_running.specs.Scripts.{integer_in, place_in, strings_in,
 use scene_core::Scene;
 use x3d_values::{Text, Value, Vec3};
 
-/// The opening value of the field of that name; none where it holds no value.
+/// Returns the opening value of the field with that name, or `None` if the node has no such field
+/// or the field has no value.
 pub fn value_named<'a>(scene: &'a Scene, node: u32, name: &str) -> Option<&'a Value>
     ensures { option_copied result ≡ value_named scene.now node name.now }
 {
@@ -15,7 +16,7 @@ pub fn value_named<'a>(scene: &'a Scene, node: u32, name: &str) -> Option<&'a Va
     scene.value(node, row.number)
 }
 
-/// The strings of the field of that name; none where it holds no strings.
+/// Returns the strings of the field with that name; none if it doesn't hold strings.
 pub fn strings_named<'a>(scene: &'a Scene, node: u32, name: &str) -> &'a [Text]
     ensures { result.now ≡ strings_in (value_named scene.now node name.now) }
 {
@@ -25,7 +26,7 @@ pub fn strings_named<'a>(scene: &'a Scene, node: u32, name: &str) -> &'a [Text]
     }
 }
 
-/// The integer of the field of that name; 0 where it holds none.
+/// Returns the integer of the field with that name, or 0 if it doesn't hold an integer.
 pub fn integer_named(scene: &Scene, node: u32, name: &str) -> i64
     ensures { result ≡ integer_in (value_named scene.now node name.now) }
 {
@@ -35,7 +36,7 @@ pub fn integer_named(scene: &Scene, node: u32, name: &str) -> i64
     }
 }
 
-/// 1 where the field of that name holds TRUE, and else 0.
+/// Returns 1 if the field with that name holds TRUE, otherwise 0.
 pub fn truth_named(scene: &Scene, node: u32, name: &str) -> i64
     ensures { result ≡ truth_in (value_named scene.now node name.now) }
 {
@@ -45,7 +46,7 @@ pub fn truth_named(scene: &Scene, node: u32, name: &str) -> i64
     }
 }
 
-/// The place of the field of that name; zeros where it holds none.
+/// Returns the place in the field with that name, or zeros if it doesn't hold a place.
 pub fn place_named(scene: &Scene, node: u32, name: &str) -> Vec3
     ensures { result.x ∷ result.y ∷ result.z ∷ []
         ≡ place_in (value_named scene.now node name.now) }

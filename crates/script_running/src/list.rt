@@ -15,7 +15,7 @@ use script_host::{interface, kind_named};
 use std::alloc::{AllocError, Global};
 use x3d_values::{Field, Items, Kind, NodeType, ScriptSpec, Text};
 
-/// The word behind the scheme of the first of these urls that has it.
+/// Returns the word after the scheme `x3dshare:` in the first of these urls that has this scheme.
 fn first_word(urls: &[Text]) -> Option<&str>
     ensures { option_copied result ≡ spec.first_word urls.now }
 {
@@ -28,7 +28,7 @@ fn first_word(urls: &[Text]) -> Option<&str>
     }
 }
 
-/// The word by which a node asks to be run.
+/// Returns the word by which a node asks to be run, or `None` if it doesn't ask to be run.
 fn word_of(scene: &Scene, node: u32) -> Option<&str>
     ensures { option_copied result ≡ spec.word_of scene.now node }
 {
@@ -38,7 +38,8 @@ fn word_of(scene: &Scene, node: u32) -> Option<&str>
     }
 }
 
-/// Whether a declared field has the name, the access and the type of a field of an interface.
+/// Reports whether a declared field has the name, the access and the type of a field of an
+/// interface.
 fn is_field(field: &Field, declared: &DeclaredField) -> bool
     ensures { result ≡ spec.is_field (entry field.now) declared.now }
 {
@@ -46,14 +47,14 @@ fn is_field(field: &Field, declared: &DeclaredField) -> bool
         && (declared.access == field.access && declared.field_type == field.field_type)
 }
 
-/// Whether a field of an interface is declared.
+/// Reports whether a field of an interface is declared.
 fn is_declared(field: &Field, declared: &[DeclaredField]) -> bool
     ensures { result ≡ list_any (λ d. spec.is_field (entry field.now) d) declared.now }
 {
     declared.iter().any(|one| is_field(field, one))
 }
 
-/// Whether all of these fields of an interface are declared.
+/// Reports whether all of these fields of an interface are declared.
 fn all_declared(fields: &[Field], declared: &[DeclaredField]) -> bool
     ensures { result ≡ list_all (λ e. list_any (λ d. spec.is_field e d) declared.now)
         (map entry fields.now) }
@@ -64,7 +65,7 @@ fn all_declared(fields: &[Field], declared: &[DeclaredField]) -> bool
     }
 }
 
-/// Whether the declared fields are those of the kind.
+/// Reports whether the declared fields are those of the kind.
 fn declares(kind: Kind, declared: &[DeclaredField]) -> bool
     ensures { result ≡ spec.declares kind declared.now }
 {
@@ -72,7 +73,7 @@ fn declares(kind: Kind, declared: &[DeclaredField]) -> bool
     declared.len() == fields.len() && all_declared(fields, declared)
 }
 
-/// What a script of a known kind asks for.
+/// Returns what a script of a known kind asks for.
 fn known_spec(alloc: Global, scene: &Scene, node: u32, kind: Kind) -> Result<ScriptSpec, AllocError>
     ensures { IfOk result (λ s. s
         ≡ spec.known_spec scene.now node kind (spec.declares kind (declared_at scene.now node))) }
@@ -87,7 +88,7 @@ fn known_spec(alloc: Global, scene: &Scene, node: u32, kind: Kind) -> Result<Scr
     })
 }
 
-/// What a script asks for whose kind is known or not.
+/// Returns what a script asks for, whether or not its kind is known.
 fn spec_by(
     alloc: Global,
     scene: &Scene,
@@ -124,8 +125,9 @@ fn push_script(
     Ok(())
 }
 
-/// What the scene asks for: its Scripts that are run, in the order of their nodes' numbers. A
-/// Script is run where one of its urls begins `x3dshare:`; the first such names the kind.
+/// Returns what the Scripts of the scene that are run ask for, in the order of the nodes' numbers.
+/// A Script is run if one of its urls begins with `x3dshare:`; the first such url names the kind.
+/// Fails if memory runs out.
 #[tactic(auto, unfolding(crate::specs::Scripts::script_list))]
 pub fn script_list(alloc: Global, scene: &Scene) -> Result<Vec<ScriptSpec>, AllocError>
     ensures { IfOk result (λ list. list.items ≡ spec.script_list scene.now) }

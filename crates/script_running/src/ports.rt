@@ -1,4 +1,4 @@
-//! Which fields of its node the inputs and outputs of a script are.
+//! Which fields of its node are the inputs and outputs of a script.
 
 ghost use Rattle.std.specs.Prelude.{◌≡◌, ◌+◌, ◌<◌, ◌^◌, IsTrue, IfSome, length, slice_get, slice_index_or};
 ghost use Rattle.std.specs.Option.{option_map};
@@ -18,7 +18,7 @@ use x3d_values::{Kind, Value};
 pub const MAX_PORTS: usize = 2;
 
 /// The numbers of the fields of a script's node that are its inputs and outputs, in the order of
-/// the kind's.
+/// the kind's inputs and outputs.
 #[derive(Debug, Drop)]
 pub struct Ports {
     inputs: ArrayVec<u16, MAX_PORTS>,
@@ -36,6 +36,8 @@ impl Model for Ports {
 impl Ports {
     ghost use Rattle.std.specs.Prelude.{◌≡◌};
 
+    /// Creates the ports from the numbers of the fields that are inputs and of those that are
+    /// outputs.
     pub fn new(inputs: ArrayVec<u16, MAX_PORTS>, outputs: ArrayVec<u16, MAX_PORTS>) -> Ports
         ensures { result ≡ record { inputs = inputs.items; outputs = outputs.items } }
     {
@@ -50,7 +52,7 @@ pub(crate) struct Event {
     pub numbers: [i64; 3],
 }
 
-/// The first of these places, numbered from `number` on, where the field stands.
+/// Returns the place, counted from `number`, at which `field` first appears in `fields`.
 fn place_from(fields: &[u16], number: u32, field: u16) -> Option<u32>
     requires { number + length fields.now < 2 ^ 32 }
     ensures { result ≡ spec.place_from field number fields.now }
@@ -67,14 +69,15 @@ fn place_from(fields: &[u16], number: u32, field: u16) -> Option<u32>
     }
 }
 
-/// The input that the field is.
+/// Returns the number of the input that the field is, or `None` if it is not an input.
 fn input_at(ports: &Ports, field: u16) -> Option<u32>
     ensures { result ≡ spec.input_at ports.now field }
 {
     place_from(ports.inputs.as_slice(), 0, field)
 }
 
-/// Whether the value is of the type of that input.
+/// Reports whether the value is of the type of that input. An input that the kind doesn't have
+/// takes no value.
 fn is_of_type(kind: Kind, input: u32, value: &Value) -> bool
     ensures { result ≡ spec.is_of_type kind input value.now }
 {
@@ -84,8 +87,8 @@ fn is_of_type(kind: Kind, input: u32, value: &Value) -> bool
     }
 }
 
-/// The event that comes to a script where this value comes to that field of its node; none where
-/// the field is no input, or takes no such value.
+/// Returns the event that a script receives when `value` reaches `field` of its node, or `None` if
+/// the field is not an input or doesn't take such a value.
 pub(crate) fn event_at(kind: Kind, ports: &Ports, field: u16, value: &Value) -> Option<Event>
     ensures call { option_map (λ a. Receive a.input a.numbers) result
         ≡ spec.call_at kind ports.now field value.now }
@@ -99,7 +102,7 @@ pub(crate) fn event_at(kind: Kind, ports: &Ports, field: u16, value: &Value) -> 
     None
 }
 
-/// The value that leaves by an output of the kind.
+/// Returns the value that is sent by an output of the kind; FALSE if the kind has no such output.
 fn value_from(kind: Kind, output: u32, numbers: [i64; 3]) -> Value
     ensures { result ≡ spec.value_from (slice_get (outputs_of kind) output) numbers }
 {
@@ -109,7 +112,7 @@ fn value_from(kind: Kind, output: u32, numbers: [i64; 3]) -> Value
     }
 }
 
-/// The number of the field that is the output; 0 where there is none.
+/// Returns the number of the field that is the output, or 0 if there is none.
 fn field_of(ports: &Ports, output: u32) -> u16
     ensures { result ≡ slice_index_or ports.now.outputs output 0 }
 {
@@ -119,7 +122,7 @@ fn field_of(ports: &Ports, output: u32) -> u16
     }
 }
 
-/// What the node sends where its script sends this.
+/// Returns what the node sends if its script sends `reply`.
 pub(crate) fn reply_of(kind: Kind, ports: &Ports, reply: script_host::Reply) -> SentEvent
     ensures { result ≡ spec.reply_of kind ports.now reply }
 {

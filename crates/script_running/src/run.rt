@@ -15,13 +15,13 @@ use x3d_values::{Field, Kind, ScriptSpec};
 /// A script of a scene.
 #[derive(Debug, Drop)]
 pub struct Run {
-    /// The number of its node.
+    /// The number of the script's node.
     pub node: u32,
-    /// The fields of the node that are its inputs and outputs.
+    /// The fields of the node that are the script's inputs and outputs.
     pub ports: Ports,
 }
 
-/// The number of the field of that name of a node, 0 where it has none.
+/// Returns the number of the node's field with that name, or 0 if there is none.
 fn number_of(scene: &Scene, node: u32, field: &Field) -> u16
     ensures { result ≡ spec.number_in (rows_at scene.now node) (entry field.now) }
 {
@@ -31,7 +31,7 @@ fn number_of(scene: &Scene, node: u32, field: &Field) -> u16
     }
 }
 
-/// The numbers of the fields of these names of a node.
+/// Returns the numbers of the node's fields with these names.
 fn numbers_of(scene: &Scene, node: u32, fields: &[Field]) -> ArrayVec<u16, MAX_PORTS>
     requires { length fields.now ≤ 2 }
     ensures { result.items ≡ map (spec.number_in (rows_at scene.now node)) (map entry fields.now) }
@@ -49,7 +49,7 @@ fn numbers_of(scene: &Scene, node: u32, fields: &[Field]) -> ArrayVec<u16, MAX_P
     numbers
 }
 
-/// The fields of a node that are inputs and outputs of a script of the kind.
+/// Returns the fields of a node that are inputs and outputs of a script of the kind.
 fn ports_of(scene: &Scene, node: u32, kind: Kind) -> Ports
     ensures { result ≡ spec.ports_of (rows_at scene.now node) kind }
 {
@@ -58,7 +58,7 @@ fn ports_of(scene: &Scene, node: u32, kind: Kind) -> Ports
     Ports::new(inputs, outputs)
 }
 
-/// The same of a kind that is known or not.
+/// Like `ports_of`; an unknown kind has no ports.
 fn ports_by(scene: &Scene, node: u32, kind: Option<Kind>) -> Ports
     ensures { result ≡ spec.ports_by (rows_at scene.now node) kind }
 {
@@ -68,7 +68,7 @@ fn ports_by(scene: &Scene, node: u32, kind: Option<Kind>) -> Ports
     }
 }
 
-/// A script that is asked for, as a world runs it.
+/// Returns a script that is asked for as a world runs it.
 fn run_of(scene: &Scene, asked: &ScriptSpec) -> Run
     ensures { result ≡ spec.run_of scene.now asked.now }
 {
@@ -78,7 +78,7 @@ fn run_of(scene: &Scene, asked: &ScriptSpec) -> Run
     }
 }
 
-/// The scripts that are asked for, as a world runs them.
+/// Returns the scripts that are asked for as a world runs them. Fails if memory runs out.
 pub fn runs_of(alloc: Global, scene: &Scene, specs: &[ScriptSpec]) -> Result<Vec<Run>, AllocError>
     ensures { IfOk result (λ runs. runs.items ≡ map (spec.run_of scene.now) specs.now) }
 {

@@ -13,7 +13,7 @@ use std::marker::Model;
 #[derive(Drop)]
 pub struct Runs {
     runs: Vec<Run>,
-    /// The number of the script of each node that has one.
+    /// The number of the script of each node that has one, by the node's number.
     numbers: Vec<Option<usize>>,
 }
 
@@ -29,7 +29,7 @@ impl Model for Runs {
     ghost invariant = { λ r. IsTable r.numbers.items r.runs.items };
 }
 
-/// There is a place for this node.
+/// Extends `numbers` until there is a place for this node.
 fn reach(numbers: &mut Vec<Option<usize>>, node: usize) -> Result<(), AllocError>
     ensures same { OnOk result ((i : ℕ) → number_at numbers.new.items i
         ≡ number_at numbers.old.items i) }
@@ -41,7 +41,7 @@ fn reach(numbers: &mut Vec<Option<usize>>, node: usize) -> Result<(), AllocError
     Ok(())
 }
 
-/// This script is noted at the place of its node, unless another is there.
+/// Notes script `k` at the place of its node, unless a script is noted there.
 fn put(numbers: &mut Vec<Option<usize>>, node: usize, k: usize)
     requires there { node < length numbers.old.items }
     ensures { IsNoted numbers.old.items numbers.new.items node k }
@@ -51,7 +51,7 @@ fn put(numbers: &mut Vec<Option<usize>>, node: usize, k: usize)
     }
 }
 
-/// This script is noted for its node, unless another is.
+/// Like `put`, but makes a place for the node first.
 fn note(numbers: &mut Vec<Option<usize>>, node: usize, k: usize) -> Result<(), AllocError>
     ensures { OnOk result (IsNoted numbers.old.items numbers.new.items node k) }
 {
@@ -66,7 +66,7 @@ impl Runs {
     ghost use Rattle.std.specs.Option.{option_map_or};
     ghost use Rattle.script_running.specs.Running.{no_ports, script_from};
 
-    /// These scripts of a scene.
+    /// Creates the table of these scripts of a scene. Fails if memory runs out.
     pub fn new(alloc: Global, runs: Vec<Run>, scene: &Scene) -> Result<Runs, AllocError>
         ensures { IfOk result (λ made. made ≡ runs.items) }
     {
@@ -77,7 +77,7 @@ impl Runs {
         Ok(Runs { runs, numbers })
     }
 
-    /// The number of the script of a node, where its script is run.
+    /// Returns the number of the script at a node, or `None` if the node has no script that is run.
     pub fn script_of(&self, node: u32) -> Option<usize>
         ensures { result ≡ script_from 0 self.now node }
     {
@@ -87,7 +87,7 @@ impl Runs {
         }
     }
 
-    /// The node of a script.
+    /// Returns the node of the k-th script.
     pub fn node(&self, k: usize) -> u32
         requires { k < length self.now }
         ensures { result ≡ option_map_or (λ run. run.node) (slice_get self.now k) 0 }
@@ -95,7 +95,7 @@ impl Runs {
         self.runs[k].node
     }
 
-    /// The fields of its node that are the inputs and outputs of a script.
+    /// Returns the fields of its node that are the inputs and outputs of the k-th script.
     pub fn ports(&self, k: usize) -> &Ports
         requires { k < length self.now }
         ensures { result.now ≡ option_map_or (λ run. run.ports) (slice_get self.now k) no_ports }

@@ -8,7 +8,7 @@ use scene_core::Scene;
 use std::alloc::{AllocError, Global};
 use x3d_values::{Items, Kind};
 
-/// The places from which and to which a Mover moves.
+/// Returns the places from which and to which a mover moves.
 fn way(alloc: Global, scene: &Scene, node: u32) -> Result<Items<i64>, AllocError>
     ensures { IfOk result (λ state. state ≡ place_in (value_named scene.now node (codes "from"))
         ++ place_in (value_named scene.now node (codes "to"))) }
@@ -18,7 +18,7 @@ fn way(alloc: Global, scene: &Scene, node: u32) -> Result<Items<i64>, AllocError
     Items::from_slice(alloc, &[from.x, from.y, from.z, to.x, to.y, to.z])
 }
 
-/// The state in which a script of the kind starts at that node.
+/// Returns the state in which a script of the kind starts at that node.
 fn start_of(alloc: Global, scene: &Scene, node: u32, kind: Kind) -> Result<Items<i64>, AllocError>
     ensures { IfOk result (λ state. state ≡ start_by scene.now node kind) }
 {
@@ -36,7 +36,8 @@ fn start_of(alloc: Global, scene: &Scene, node: u32, kind: Kind) -> Result<Items
     }
 }
 
-/// The state in which a script starts whose interface fits its kind or not.
+/// Returns the state in which a script starts; an empty list if its interface doesn't fit its kind.
+/// Fails if memory runs out.
 pub fn start_where(
     alloc: Global,
     scene: &Scene,

@@ -5,14 +5,15 @@ ghost use Rattle.script_running.specs.Values as spec;
 
 use x3d_values::{FieldType, Value, Vec3};
 
-/// The least number of 32 bits.
+/// The least 32-bit integer.
 const LEAST: i64 = -2_147_483_648;
 
-/// The greatest number of 32 bits.
+/// The greatest 32-bit integer.
 const GREATEST: i64 = 2_147_483_647;
 
-/// The numbers of a value: a truth value is 0 or 1, a time its microseconds, other numbers are
-/// millionths, and those that the type doesn't use are 0. Zeros of a type that no script takes.
+/// Returns the numbers of a value. A truth value is 0 or 1, an integer is itself, a time is in
+/// microseconds, and other numbers are in millionths. Numbers that the type doesn't use are 0. A
+/// value of a type that no script takes or sends gives zeros.
 pub fn numbers_of(value: &Value) -> [i64; 3]
     ensures { result ≡ spec.numbers_of value.now }
 {
@@ -32,7 +33,8 @@ fn as_integer(number: i64) -> i32
     number.clamp(LEAST, GREATEST) as i32
 }
 
-/// The value of that type with these numbers; FALSE where no script sends the type.
+/// Returns the value of that type with these numbers, or FALSE if no script sends the type. An
+/// SFInt32 is clamped to 32 bits.
 pub fn value_of(field_type: FieldType, numbers: [i64; 3]) -> Value
     ensures { result ≡ spec.value_of field_type numbers }
 {

@@ -1,4 +1,4 @@
--- Which kinds are known among the scripts that a world asks for.
+-- Which of the scripts that a world asks for have a known kind.
 use Rattle.std.specs.Prelude.{◌≢◌, ℕ, ◌<◌, List, slice_get, IsSomeAnd, None}
 use Rattle.x3d_values.specs.declared.script.ScriptSpec.{ScriptSpec}
 

@@ -1,5 +1,5 @@
--- What callers see of the scripts of a world: for each its kind, its state, and whether it counts
--- as initialized.
+-- What callers see of each script of a world: its kind, its state, and whether it counts as
+-- initialized.
 use Rattle.std.specs.Prelude.{◌≡◌, ℕ, ℤ, List, Bool, true, false, IsTrue, slice_get, slice_set, IsSomeAnd}
 use Rattle.std.specs.Option.{ForSome}
 use Rattle.x3d_values.specs.declared.script.Kind.{Kind}
@@ -12,7 +12,7 @@ pub record SlotView : Type 0 where
   pub state : List ℤ
   pub initialized : Bool
 
--- a script that was not initialized, by what it means
+-- a script that was not initialized, seen by its kind and its state
 abbrev pub fresh_record : {X : Type 0} → (X → Kind) → (X → List ℤ) → X → SlotView
 fresh_record kind_of numbers x = record { kind = kind_of x; state = numbers x; initialized = false }
 
@@ -31,7 +31,7 @@ abbrev pub after_call : Call → SlotView → SlotView
 after_call call r =
     record r { state = (answer_of call r).state; initialized = counts_after call r.initialized }
 
--- script k was called, which changed it alone and gave these replies
+-- script k was called: the call changed only this script and gave these replies
 abbrev pub CalledAt : Call → ℕ → List SlotView → List SlotView → List Reply → Type 0
 CalledAt call k old new replies =
     IsSomeAnd (slice_get old k) (λ r. (new ≡ slice_set old k (after_call call r))

@@ -27,7 +27,7 @@ first_kind word (kind ∷ kinds) =
 abbrev pub all_kinds : List Kind
 all_kinds = Counter ∷ Gate ∷ Adder ∷ Batch ∷ Mover ∷ Meter ∷ []
 
--- the kind of that word
+-- the kind with that word
 abbrev pub kind_named : List ℕ → Option Kind
 kind_named word = first_kind word all_kinds
 
@@ -42,7 +42,7 @@ inputs Batch = input (codes "item") SFBool ∷ []
 inputs Mover = input (codes "fraction") SFFloat ∷ []
 inputs Meter = input (codes "reading") SFFloat ∷ []
 
--- what a scene gives to a script at its start
+-- the values that a scene gives to a script at its start
 abbrev pub settings : Kind → List FieldRowView
 settings Counter =
     initial (codes "start") SFInt32 Empty ∷ initial (codes "step") SFInt32 Empty ∷ []

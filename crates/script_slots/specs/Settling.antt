@@ -1,31 +1,31 @@
--- Which scripts are to settle in a timestamp (ISO/IEC 19775-1, Script: events processed; the order
--- is our choice).
+-- Which scripts are to be settled in a timestamp (ISO/IEC 19775-1, Script: events processed; the
+-- order is our choice).
 use Rattle.std.specs.Prelude.{ℕ, ◌++◌, ◌==◌, ◌&&◌, Bool, true, not, List, [], ◌∷◌, Option, if◌then◌else◌}
 use Rattle.std.specs.List.{find, list_any, range_with_len}
 
--- how many scripts there are, numbered from 0; those that have received an event in a timestamp,
--- each once, and those that were settled
+-- the number of scripts, which are numbered from 0; those that have received an event in a
+-- timestamp, each once; and those that were settled
 pub record DueScriptsView : Type 0 where
   pub count : ℕ
   pub received : List ℕ
   pub settled : List ℕ
 
--- of so many scripts none has received
+-- none of `count` scripts has received an event
 abbrev pub unsettled : ℕ → DueScriptsView
 unsettled count = record { count = count; received = []; settled = [] }
 
 abbrev pub is_among : List ℕ → ℕ → Bool
 is_among numbers k = list_any (λ n. n == k) numbers
 
--- the script has received, and isn't settled
+-- the script has received an event and isn't settled
 abbrev pub is_due : DueScriptsView → ℕ → Bool
 is_due s k = is_among s.received k && not (is_among s.settled k)
 
--- the lowest such script
+-- the lowest script that is due
 unfoldable pub lowest_due : DueScriptsView → Option ℕ
 lowest_due s = find (is_due s) (range_with_len 0 s.count)
 
--- a script receives an event
+-- the scripts that received an event, with script k among them
 abbrev pub noted : List ℕ → ℕ → List ℕ
 noted received k = if is_among received k then received else received ++ k ∷ []
 

@@ -50,7 +50,7 @@ meter_fault readings =
     if nat_le (length readings) 8 then range_fault (list_all coordinate_fits readings)
     else Some StateLength
 
--- why a list is no state of a script of this kind: its length, or else a number out of range
+-- why a list is not a state of a script of this kind: its length, or else a number out of range
 abbrev pub state_fault : Kind → List ℤ → Option StateFault
 state_fault Counter = counter_fault
 state_fault Gate = gate_fault

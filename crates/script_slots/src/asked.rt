@@ -5,7 +5,7 @@ ghost use Rattle.script_slots.specs.Asked.{KnownBelow};
 
 use x3d_values::ScriptSpec;
 
-/// The first script whose kind is not known.
+/// Returns the index of the first script whose kind is unknown, or `None` if all kinds are known.
 pub fn first_unknown(specs: &[ScriptSpec]) -> Option<usize>
     ensures { MatchOption result
         (KnownBelow specs.now (length specs.now))
@@ -19,14 +19,14 @@ pub fn first_unknown(specs: &[ScriptSpec]) -> Option<usize>
     None
 }
 
-/// Whether there are that many boxes, one for each script.
+/// Reports whether there are as many boxes as scripts.
 pub fn are_as_many(specs: &[ScriptSpec], boxes: usize) -> bool
     ensures { IsTrue result ↔ (length specs.now ≡ boxes) }
 {
     specs.len() == boxes
 }
 
-/// Whether a state is the one in which the script starts.
+/// Reports whether a state is the one in which the script starts.
 pub fn starts_in(spec: &ScriptSpec, state: &[i64]) -> bool
     ensures { IsTrue result ↔ (state.now ≡ spec.now.start) }
 {

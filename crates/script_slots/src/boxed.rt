@@ -1,4 +1,4 @@
-//! A boxed script is a script: each call goes to the object in the box.
+//! A boxed script is a script: each call is forwarded to the object in the box.
 
 use crate::behaviour::Behaviour;
 use crate::fault::StateFault;

@@ -1,4 +1,4 @@
-//! The scripts that have received in a timestamp, and those of them that are still to settle.
+//! The scripts that have received an event in a timestamp, and those of them still to be settled.
 
 ghost use Rattle.std.specs.Prelude.{◌≡◌, ◌≤◌, [], length};
 ghost use Rattle.script_slots.specs.Table.{AreFlags};
@@ -7,18 +7,18 @@ use std::alloc::{AllocError, Global};
 use std::collections::BTreeSet;
 use std::marker::Model;
 
-/// The scripts that have received in a timestamp, and those that were settled in it.
+/// The scripts that have received an event in a timestamp, and those that were settled in it.
 ///
-/// Each call takes time logarithmic in the number of scripts, but `begin`, which takes as much as
-/// what is held.
+/// Each call takes time logarithmic in the number of scripts, except `begin`, which is linear in
+/// the number of scripts that have received an event.
 #[derive(Drop)]
 pub struct DueScripts {
-    /// Whether each script has received, by its number.
+    /// Whether each script has received an event, by the script's number.
     has_received: Vec<bool>,
-    /// Those that have received.
+    /// The scripts that have received an event.
     received: Vec<usize>,
     settled: Vec<usize>,
-    /// Those that have received and aren't settled.
+    /// The scripts that have received an event and aren't settled.
     due: BTreeSet<usize>,
 }
 
@@ -49,7 +49,7 @@ impl DueScripts {
     ghost use Rattle.std.specs.Prelude.{◌≡◌, ◌<◌, IfOk, OnOk, OnErr, true, length};
     ghost use Rattle.script_slots.specs.Settling.{is_due, lowest_due, unsettled, with_received, with_settled};
 
-    /// Of so many scripts none has received.
+    /// Creates the table for `count` scripts, none of which has received an event.
     pub fn new(alloc: Global, count: usize) -> Result<DueScripts, AllocError>
         ensures { IfOk result (λ s. s ≡ unsettled count) }
     {
@@ -61,7 +61,7 @@ impl DueScripts {
         })
     }
 
-    /// A script receives an event. Where memory is refused nothing changes.
+    /// Notes that a script received an event. If memory runs out, nothing changes.
     pub fn receive(&mut self, script: usize) -> Result<(), AllocError>
         requires { script < self.old.count }
         ensures ok { OnOk result (self.new ≡ with_received self.old script) }
@@ -79,14 +79,14 @@ impl DueScripts {
         Ok(())
     }
 
-    /// The lowest script that has received and isn't settled.
+    /// Returns the lowest script that has received an event and isn't settled, if there is one.
     pub fn next(&self) -> Option<usize>
         ensures { result ≡ lowest_due self.now }
     {
         self.due.first().copied()
     }
 
-    /// A script that is due was settled. Where memory is refused nothing changes.
+    /// Notes that a script that is due was settled. If memory runs out, nothing changes.
     pub fn settle(&mut self, script: usize) -> Result<(), AllocError>
         requires { is_due self.old script ≡ true }
         ensures ok { OnOk result (self.new ≡ with_settled self.old script) }
@@ -97,14 +97,14 @@ impl DueScripts {
         Ok(())
     }
 
-    /// How many scripts were settled.
+    /// Returns how many scripts were settled.
     pub fn settles(&self) -> usize
         ensures { result ≡ length self.now.settled }
     {
         self.settled.len()
     }
 
-    /// Another timestamp begins: no script has received.
+    /// Begins another timestamp: no script has received an event in it.
     pub fn begin(&mut self)
         ensures { self.new ≡ unsettled self.old.count }
     {

@@ -1,4 +1,4 @@
-//! What is refused, and why.
+//! Why a state is refused.
 
 ghost use Rattle.std.specs.Prelude.{◌≡◌};
 ghost use Rattle.script_slots.specs.Faults.{state_fault_name};
@@ -8,7 +8,7 @@ use std::alloc::{AllocError, AllocFailed};
 use std::fmt;
 use thiserror::Error;
 
-/// Why a list of numbers is no state of a script. The first that holds is told.
+/// Why a list of numbers is not a state of a script. The first fault that applies is reported.
 #[derive(Clone, Copy, Debug, PartialEq, Eq, Error)]
 pub enum StateFault {
     #[error("the state has another length")]
@@ -20,6 +20,7 @@ pub enum StateFault {
 }
 
 impl StateFault {
+    /// Returns the name of the fault.
     pub fn name(self) -> &'static str
         ensures { result.now ≡ state_fault_name self }
     {

@@ -1,6 +1,6 @@
-//! One script of a world: the contract of its box, its place among the others and whether it counts
-//! as initialized, and what a world asks of the boxes that it takes; and which scripts are to
-//! settle in the course of one timestamp.
+//! One script of a world: the contract of its box, its slot among the others, and whether it counts
+//! as initialized. Also what a world asks of the boxes that it takes, and which scripts are to be
+//! settled in a timestamp.
 #![tactic(auto)]
 
 mod asked;

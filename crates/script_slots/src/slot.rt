@@ -14,7 +14,7 @@ use std::marker::Model;
 use std::mem;
 use x3d_values::{Items, Kind};
 
-/// Puts a script into a state of its kind, which is refused for memory alone.
+/// Puts a script into a state of its kind. Fails only if memory runs out.
 fn put<B: Behaviour>(script: &mut B, state: &[i64]) -> Result<(), AllocError>
     requires { state_fault (B.kind_of script.old) state.now ≡ None }
     ensures kind { B.kind_of script.new ≡ B.kind_of script.old }
@@ -28,6 +28,7 @@ fn put<B: Behaviour>(script: &mut B, state: &[i64]) -> Result<(), AllocError>
     }
 }
 
+/// One script of a world: its box, and whether it counts as initialized.
 #[derive(Drop)]
 pub struct Slot<B: Behaviour> {
     script: B,
@@ -47,6 +48,7 @@ impl<B: Behaviour> Model for Slot<B> {
 }
 
 impl<B: Behaviour> Slot<B> {
+    /// Creates the slot of a script that doesn't count as initialized.
     pub fn new(script: B) -> Slot<B>
         ensures { result ≡ fresh_record B.kind_of B.numbers script }
     {
@@ -56,12 +58,14 @@ impl<B: Behaviour> Slot<B> {
         }
     }
 
+    /// Returns the kind of the script.
     pub fn kind(&self) -> Kind
         ensures { result ≡ self.now.kind }
     {
         self.script.kind()
     }
 
+    /// Initializes the script, which then counts as initialized. Returns what it sends.
     pub fn initialize(&mut self) -> Replies
         ensures after { self.new ≡ after_call Initialize self.old }
         ensures replies { result.items ≡ (answer_of Initialize self.old).replies }
@@ -70,6 +74,8 @@ impl<B: Behaviour> Slot<B> {
         self.script.initialize()
     }
 
+    /// Hands an event to the script at one of its inputs, and returns what it sends. `takes_event`
+    /// tests that the event is of the input's type.
     pub fn receive(&mut self, input: u32, event: [i64; 3]) -> Replies
         requires { IsTrue (takes_event self.old.kind input event) }
         ensures after { self.new ≡ after_call (Receive input event) self.old }
@@ -78,6 +84,7 @@ impl<B: Behaviour> Slot<B> {
         self.script.receive(input, event)
     }
 
+    /// Settles the script after the events of a timestamp, and returns what it sends.
     pub fn settle(&mut self) -> Replies
         ensures after { self.new ≡ after_call Settle self.old }
         ensures replies { result.items ≡ (answer_of Settle self.old).replies }
@@ -85,7 +92,8 @@ impl<B: Behaviour> Slot<B> {
         self.script.events_processed()
     }
 
-    /// Shuts the script down where it counts as initialized; it doesn't count as that any more.
+    /// Shuts the script down if it counts as initialized. Afterwards it doesn't count as
+    /// initialized.
     pub fn shutdown(&mut self)
         ensures { self.new ≡ record self.old { initialized = false } }
     {
@@ -95,6 +103,7 @@ impl<B: Behaviour> Slot<B> {
         }
     }
 
+    /// Returns the state of the script. Fails if memory runs out.
     pub fn state(&self, alloc: Global) -> Result<Items<i64>, AllocError>
         ensures value { IfOk result (λ state. state ≡ self.now.state) }
         ensures valid { state_fault self.now.kind self.now.state ≡ None }
@@ -104,6 +113,7 @@ impl<B: Behaviour> Slot<B> {
         Ok(Items::from_vec(state))
     }
 
+    /// Checks that a list of numbers is a state of the script; returns why it isn't.
     pub fn fits(&self, state: &[i64]) -> Result<(), StateFault>
         ensures ok { OnOk result (state_fault self.now.kind state.now ≡ None) }
         ensures err { IfErr result (λ fault. state_fault self.now.kind state.now ≡ Some fault) }
@@ -111,7 +121,7 @@ impl<B: Behaviour> Slot<B> {
         self.script.fits(state)
     }
 
-    /// Puts the script into a state of its kind.
+    /// Puts the script into a state of its kind. If memory runs out, nothing changes.
     pub fn restore(&mut self, state: &[i64]) -> Result<(), AllocError>
         requires { state_fault self.old.kind state.now ≡ None }
         ensures ok { OnOk result (self.new ≡ record self.old { state = state.now }) }
@@ -120,12 +130,12 @@ impl<B: Behaviour> Slot<B> {
         put(&mut self.script, state)
     }
 
-    /// Puts a script, of whatever kind, in the place of this one, in a state of its kind. The old
-    /// one is shut down where it counts as initialized, and the new one then counts as that without
-    /// a call.
+    /// Replaces the script with one of any kind, in a state of the new one's kind. The old script
+    /// is shut down if it counts as initialized; the new one then counts as initialized without a
+    /// call. If memory runs out, nothing changes.
     pub fn take(&mut self, mut script: B, state: &[i64]) -> Result<(), AllocError>
         requires { state_fault (B.kind_of script) state.now ≡ None }
-        // The script is the new one: the old one's kind may be another.
+        // `script` is the new script, so its kind may differ from the old one's.
         ensures ok { OnOk result (self.new
             ≡ record self.old { kind = B.kind_of script; state = state.now }) }
         ensures err { OnErr result (self.new ≡ self.old) }
@@ -139,7 +149,7 @@ impl<B: Behaviour> Slot<B> {
     }
 }
 
-/// Hands an event to the script at a place.
+/// Hands an event to the k-th script, and returns what the script sends.
 pub fn receive_at<B: Behaviour>(
     slots: &mut [Slot<B>],
     k: usize,
