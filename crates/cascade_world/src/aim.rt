@@ -2,19 +2,19 @@
 
 ghost use Rattle.std.specs.Prelude.{◌≡◌, ◌<◌, ◌≤◌, pos, map, length, take, None};
 ghost use Rattle.std.specs.Option.{option_copied, option_map};
+ghost use Rattle.x3d_values.specs.Ranges.{max_sensors};
 ghost use Rattle.sensor_plane.specs.Paths.{list_path};
 ghost use Rattle.pick_core.specs.Sites.{rows_of};
-ghost use Rattle.scene_core.specs.Places.{max_sensors};
 ghost use Rattle.cascade_world.specs.Answers.{pointer_at};
 ghost use Rattle.cascade_world.specs.Insides.{contact_by, contact_in, contact_of, inside_at, inside_by, insides as insides_of, place_in, seen};
 
 use crate::world::{Live, WorldData};
 use arrayvec::ArrayVec;
-use pick_core::{BoxCache, Hit, MAX_SENSORS, Path, local_point, sensors_of};
+use pick_core::{BoxCache, Hit, Path, local_point, sensors_of};
 use pick_track::sensor_depth;
 use scene_core::Scene;
 use sensor_plane::{Contact, ListPath, SensorPointer};
-use x3d_values::{Fields, Pointer, Ray, Vec3};
+use x3d_values::{MAX_SENSORS, Fields, Pointer, Ray, Vec3};
 
 /// A sensor that a pointer is inside of: the place of the hit in the sensor's coordinates, in
 /// millionths, and the number of positions of the hit's path that lead to the list that holds the

@@ -4,10 +4,6 @@ use Rattle.std.specs.Str.{bytes_eq}
 use Rattle.classic_rules.specs.declared.declared.DeclaredIn.{DeclaredIn}
 use Rattle.classic_rules.specs.declared.declared.DeclaredIn.TheVariants.{Script, Interface}
 
--- nodes and the bodies of PROTOs nest at most 64 deep (our choice)
-abbrev pub max_depth : ℕ
-max_depth = 64
-
 -- `IS name` may appear in the declarations of a Script, not in an interface
 abbrev pub takes_is : DeclaredIn → Bool
 takes_is Script = true

@@ -1,9 +1,9 @@
 //! How deep nodes and the bodies of PROTOs may nest.
 
 ghost use Rattle.std.specs.Prelude.{◌≡◌};
-ghost use Rattle.classic_rules.specs.Bounds.{max_depth};
+ghost use Rattle.x3d_values.specs.Ranges.{max_depth};
 
-const MAX_DEPTH: u32 = 64;
+use x3d_values::MAX_DEPTH;
 
 /// Returns how deep nodes and the bodies of PROTOs may nest in a statement of a text.
 pub fn top_depth() -> u32

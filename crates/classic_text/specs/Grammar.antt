@@ -1,9 +1,10 @@
 -- The grammar as a parser from left to right (ISO/IEC 19776-2, grammar).
 use Rattle.std.specs.Prelude.{ℕ, ℤ, zero, suc, Bool, true, false, ◌||◌, ◌&&◌, if◌then◌else◌, List, [], ◌∷◌, ◌++◌, length, Option, Some, None, Ok, Err, codes}
+use Rattle.x3d_values.specs.Ranges.{max_depth}
 use Rattle.x3d_values.specs.declared.field_type.Access.{Access}
 use Rattle.classic_lex.specs.Lexed.{Tok}
 use Rattle.x3d_values.specs.Access.{is_initial}
-use Rattle.classic_rules.specs.Bounds.{max_depth, is_script}
+use Rattle.classic_rules.specs.Bounds.{is_script}
 use Rattle.classic_tree.specs.declared.tree.RouteEnd.{RouteEnd}
 use Rattle.classic_tree.specs.declared.tree.RouteText.{RouteText}
 use Rattle.classic_tree.specs.declared.tree.RawValue.{RawValue}

@@ -5,7 +5,7 @@ use Rattle.x3d_values.specs.declared.field_type.Access.{Access}
 use Rattle.x3d_values.specs.declared.field_type.Access.TheVariants.{InputOnly, OutputOnly, InputOutput, InitializeOnly}
 use Rattle.classic_lex.specs.Lexed.{Tok}
 use Rattle.classic_lex.specs.Tokens.{HasTokens, HasVersion}
-pub use Rattle.classic_rules.specs.Bounds.{max_depth}
+pub use Rattle.x3d_values.specs.Ranges.{max_depth}
 use Rattle.classic_tree.specs.declared.tree.RouteText.{RouteText}
 use Rattle.classic_tree.specs.declared.tree.RawValue.{RawValue}
 use Rattle.classic_tree.specs.declared.tree.RawValue.TheVariants as v

@@ -6,9 +6,9 @@ ghost use Rattle.pick_core.specs.Sensors.{sensors_of as sensors_in};
 ghost use Rattle.embed_reading.specs.Meeting.{hit_by};
 
 use arrayvec::ArrayVec;
-use pick_core::{Hit, MAX_SENSORS, pick, sensors_of};
+use pick_core::{Hit, pick, sensors_of};
 use scene_core::Scene;
-use x3d_values::{Fields, Ray};
+use x3d_values::{MAX_SENSORS, Fields, Ray};
 
 /// The box that a ray hits first, and the sensors that concern it, by their numbers.
 #[derive(Drop)]

@@ -5,7 +5,7 @@ use Rattle.std.specs.List.{AllByRecursion, range_with_len}
 use Rattle.x3d_values.specs.declared.fields.Fields.{Fields}
 use Rattle.x3d_values.specs.declared.node_type.NodeKind.TheVariants.{Child}
 use Rattle.x3d_values.specs.declared.node_type.NodeType.{NodeType}
-use Rattle.x3d_values.specs.Ranges.{max_depth}
+use Rattle.x3d_values.specs.Ranges.{max_depth, max_places}
 use Rattle.x3d_values.specs.Tables.{AreTyped, rows}
 use Rattle.classic_tree.specs.declared.tree.Document.{Document}
 use Rattle.proto_flat.specs.declared.flat.Flat.{Flat}
@@ -19,7 +19,7 @@ use Rattle.scene_core.specs.declared.scene.SceneNode.{SceneNode}
 use Rattle.scene_core.specs.Building.{limits, nodes_by, nodes_of, scene_of}
 use Rattle.scene_core.specs.Deep.{too_deep}
 use Rattle.scene_core.specs.Faults.{fault, ◌>>=◌}
-use Rattle.scene_core.specs.Places.{any_crowded, max_places, places}
+use Rattle.scene_core.specs.Places.{any_crowded, places}
 use Rattle.scene_core.specs.Wide.{any_wide}
 use Rattle.scene_core.specs.Scene.{SceneView}
 use Rattle.scene_core.specs.Typed.{all_children, child, line_of, takes}

@@ -4,10 +4,10 @@
 use Rattle.std.specs.Prelude.{◌≡◌, ◌↔◌, ℕ, ◌==◌, ◌≤◌, ◌&&◌, ◌++◌, nat_lt, Bool, true, false, List, [], ◌∷◌, length, Option, Some, None, Ok, slice_get}
 use Rattle.std.specs.List.{list_all, list_any}
 use Rattle.std.specs.Option.{option_map_or}
+use Rattle.x3d_values.specs.Ranges.{max_sensors}
 use Rattle.x3d_values.specs.declared.fields.Fields.{Fields}
 use Rattle.proto_flat.specs.declared.flat.Flat.{Flat}
 use Rattle.scene_core.specs.Building.{scene_of}
-use Rattle.scene_core.specs.Places.{max_sensors}
 use Rattle.scene_core.specs.Scene.{SceneView}
 use Rattle.pick_core.specs.Sensors.{is_enabled, list_of, sensors_of, siblings_in}
 

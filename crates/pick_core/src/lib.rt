@@ -29,6 +29,6 @@ pub use look::{Motion, motion_of};
 pub use motion::{clamped, move_point};
 pub use pick_rules::{Bounds, Fraction};
 pub use row::BoxRow;
-pub use sensors::{MAX_SENSORS, is_enabled, is_held, is_sensor, sensors_of};
+pub use sensors::{is_enabled, is_held, is_sensor, sensors_of};
 pub use trail::Place;
 pub use walk::pick;

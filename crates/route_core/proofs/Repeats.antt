@@ -5,6 +5,7 @@ use Rattle.std.specs.List.{fold, list_any}
 use Rattle.std.proofs.lemmas.Bool.{cond_both}
 use Rattle.std.proofs.lemmas.List.{get_or-take}
 use Rattle.std.proofs.lemmas.List.Elements.{All-nil, All-push, All-head, All-tail, All-weaker}
+use Rattle.x3d_values.specs.Ranges.{max_routes}
 use Rattle.scene_core.specs.Scene.{SceneView}
 use Rattle.scene_core.specs.declared.scene.End.{End}
 use Rattle.scene_core.specs.declared.scene.Route.{Route}
@@ -13,7 +14,6 @@ use Rattle.route_core.specs.Ends.{IsKnown, field_counts}
 use Rattle.route_core.specs.Resolved.{added, firsts, limited, same_route}
 use Rattle.route_core.specs.declared.fault.RouteFault.{RouteFault}
 use Rattle.route_core.specs.declared.fault.RouteFaultKind.TheVariants.{TooMany}
-use Rattle.route_core.specs.declared.resolving.TheConstants.{MOST_ROUTES}
 
 abbrev good : List Route → Result (List Route) RouteFault
 good routes = Ok routes
@@ -33,7 +33,7 @@ All-firsts P routes all = All-fold P [] routes (All-nil P) all
 
 -- routes that are not too many are all of them
 pub limited_is : (routes kept : List Route) → limited routes ≡ Ok kept → routes ≡ kept
-limited_is routes kept h = by_many (nat_lt MOST_ROUTES (length routes)) h where
+limited_is routes kept h = by_many (nat_lt max_routes (length routes)) h where
   by_many : (b : Bool) → (if b then refused else good routes) ≡ good kept → routes ≡ kept
   by_many true h = absurd cc
   by_many false h = cc

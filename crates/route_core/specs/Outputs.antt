@@ -1,5 +1,6 @@
 -- Routes by their outputs.
 use Rattle.std.specs.Prelude.{◌≡◌, ℕ, ◌+◌, ◌-◌, ◌<◌, ◌≤◌, List, [], ◌∷◌, Option, Some, None, if◌then◌else◌, nat_lt, length, sum, take, slice_index, slice_range}
+use Rattle.x3d_values.specs.Ranges.{max_routes}
 use Rattle.scene_core.specs.declared.scene.End.{End}
 use Rattle.scene_core.specs.declared.scene.Route.{Route}
 pub use Rattle.route_core.specs.Firsts.{same_end}
@@ -52,7 +53,7 @@ pub record IsGroup (starts numbers : List ℕ) (k : ℕ) (group : List ℕ) : Ty
 
 -- the table holds the numbers of each output's routes; no route has any other source
 pub record AreGrouped (routes : List Route) (firsts starts numbers : List ℕ) : Type 0 where
-  pub few : length routes ≤ 65536
+  pub few : length routes ≤ max_routes
   pub outside : (e : End) → number_of firsts e ≡ None → places_of e routes ≡ []
   pub inside : (e : End) (k : ℕ) → number_of firsts e ≡ Some k
       → IsGroup starts numbers k (places_of e routes)

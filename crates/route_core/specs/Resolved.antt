@@ -1,12 +1,12 @@
 -- The routes of a document in its scene (ISO/IEC 19775-1, ROUTE).
 use Rattle.std.specs.Prelude.{ℕ, nat_lt, List, [], ◌∷◌, length, Result, Ok, Err, if◌then◌else◌}
+use Rattle.x3d_values.specs.Ranges.{max_routes}
 use Rattle.proto_flat.specs.declared.flat.Flat.{Flat}
 use Rattle.proto_flat.specs.declared.flat.FlatRoute.{FlatRoute}
 use Rattle.scene_core.specs.Scene.{SceneView}
 use Rattle.scene_core.specs.declared.scene.Route.{Route}
 pub use Rattle.route_core.specs.Firsts.{same_route, added, firsts}
 use Rattle.route_core.specs.Ends.{route_of}
-use Rattle.route_core.specs.declared.resolving.TheConstants.{MOST_ROUTES}
 use Rattle.route_core.specs.declared.fault.RouteFault.{RouteFault}
 use Rattle.route_core.specs.declared.fault.RouteFaultKind.{RouteFaultKind}
 use Rattle.route_core.specs.declared.fault.RouteFaultKind.TheVariants.{TooMany, Memory}
@@ -35,7 +35,7 @@ each_of scene (r ∷ rs) = before_others (at_line r.line (route_of scene r)) (ea
 -- the limit of a scene's routes (our choice), which an expanded document keeps
 abbrev pub limited : List Route → Result (List Route) RouteFault
 limited routes =
-    if nat_lt MOST_ROUTES (length routes)
+    if nat_lt max_routes (length routes)
     then Err (record { kind = TooMany; line = 0 })
     else Ok routes
 

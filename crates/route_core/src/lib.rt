@@ -22,6 +22,6 @@ mod routes;
 
 pub use fault::{RouteFault, RouteFaultKind};
 pub use outputs::{firsts_of, number_of};
-pub use resolving::{MOST_ROUTES, field_counts};
+pub use resolving::field_counts;
 pub use routes::Routes;
 pub use scene_core::{End, Route};

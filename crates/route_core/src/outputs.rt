@@ -1,6 +1,7 @@
 //! The fields of all nodes by number: first those of the first node, then those of the next.
 
 ghost use Rattle.std.specs.Prelude.{◌≡◌, ◌^◌, ◌≤◌, ◌<◌, IfOk, All, length, map, sum};
+ghost use Rattle.x3d_values.specs.Ranges.{max_fields};
 ghost use Rattle.route_core.specs.Outputs.{AreFirsts, IsField, number_of, place_in};
 
 use scene_core::{End, Route};
@@ -9,7 +10,7 @@ use std::alloc::{AllocError, Global};
 /// Returns the number of each node's first field, followed by the number of all fields. Fails if
 /// memory is refused.
 pub fn firsts_of(alloc: Global, field_counts: &[u32]) -> Result<Vec<usize>, AllocError>
-    requires few { All (λ count. count ≤ 65536) field_counts.now }
+    requires few { All (λ count. count ≤ max_fields) field_counts.now }
     requires nodes { length field_counts.now ≤ 2 ^ 32 }
     ensures { IfOk result (λ firsts. AreFirsts field_counts.now firsts.items) }
 {
@@ -44,7 +45,7 @@ pub(crate) fn sources_of(
     routes: &[Route],
 ) -> Result<Vec<usize>, AllocError>
     requires nodes { length field_counts.now ≤ 2 ^ 32 }
-    requires counts { All (λ count. count ≤ 65536) field_counts.now }
+    requires counts { All (λ count. count ≤ max_fields) field_counts.now }
     requires firsts { AreFirsts field_counts.now firsts.now }
     requires fields { All (λ r. IsField field_counts.now r.source) routes.now }
     ensures { IfOk result (λ all. all.items ≡ map (λ r. place_in firsts.now r.source) routes.now) }

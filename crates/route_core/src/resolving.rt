@@ -1,6 +1,7 @@
 //! Resolves the routes of a document in its scene.
 
 ghost use Rattle.std.specs.Prelude.{◌≡◌, ◌^◌, ◌≤◌, IfOk, All, length, take};
+ghost use Rattle.x3d_values.specs.Ranges.{max_fields, max_routes};
 ghost use Rattle.x3d_lists.specs.Answers.{Gives};
 ghost use Rattle.route_core.specs.Ends as ends;
 ghost use Rattle.route_core.specs.Ends.{IsKnown, field_counts};
@@ -15,9 +16,7 @@ use proto_flat::FlatRoute;
 use scene_core::{Route, Scene};
 use std::alloc::{AllocError, Global};
 use x3d_lists::Items;
-
-/// The largest number of routes in a scene. An expanded document has no more.
-pub const MOST_ROUTES: usize = 65_536;
+use x3d_values::MAX_ROUTES;
 
 /// The largest number of nodes: node numbers have 32 bits.
 pub(crate) const MOST_NODES: usize = 1 << 32;
@@ -59,10 +58,10 @@ fn each_by(
 pub(crate) fn distinct_routes(alloc: Global, each: &[Route]) -> Result<Items<Route>, RouteFault>
     ensures exact { Gives memory (λ all. all) result (limited (firsts each.now)) }
     ensures are { IfOk result (λ all. all ≡ firsts each.now) }
-    ensures few { IfOk result (λ all. length all ≤ 65536) }
+    ensures few { IfOk result (λ all. length all ≤ max_routes) }
 {
     let routes = without_repeats(alloc, each)?;
-    if MOST_ROUTES < routes.len() {
+    if MAX_ROUTES < routes.len() {
         drop(routes);
         return Err(RouteFault {
             kind: RouteFaultKind::TooMany,
@@ -76,7 +75,7 @@ pub(crate) fn distinct_routes(alloc: Global, each: &[Route]) -> Result<Items<Rou
 /// no more nodes. Fails if memory is refused.
 pub fn field_counts(alloc: Global, scene: &Scene) -> Result<Vec<u32>, AllocError>
     ensures are { IfOk result (λ counts. counts.items ≡ take (2 ^ 32) (field_counts scene.now)) }
-    ensures few { IfOk result (λ counts. All (λ count. count ≤ 65536) counts.items) }
+    ensures few { IfOk result (λ counts. All (λ count. count ≤ max_fields) counts.items) }
 {
     let mut counts = Vec::new(alloc);
     for node in 0..scene.node_count().min(MOST_NODES) {

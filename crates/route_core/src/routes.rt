@@ -1,6 +1,7 @@
 //! The routes of a scene, in the order of the text and by their outputs.
 
 ghost use Rattle.std.specs.Prelude.{◌≡◌, ◌+◌, ◌<◌, ◌≤◌, length, slice_index};
+ghost use Rattle.x3d_values.specs.Ranges.{max_fields, max_routes};
 ghost use Rattle.route_core.specs.Outputs.{part_at};
 
 use crate::fault::RouteFault;
@@ -64,8 +65,8 @@ impl Routes {
         field_counts: &[u32],
     ) -> Result<Routes, AllocError>
         requires nodes { length field_counts.now ≤ 2 ^ 32 }
-        requires counts { All (λ count. count ≤ 65536) field_counts.now }
-        requires few { length routes ≤ 65536 }
+        requires counts { All (λ count. count ≤ max_fields) field_counts.now }
+        requires few { length routes ≤ max_routes }
         requires fields { All (λ r. IsField field_counts.now r.source) routes }
         ensures { IfOk result (λ r. r ≡ routes) }
     {
@@ -91,7 +92,7 @@ impl Routes {
     /// Returns the number of routes: at most 65,536.
     pub fn len(&self) -> usize
         ensures count { result ≡ length self.now }
-        ensures few { result ≤ 65536 }
+        ensures few { result ≤ max_routes }
     {
         self.routes.len()
     }

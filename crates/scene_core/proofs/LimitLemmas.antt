@@ -3,7 +3,7 @@ use Rattle.std.proofs.Common.{◌≡◌, ℕ, Bool, true, false, List, refl, sub
 use Rattle.std.specs.Prelude.{Result, Ok, Err, ◌||◌, nat_lt, if◌then◌else◌}
 use Rattle.std.proofs.lemmas.Bool.{or_parts}
 use Rattle.proto_flat.specs.declared.flat.Flat.{Flat}
-use Rattle.x3d_values.specs.Ranges.{max_depth}
+use Rattle.x3d_values.specs.Ranges.{max_depth, max_places}
 use Rattle.scene_core.specs.declared.fault.SceneFault.{SceneFault}
 use Rattle.scene_core.specs.declared.fault.SceneFaultKind.TheVariants.{TooMany}
 use Rattle.scene_core.specs.declared.numbering.Numbering.{Numbering}
@@ -12,7 +12,7 @@ use Rattle.scene_core.specs.Building.{IsLimited, limits}
 use Rattle.scene_core.specs.Checked.{check, checked_nodes}
 use Rattle.scene_core.specs.Deep.{too_deep}
 use Rattle.scene_core.specs.Faults.{fault, ◌>>=◌}
-use Rattle.scene_core.specs.Places.{any_crowded, max_places, places}
+use Rattle.scene_core.specs.Places.{any_crowded, places}
 use Rattle.scene_core.specs.Typed.{all_children}
 use Rattle.scene_core.specs.Wide.{any_wide}
 

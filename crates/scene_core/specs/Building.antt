@@ -6,12 +6,12 @@ use Rattle.scene_core.specs.declared.fault.SceneFault.{SceneFault}
 use Rattle.scene_core.specs.declared.fault.SceneFaultKind.TheVariants.{TooDeep, TooMany}
 use Rattle.scene_core.specs.declared.numbering.Numbering.{Numbering}
 use Rattle.scene_core.specs.declared.scene.SceneNode.{SceneNode}
-use Rattle.x3d_values.specs.Ranges.{max_depth}
+use Rattle.x3d_values.specs.Ranges.{max_depth, max_places}
 use Rattle.scene_core.specs.Deep.{too_deep}
 use Rattle.scene_core.specs.Faults.{fault, through, ◌>>=◌}
 use Rattle.scene_core.specs.Labels.{label_by, is_alone, is_label, names_of}
 use Rattle.scene_core.specs.Numbers.{numbering}
-use Rattle.scene_core.specs.Places.{places, max_places, any_crowded}
+use Rattle.scene_core.specs.Places.{places, any_crowded}
 use Rattle.scene_core.specs.Scene.{SceneView}
 use Rattle.scene_core.specs.Shape.{declared_by}
 use Rattle.scene_core.specs.Typed.{values_of, all_children}

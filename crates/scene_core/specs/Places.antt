@@ -3,6 +3,7 @@
 use Rattle.std.specs.Prelude.{ℕ, ◌+◌, ◌++◌, ◌==◌, zero, suc, Bool, true, false, ◌||◌, nat_lt, min, List, [], ◌∷◌, length, map, Option, Some, None, codes, slice_get, slice_index_or, if◌then◌else◌}
 use Rattle.std.specs.List.{list_any, fold, sum_by}
 use Rattle.std.specs.Option.{option_and_then, option_map_or}
+use Rattle.x3d_values.specs.Ranges.{max_places, max_sensors}
 use Rattle.x3d_values.specs.declared.node_type.NodeType.{NodeType}
 use Rattle.x3d_values.specs.declared.node_type.NodeType.TheVariants.{PlaneSensor, TouchSensor}
 use Rattle.x3d_values.specs.declared.table.FieldRow.{FieldRow}
@@ -30,12 +31,9 @@ places_below nodes (suc d) =
 abbrev pub places : ℕ → List SceneNode → List ℕ → ℕ
 places depth nodes roots = sum_by (λ n. slice_index_or (places_below nodes depth) n 0) roots
 
-abbrev pub max_places : ℕ
-max_places = 65536
-
 -- counts stop where there are too many
 abbrev pub enough : ℕ
-enough = 65537
+enough = max_places + 1
 
 abbrev pub counted : List ℕ → SceneNode → ℕ
 counted counts node =
@@ -48,9 +46,6 @@ abbrev pub is_pointing : NodeType → Bool
 is_pointing TouchSensor = true
 is_pointing PlaneSensor = true
 is_pointing _ = false
-
-abbrev pub max_sensors : ℕ
-max_sensors = 64
 
 abbrev pub is_sensor : List SceneNode → ℕ → Bool
 is_sensor nodes n =

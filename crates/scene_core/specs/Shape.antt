@@ -1,6 +1,7 @@
 -- The fields of nodes: those of a type, followed by those that a Script declares (ISO/IEC 19775-1,
 -- Script).
 use Rattle.std.specs.Prelude.{ℕ, ◌-◌, ◌++◌, Bool, ◌&&◌, not, List, Option, Some, None, length, map, take, if◌then◌else◌}
+use Rattle.x3d_values.specs.Ranges.{max_fields}
 use denote.Enum.Bare.{sameb}
 use Rattle.x3d_values.specs.contracts.field_type.FieldType as types
 use Rattle.x3d_values.specs.declared.default.FieldDefault.{FieldDefault}
@@ -51,8 +52,6 @@ declaration_entry d = declared_entry (declared_by d)
 
 -- ---- numbers have 16 bits: a scene has no node with more fields (specs/Wide)
 
-abbrev pub max_fields : ℕ
-max_fields = 65536
 
 abbrev pub most_declared : NodeType → ℕ
 most_declared t = max_fields - length (rows t)

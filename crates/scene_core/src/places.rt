@@ -2,7 +2,7 @@
 
 ghost use Rattle.std.specs.Prelude.{◌≡◌, ℕ, codes, ◌+◌, ◌<◌, ◌≤◌, ◌==◌, true, false, min, map, length, IfOk, nat_lt, slice_index_or};
 ghost use Rattle.std.specs.List.{list_any, sum_by};
-ghost use Rattle.x3d_values.specs.Ranges.{max_depth};
+ghost use Rattle.x3d_values.specs.Ranges.{max_depth, max_sensors};
 ghost use Rattle.x3d_values.specs.Tables.{row_named, rows};
 ghost use Rattle.scene_core.specs.Deep.{too_deep};
 ghost use Rattle.scene_core.specs.Places as spec;
@@ -11,15 +11,10 @@ use crate::at::number_at;
 use crate::scene::SceneNode;
 use arrayvec::ArrayVec;
 use std::alloc::{AllocError, Global};
-use x3d_values::{FieldRow, MAX_DEPTH, NodeType, Value, field_at};
+use x3d_values::{FieldRow, MAX_DEPTH, MAX_PLACES, MAX_SENSORS, NodeType, Value, field_at};
 
-/// The largest number of places in a scene. Counts stop at one more, `ENOUGH`.
-const MAX_PLACES: u32 = 65_536;
-
-const ENOUGH: u32 = 65_537;
-
-/// The largest number of sensors in a list.
-const MAX_SENSORS: usize = 64;
+/// Counts of places stop here.
+const ENOUGH: u32 = MAX_PLACES + 1;
 
 /// Returns the list `children` of a grouping node.
 pub(crate) fn own_children(node: &SceneNode) -> &[u32]
@@ -161,8 +156,8 @@ fn is_in(sensors: &[u32], n: u32) -> bool
 /// Adds a node to the sensors if it is a sensor that isn't among them. Returns false if there is no
 /// room.
 fn add_sensor(nodes: &[SceneNode], sensors: &mut ArrayVec<u32, MAX_SENSORS>, n: u32) -> bool
-    requires { length sensors.old.items ≤ 64 }
-    ensures few { length sensors.new.items ≤ 64 }
+    requires { length sensors.old.items ≤ max_sensors }
+    ensures few { length sensors.new.items ≤ max_sensors }
     ensures fits { result ≡ true → sensors.new.items
         ≡ spec.with_sensor nodes.now sensors.old.items n }
     ensures full { result ≡ false

@@ -2,6 +2,7 @@
 
 ghost use Rattle.std.specs.Prelude.{◌≡◌, ◌+◌, ◌≤◌, ◌++◌, ◌∷◌, [], IfOk, OnOk, length, map, slice_get};
 ghost use Rattle.std.specs.Option.{option_map};
+ghost use Rattle.x3d_values.specs.Ranges.{max_fields};
 ghost use Rattle.x3d_values.specs.Tables.{entry, numbered, row_named};
 ghost use Rattle.scene_core.specs.Shape as spec;
 ghost use Rattle.scene_core.specs.Shape.{row_entry, rows_of, shape_by};
@@ -10,11 +11,9 @@ use classic_tree::Declaration;
 use std::alloc::{AllocError, Global};
 use x3d_lists::{Duplicate, Items, Text};
 use x3d_values::{
-    Access, Field, FieldDefault, FieldRow, FieldType, NodeKind, NodeType, field_of, fields_of,
+    Access, Field, FieldDefault, FieldRow, FieldType, MAX_FIELDS, NodeKind, NodeType, field_of,
+    fields_of,
 };
-
-/// The largest number of fields of a node. Field numbers have 16 bits.
-pub(crate) const MOST_FIELDS: usize = 65_536;
 
 /// A field that a Script declares (ISO/IEC 19775-1, Script).
 #[derive(Drop)]
@@ -74,7 +73,7 @@ fn declared_row(field: &DeclaredField) -> NodeField<'_>
 pub(crate) fn numbered_fields<A>(node_type: NodeType, declared: &[A]) -> &[A]
     ensures { result.now ≡ spec.numbered_fields node_type declared.now }
 {
-    let most = MOST_FIELDS - fields_of(node_type).len();
+    let most = MAX_FIELDS - fields_of(node_type).len();
     &declared[..most.min(declared.len())]
 }
 
@@ -103,7 +102,7 @@ pub(crate) fn row_by(
 #[tactic(auto, using(crate::proofs::RowLemmas::by_number))]
 pub(crate) fn count_by(node_type: NodeType, declared: &[DeclaredField]) -> u32
     ensures is { result ≡ length (rows_of (shape_by node_type declared.now)) }
-    ensures few { result ≤ 65536 }
+    ensures few { result ≤ max_fields }
 {
     (fields_of(node_type).len() + numbered_fields(node_type, declared).len()) as u32
 }
@@ -111,7 +110,7 @@ pub(crate) fn count_by(node_type: NodeType, declared: &[DeclaredField]) -> u32
 /// Returns the first of these declared fields with the name. They are numbered from `first` on.
 #[tactic(auto, using(crate::proofs::RowLemmas::by_name))]
 fn declared_named(first: usize, declared: &[DeclaredField], name: &str) -> Option<FieldRow>
-    requires { first + length declared.now ≤ 65536 }
+    requires { first + length declared.now ≤ max_fields }
     ensures { result ≡ row_named first name.now (map spec.declared_entry declared.now) }
 {
     for i in 0..declared.len() {

@@ -100,6 +100,7 @@ impl Scene {
     ghost use Rattle.scene_core.specs.SensorLists.{sensors_below};
     ghost use Rattle.scene_core.specs.Shape.{row_entry};
     ghost use Rattle.scene_core.specs.Wide.{any_wide};
+    ghost use Rattle.x3d_values.specs.Ranges.{max_fields};
     ghost use Rattle.x3d_values.specs.declared.node_type.NodeType.{NodeType};
     ghost use Rattle.x3d_values.specs.Tables.{row_named, rows};
 
@@ -146,7 +147,7 @@ impl Scene {
     #[tactic(auto, using(crate::proofs::ShapeLemmas::shapes))]
     pub fn field_count(&self, node: u32) -> u32
         ensures is { result ≡ length (rows_at self.now node) }
-        ensures few { result ≤ 65536 }
+        ensures few { result ≤ max_fields }
     {
         match self.nodes.get(node as usize) {
             Some(node) => count_by(node.node_type, node.declared.as_slice()),
@@ -194,7 +195,7 @@ impl Scene {
     pub fn declared(&self, node: u32) -> &[DeclaredField]
         ensures are { result.now ≡ declared_at self.now node }
         ensures few { (t : NodeType) → slice_get (types_of self.now) node ≡ Some t
-            → length (rows t) + length (declared_at self.now node) ≤ 65536 }
+            → length (rows t) + length (declared_at self.now node) ≤ max_fields }
     {
         match self.nodes.get(node as usize) {
             Some(node) => numbered_fields(node.node_type, node.declared.as_slice()),

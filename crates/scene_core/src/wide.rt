@@ -3,15 +3,14 @@
 ghost use Rattle.std.specs.Prelude.{◌≡◌};
 ghost use Rattle.scene_core.specs.Wide as spec;
 
-use crate::row::MOST_FIELDS;
 use crate::scene::SceneNode;
-use x3d_values::fields_of;
+use x3d_values::{MAX_FIELDS, fields_of};
 
 /// Reports whether a node declares more fields than there are numbers for.
 fn is_wide(node: &SceneNode) -> bool
     ensures { result ≡ spec.is_wide node.now }
 {
-    MOST_FIELDS - fields_of(node.node_type).len() < node.declared.len()
+    MAX_FIELDS - fields_of(node.node_type).len() < node.declared.len()
 }
 
 /// Reports whether any node declares more fields than there are numbers for.

@@ -3,6 +3,7 @@
 ghost use Rattle.std.specs.Prelude.{◌≡◌, ◌++◌, ◌+◌, ◌^◌, ◌<◌, ◌≤◌, ◌==◌, ℕ, cond, IfOk, OnOk, length, get_or, flat_map};
 ghost use Rattle.std.specs.Option.{option_copied};
 ghost use Rattle.std.specs.List.{range_with_len};
+ghost use Rattle.x3d_values.specs.Ranges.{max_fields};
 ghost use Rattle.scene_core.specs.Deep.{linked};
 ghost use Rattle.scene_core.specs.Scene.{value_at};
 ghost use Rattle.scene_text.specs.Places.{nodes_within, places, ends_of, times, is_named, named};
@@ -59,7 +60,7 @@ fn push_nodes_at(
     number: u32,
     out: &mut Vec<u32>,
 ) -> Result<(), AllocError>
-    requires { number < 65536 }
+    requires { number < max_fields }
     ensures { OnOk result
         (out.new.items ≡ out.old.items ++ linked (value_at scene.now node number)) }
 {

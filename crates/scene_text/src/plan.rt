@@ -2,6 +2,7 @@
 
 ghost use Rattle.std.specs.Prelude.{◌≡◌, ◌+◌, ◌++◌, ◌<◌, ◌≤◌, IfOk, OnOk, Some, length, map, slice_get};
 ghost use Rattle.std.specs.Option.{option_copied};
+ghost use Rattle.x3d_values.specs.Ranges.{max_fields};
 ghost use Rattle.x3d_values.specs.Tables.{entry};
 ghost use Rattle.scene_core.specs.Scene.{label_of, types_of};
 ghost use Rattle.scene_text.specs.Tree.{kept_value, present_value, held_value, declared_from, shown_field, shown_from, shown_fields, def_name};
@@ -140,7 +141,7 @@ fn push_shown_from<'a>(
     fields: &[Field],
     out: &mut Vec<ShownField<'a>>,
 ) -> Result<(), AllocError>
-    requires { number + length fields.now < 65536 }
+    requires { number + length fields.now < max_fields }
     ensures { OnOk result (map shown_of out.new.items ≡ map shown_of out.old.items
         ++ shown_from (plan_of plan.now) node number (map entry fields.now)) }
 {
@@ -179,7 +180,7 @@ fn push_declared<'a>(
     fields: &'a [DeclaredField],
     out: &mut Vec<ShownField<'a>>,
 ) -> Result<(), AllocError>
-    requires { first + length fields.now ≤ 65536 }
+    requires { first + length fields.now ≤ max_fields }
     ensures { OnOk result (map shown_of out.new.items ≡ map shown_of out.old.items
         ++ declared_from (plan_of plan.now) node first fields.now) }
 {
