@@ -20,7 +20,7 @@ pub record Braces : Type 0 where
   pub word : List ℕ
   pub name : Option (List ℕ)
 
--- ---- the braces in each part of a tree, by those in the parts inside
+-- ---- the braces in each part of a tree, from those in its own parts
 
 module _ {N : Type 0} (braces : N → List Braces) where
   abbrev pub in_value : RawValue N → List Braces
@@ -35,7 +35,7 @@ module _ {N : Type 0} (braces : N → List Braces) where
 abbrev pub inside : List Braces → List Braces
 inside braces = braces
 
--- the declaration of a prototype has none of the document's nodes
+-- the declaration of a prototype has no nodes of the document
 abbrev pub ClosedBraces : Type 0
 ClosedBraces = List Braces
 
@@ -86,7 +86,7 @@ closings document = flat_map in_statement document.statements
 abbrev pub IsOfNode : Braces → Type 0
 IsOfNode braces = is_some (node_type_named braces.word) ≡ true
 
--- a node's type, as far as there is one, and its name
+-- a node's type, if there is one, and its name
 abbrev pub Shown : Type 0
 Shown = Option NodeType × Option (List ℕ)
 

@@ -1,5 +1,5 @@
 -- Which fields a node has in the flat form of a document without instances, and their values
--- (ISO/IEC 19775-1, object model, fields): those that stand between its braces.
+-- (ISO/IEC 19775-1, object model, fields): the fields between its braces.
 use Rattle.std.specs.Prelude.{ℕ, List, [], ◌∷◌, ◌++◌, length, map, Option, Some, None, option_map, slice_set}
 use Rattle.std.specs.List.{flat_map, fold}
 use Rattle.std.specs.Option.{option_or}
@@ -20,22 +20,22 @@ use Rattle.laws_flat.specs.Readings.{StateChange, same}
 use Rattle.laws_flat.specs.Signatures.{KnownField, Signature, signature, signatures, of_type, of_declared, own_interface}
 use Rattle.laws_flat.specs.Uses.{OpenBraces, named, some}
 
--- a field between braces: the line of its name, its number among the fields of the node, None
--- where the node has no such field, and its value, in which a node stands as its number, and a USE
--- as that of the node that it names, None where it names none
+-- a field between braces: the line of its name; its number among the fields of the node, or None if
+-- the node has no such field; and its value. In the value a node is its number, and a USE is the
+-- number of the node that it names, or None if it names none
 pub record FieldRead : Type 0 where
   pub line : ℕ
   pub number : Option ℕ
   pub value : RawValue (Option ℕ)
 
--- what stands between braces: the fields with a value, in the order of the text, and the fields
--- that a Script declares there
+-- what is between braces: the fields with a value, in the order of the text, and the fields that a
+-- Script declares there
 pub record NodeRead : Type 0 where
   pub fields : List FieldRead
   pub interface : List Signature
 
--- a text up to some place: all braces that opened, in that order, and what stands between those
--- that are closed, in the order in which they close
+-- a text up to some place: all braces that opened, in that order, and what is between those that
+-- are closed, in the order in which they close
 pub record Reading : Type 0 where
   pub opened : List OpenBraces
   pub closed : List NodeRead
@@ -43,7 +43,7 @@ pub record Reading : Type 0 where
 abbrev pub nothing_read : Reading
 nothing_read = record { opened = []; closed = [] }
 
--- what a part of the text is read as, and the text up to its end
+-- what a part of the text is read as, and the reading up to its end
 pub record Got (A : Type 0) : Type 0 where
   pub what : A
   pub after : Reading
@@ -54,22 +54,22 @@ gives a r = record { what = a; after = r }
 abbrev pub got_map : {A B : Type 0} → (A → B) → Got A → Got B
 got_map f g = record { what = f g.what; after = g.after }
 
--- parts in turn, over what is read of them
+-- parts in turn, passing on what is read
 abbrev pub each : {A B : Type 0} → (A → B → Reading → Got B) → List A → B → Reading → Got B
 each read [] b r = gives b r
 each read (part ∷ parts) b r = each read parts (read part b r).what (read part b r).after
 
 -- ---- the numbers of fields
 
--- of the names of fields between braces
+-- the number of the field of that name, between braces
 abbrev pub Numbering : Type 0
 Numbering = List ℕ → Option ℕ
 
 abbrev pub number_of : KnownField → ℕ
 number_of field = field.number
 
--- that of the field's row among those of the node type; behind these come the declared fields of a
--- Script, in the order of the text
+-- the number of the field's row among those of the node type; after these come the declared fields
+-- of a Script, in the order of the text
 abbrev pub numbering : Option NodeType → List Signature → Numbering
 numbering None declared name = None
 numbering (Some t) declared name =
@@ -88,7 +88,7 @@ NodeStep = Reading → Got (Option ℕ)
 abbrev pub opens : Option (List ℕ) → Reading → Reading
 opens name r = record r { opened = r.opened ++ record { name = name; node = None } ∷ [] }
 
--- the braces that opened behind what was read before close: their node has the next number
+-- the braces that opened after `before` close: their node gets the next number
 abbrev pub closes : Option (List ℕ) → Reading → List Signature → Got (List FieldRead)
     → Got (Option ℕ)
 closes name before interface g =
@@ -107,7 +107,7 @@ module _ {N : Type 0} (read : N → NodeStep) where
   abbrev pub read_one : N → List (Option ℕ) → Reading → Got (List (Option ℕ))
   read_one node before r = got_map (λ n. before ++ n ∷ []) (read node r)
 
-  -- a value with its nodes read
+  -- a value, with its nodes read
   abbrev pub read_value : RawValue N → Reading → Got (RawValue (Option ℕ))
   read_value value.Null r = gives value.Null r
   read_value (value.Truth truth) r = gives (value.Truth truth) r
@@ -127,10 +127,10 @@ module _ {N : Type 0} (read : N → NodeStep) where
       (read_value v r)
   read_given line number _ before r = gives before r
 
--- ---- each part of a tree, by those inside
+-- ---- each part of a tree, from its own parts
 
--- an item between braces by the numbers of the fields there: the fields with a value, behind those
--- before it; and the field that it declares
+-- an item between braces: given the numbers of the fields there, the fields with a value, after
+-- those before; and the field that it declares
 pub record FieldItem : Type 0 where
   pub reads : Numbering → List FieldRead → Reading → Got (List FieldRead)
   pub declares : List Signature
@@ -138,7 +138,7 @@ pub record FieldItem : Type 0 where
 abbrev pub no_field : FieldItem
 no_field = record { reads = λ numbers before r. gives before r; declares = [] }
 
--- what a statement, or the declaration of a prototype, adds: the latter has none of the nodes
+-- what a statement or the declaration of a prototype adds; a declaration adds no nodes
 abbrev pub StatementStep : Type 0
 StatementStep = StateChange Reading
 

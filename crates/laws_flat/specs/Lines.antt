@@ -1,4 +1,4 @@
--- Documents without their lines, and that a flat document has no other use of them.
+-- Documents without their lines; a flat document uses lines for nothing else.
 use Rattle.std.specs.Prelude.{◌≡◌, map, Result, Ok, Err}
 use Rattle.classic_tree.specs.declared.tree.BodyItem.{BodyItem, fold-BodyItem}
 use Rattle.classic_tree.specs.declared.tree.BodyItem.TheOpen.{BodyItem-F, NodeText-F, Statement-F, ProtoText-F}
@@ -17,7 +17,7 @@ use Rattle.proto_flat.specs.declared.flat.FlatField.{FlatField}
 use Rattle.proto_flat.specs.declared.flat.FlatNode.{FlatNode}
 use Rattle.proto_flat.specs.declared.flat.FlatRoute.{FlatRoute}
 
--- ---- a tree with 0 in place of each line
+-- ---- a tree with 0 for each line
 
 abbrev pub unlined_declaration : {N : Type 0} → Declaration N → Declaration N
 unlined_declaration d = record d { line = 0 }
@@ -67,7 +67,7 @@ unlined_proto =
 abbrev pub unlined : Document → Document
 unlined document = record document { statements = map unlined_statement document.statements }
 
--- ---- a flat document with 0 in place of each line
+-- ---- a flat document with 0 for each line
 
 abbrev pub unlined_field : FlatField → FlatField
 unlined_field field = record field { line = 0 }
@@ -92,7 +92,7 @@ unlined_flat f =
 
 -- ---- alike
 
--- the same but for lines, or faults of one kind
+-- equal except for lines, or faults of one kind
 abbrev pub AreAlike : Result Flat ExpandFault → Result Flat ExpandFault → Type 0
 AreAlike (Ok f) (Ok g) = unlined_flat f ≡ unlined_flat g
 AreAlike (Err a) (Err b) = a.kind ≡ b.kind

@@ -1,4 +1,4 @@
--- What a flat document names stands in it, and what a node holds stands before the node.
+-- What a flat document names exists in it, and what a node holds comes before the node.
 use Rattle.std.specs.Prelude.{◌≡◌, ℕ, ◌<◌, List, [], ◌∷◌, length, Some, slice_get}
 use Rattle.std.specs.List.{AllByRecursion}
 use Rattle.classic_tree.specs.declared.tree.RawValue.{RawValue}
@@ -38,10 +38,10 @@ IsRouteBelow bound route = IsEndBelow bound route.source × IsEndBelow bound rou
 -- ---- a flat document
 
 pub record IsOrdered (f : Flat) : Type 0 where
-  -- the nodes that a node's fields name have lower numbers than the node
+  -- the nodes in a node's fields have lower numbers than the node
   pub nodes : (number : ℕ) (node : FlatNode) → slice_get f.nodes number ≡ Some node
       → AreFieldsBelow number node.fields
-  -- all others that are named have the number of a node
+  -- all other numbers are those of nodes
   pub roots : AreBelow (length f.nodes) f.roots
   pub helpers : AreBelow (length f.nodes) f.helpers
   pub routes : AllByRecursion (IsRouteBelow (length f.nodes)) f.routes

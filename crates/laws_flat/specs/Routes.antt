@@ -12,7 +12,8 @@ use Rattle.proto_flat.specs.declared.flat.FlatRoute.{FlatRoute}
 use Rattle.laws_flat.specs.Readings.{StateChange, Steps, read_document, same}
 use Rattle.laws_flat.specs.Uses.{OpenBraces, has_name}
 
--- an end of a ROUTE: the braces that it names, by how many opened before them, and the field
+-- an end of a ROUTE: the braces that it names, by the number of braces that opened before them, and
+-- the field
 pub record ReadEnd : Type 0 where
   pub place : Option ℕ
   pub field : List ℕ
@@ -22,7 +23,7 @@ pub record ReadRoute : Type 0 where
   pub target : ReadEnd
 
 -- a text up to some place: all braces that opened, in that order, each with the number of its node
--- once they are closed; how many are closed; and the ROUTEs that were met
+-- once closed; the number of braces that are closed; and the ROUTEs so far
 pub record Reading : Type 0 where
   pub opened : List OpenBraces
   pub closed : ℕ
@@ -33,7 +34,7 @@ nothing_read = record { opened = []; closed = 0; routes = [] }
 
 -- ---- names
 
--- the last of that name, where the first has that place
+-- the place of the last braces of that name; the first of the list has the place `at`
 abbrev pub last_from : ℕ → List ℕ → List OpenBraces → Option ℕ
 last_from at name [] = None
 last_from at name (o ∷ os) =
@@ -49,7 +50,7 @@ abbrev pub opens : Option (List ℕ) → StateChange Reading
 opens name r =
     record r { opened = r.opened ++ record { name = name; node = None } ∷ [] }
 
--- the braces that opened behind what was read before close: their node has the next number
+-- the braces that opened after `before` close: their node gets the next number
 abbrev pub closes : Option (List ℕ) → Reading → StateChange Reading
 closes name before r =
     record r {

@@ -1,5 +1,5 @@
--- The fields of nodes with their nodes left out (ISO/IEC 19775-1, object model, fields): this much
--- depends on no name, and on no number of a node.
+-- The fields of nodes without the nodes in them (ISO/IEC 19775-1, object model, fields). They
+-- depend on no name, and on no number of a node.
 use Rattle.std.specs.Prelude.{◌≡◌, ℕ, List, [], ◌∷◌, ◌++◌, map, Option, Some}
 use Rattle.std.specs.List.{flat_map}
 use Rattle.x3d_values.specs.Names.{node_type_named}
@@ -18,7 +18,7 @@ use Rattle.laws_flat.specs.Uses.{held}
 use Rattle.laws_flat.specs.Fields.{Numbering, interface_of, numbering}
 use Rattle.laws_flat.specs.Signatures.{Signature, signature, signatures}
 
--- a value in which it is left out which nodes stand there
+-- a value without the nodes in it
 abbrev pub no_node : {N : Type 0} → N → Unit {0}
 no_node node = tt
 
@@ -64,8 +64,8 @@ given_shape line number _ = []
 abbrev pub Shapes : Type 0
 Shapes = List NodeShape
 
--- an item between braces: those inside it, by the numbers of the fields there the field, if it has
--- a value, and the field that it declares
+-- an item between braces: the braces inside it; given the numbers of the fields there, its field,
+-- if it has a value; and the field that it declares
 pub record ItemShape : Type 0 where
   pub inside : Shapes
   pub fields : Numbering → List FieldShape
@@ -90,7 +90,7 @@ item_step (BodyItem-F.Declaration d) =
 item_step (BodyItem-F.BodyItem::Route route) = no_shape
 item_step (BodyItem-F.BodyItem::Proto proto) = no_shape
 
--- a node, by its word and the fields that are declared in it
+-- a node, from its word and the fields that are declared in it
 abbrev pub node_of : List ℕ → List Signature → (Numbering → List FieldShape) → NodeShape
 node_of word declared fields =
     record {
@@ -110,7 +110,7 @@ statement_step (Statement-F.Node node) = node
 statement_step (Statement-F.Statement::Route route) = []
 statement_step (Statement-F.Statement::Proto proto) = []
 
--- the declaration of a prototype has none of the document's nodes
+-- the declaration of a prototype has no nodes of the document
 unfoldable pub proto_step : ProtoText-F ItemShape Shapes Shapes Shapes → Shapes
 proto_step p = []
 
@@ -139,8 +139,8 @@ abbrev pub node_shape : FlatNode → NodeShape
 node_shape node =
     record { fields = map field_shape node.fields; interface = signatures node.interface }
 
--- which nodes stand in a node is all that is left: nodes with the same shape, in which stand the
--- same nodes, have the same fields
+-- only the nodes in a node are left open: nodes with the same shape that hold the same nodes have
+-- the same fields
 abbrev pub NodesTellTheRest : Type 0
 NodesTellTheRest =
     (m n : FlatNode) → node_shape m ≡ node_shape n → held m ≡ held n → m.fields ≡ n.fields

@@ -1,4 +1,4 @@
--- Fields of a node by name (ISO/IEC 19775-1, object model, fields): those of its type, and behind
+-- Fields of a node by name (ISO/IEC 19775-1, object model, fields): those of its type, and after
 -- them those that a Script declares.
 use Rattle.std.specs.Prelude.{ℕ, ◌+◌, if◌then◌else◌, List, [], ◌∷◌, length, map, Option, Some, None, option_map}
 use Rattle.std.specs.Str.{bytes_eq}
@@ -28,7 +28,7 @@ of_type node_type name = option_map of_row (row_named 0 name (rows node_type))
 
 -- ---- of a Script
 
--- what a declaration says but its value
+-- a declaration without its value
 pub record Signature : Type 0 where
   pub line : ℕ
   pub name : List ℕ
@@ -44,7 +44,7 @@ signatures ds = map signature ds
 abbrev pub of_signature : ℕ → Signature → KnownField
 of_signature number s = record { number = number; access = s.access; field_type = s.field_type }
 
--- the first of that name, where they are numbered from there
+-- the first field of that name; the first of the list has the number `number`
 abbrev pub numbered_from : ℕ → List ℕ → List Signature → Option KnownField
 numbered_from number name [] = None
 numbered_from number name (s ∷ others) =
@@ -56,7 +56,7 @@ abbrev pub own_interface : NodeType → List Signature → List Signature
 own_interface node_type declared =
     if sameb node_types.the_type node_type Script then declared else []
 
--- the first of that name, numbered behind the fields of the type
+-- the first field of that name, numbered after the fields of the type
 abbrev pub of_declared : NodeType → List Signature → List ℕ → Option KnownField
 of_declared node_type declared name =
     numbered_from (length (rows node_type)) name (own_interface node_type declared)

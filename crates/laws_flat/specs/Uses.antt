@@ -14,10 +14,10 @@ pub record OpenBraces : Type 0 where
   pub name : Option (List ℕ)
   pub node : Option ℕ
 
--- a text up to some place: all braces that opened, in that order; of each node whose braces are
--- closed, in the order in which they close, the nodes that stand between them; and the nodes that
--- stand so far between the braces that are open, or as statements. A node stands there as its
--- number, and a USE as that of the node it names, None where it names none
+-- a text up to some place: all braces that opened, in that order; for each node whose braces are
+-- closed, in the order in which they close, the nodes between them; and the nodes so far between
+-- the braces that are open, or as statements. A node is its number, and a USE is the number of the
+-- node that it names, or None if it names none
 pub record Reading : Type 0 where
   pub opened : List OpenBraces
   pub closed : List (List (Option ℕ))
@@ -35,7 +35,7 @@ has_name name (Some given) = bytes_eq given name
 abbrev pub named_next : List ℕ → Option ℕ → OpenBraces → Option ℕ
 named_next name before o = if has_name name o.name then option_or o.node before else before
 
--- the last of that name whose braces are closed
+-- the node of the last closed braces of that name
 abbrev pub named : List ℕ → List OpenBraces → Option ℕ
 named name opened = fold (named_next name) None opened
 
@@ -48,7 +48,7 @@ abbrev pub opens : Option (List ℕ) → StateChange Reading
 opens name r =
     record r { opened = r.opened ++ record { name = name; node = None } ∷ []; here = [] }
 
--- the braces that opened behind what was read before close: their node has the next number
+-- the braces that opened after `before` close: their node gets the next number
 abbrev pub closes : Option (List ℕ) → Reading → StateChange Reading
 closes name before r =
     record {
@@ -58,7 +58,7 @@ closes name before r =
       here = before.here ++ Some (length r.closed) ∷ [];
     }
 
--- a USE stands as the node that it names, and a ROUTE changes nothing
+-- a USE adds the node that it names; a ROUTE changes nothing
 abbrev pub steps : Steps Reading
 steps =
     record {

@@ -2,8 +2,8 @@
 
 ghost use Rattle.laws_flat.specs.Shapes.{NodesTellTheRest};
 
-/// Nodes of flat documents with the same fields up to which nodes stand in these, and with the same
-/// nodes in them, have the same fields.
+/// Nodes of flat documents have the same fields if their fields are the same except for the nodes
+/// in them, and these nodes are the same too.
 pub fn nodes_tell_the_rest()
     ensures { NodesTellTheRest }
 {}

@@ -1,5 +1,5 @@
-//! What stands in the text of a document: its braces, names, fields and routes as they are read,
-//! said without prototypes and with no walk.
+//! What is in the text of a document: its braces, names, fields and routes, read without prototypes
+//! and without a walk.
 #![tactic(auto)]
 
 mod fields;

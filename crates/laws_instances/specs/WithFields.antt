@@ -1,6 +1,6 @@
--- An instance is its prototype's body written in its place (ISO/IEC 19775-1, 4.4.4, prototypes): of
--- a prototype with an interface, whose body is one node, where instances stand anywhere in a text
--- without other prototypes, USE and ROUTE.
+-- An instance is its prototype's body, written in its place (ISO/IEC 19775-1, 4.4.4, prototypes).
+-- Here the prototype has an interface, its body is one node, and instances may be anywhere in a
+-- text without other prototypes, USE and ROUTE.
 use Rattle.std.specs.Prelude.{◌≡◌, ℕ, Bool, true, false, ◌&&◌, if◌then◌else◌, List, [], ◌∷◌, map, Option, Some, None, Ok}
 use Rattle.std.specs.List.{filter_map, list_all}
 use Rattle.std.specs.Option.{option_map_or, option_or}
@@ -26,19 +26,20 @@ use Rattle.laws_meaning.specs.Steps.{all_in}
 
 -- ---- texts without PROTO, USE and ROUTE
 
--- no node stands in what is given
+-- what is given holds no node
 abbrev pub is_plain : {N : Type 0} → Given N → Bool
 is_plain (given.Value (value.Node n)) = false
 is_plain (given.Value (value.NodeList ns)) = false
 is_plain _ = true
 
--- what stands between braces: whether it is quiet, and whether an instance may hold it
+-- an item between braces: whether it has no PROTO, USE and ROUTE, and whether an instance may have
+-- it
 pub record Quiet : Type 0 where
   pub anywhere : Bool
   pub in_instance : Bool
 
--- braces behind the prototype's name are those of an instance, whose values hold no nodes, if one
--- may stand there
+-- braces after the prototype's name are those of an instance, whose values hold no nodes, if
+-- instances are allowed there
 abbrev pub may_stand : Name → Bool → Name → List Quiet → Bool
 may_stand proto allowed word items =
     if bytes_eq proto word then allowed && list_all (λ (i : Quiet). i.in_instance) items
@@ -82,13 +83,14 @@ is_quiet_statement proto allowed =
     fold-Statement Quiet Bool Bool Bool quiet_item_step (quiet_node_step proto allowed)
     quiet_statement_step quiet_proto_step
 
--- ---- a text in which each IS holds what it finds, and braces are written as said
+-- ---- a text in which each IS is replaced by what it finds, and braces are rewritten
 
--- what an IS finds, by the name behind it
+-- what an IS finds, by the name after it
 abbrev pub Finds : Type 0
 Finds = Name → Option (RawValue NodeText)
 
--- braces: their line, the name that DEF gives, the word before them, and what stands between them
+-- how braces are written: from their line, the name that DEF gives, the word before them, and the
+-- items between them
 abbrev pub Braces : Type 0
 Braces = ℕ → Option Name → Name → List BodyItem → NodeText
 
@@ -97,7 +99,7 @@ abbrev pub replaced : Finds → Given NodeText → Given NodeText
 replaced finds (given.Is name) = option_map_or (λ v. given.Value v) (finds name) given.Nothing
 replaced finds g = g
 
--- a field that is given nothing isn't there
+-- a field that is given nothing is left out
 abbrev pub field_of : ℕ → Name → Given NodeText → Option BodyItem
 field_of line name given.Nothing = None
 field_of line name g = Some (item.Field line name g)
@@ -144,9 +146,9 @@ written_statement finds braces =
     fold-Statement (Option BodyItem) NodeText Statement ProtoText (item_step finds)
     (node_step braces) statement_step proto_step
 
--- ---- the body in the place of an instance
+-- ---- the body in place of an instance
 
--- the value of a field of that name that stands there
+-- the value of the field of that name, if the item gives it one
 abbrev pub gives : Name → BodyItem-F BodyItem NodeText Statement ProtoText
     → Option (RawValue NodeText)
 gives name (BodyItem-F.Field line field (given.Value v)) =
@@ -166,14 +168,14 @@ default_of [] name = None
 default_of (d ∷ ds) name =
     option_or (if bytes_eq d.name name then value_in d.given else None) (default_of ds name)
 
--- what the instance gives, and where it gives nothing, the default value
+-- what the instance gives, or the default value if it gives nothing
 abbrev pub found : List (Declaration NodeText) → List BodyItem → Finds
 found interface items name = option_or (given_by items name) (default_of interface name)
 
 abbrev pub as_written : Braces
 as_written line name word items = node.Full line name word items
 
--- the node takes the instance's name, if it has one
+-- the node gets the instance's name, if it has one
 abbrev pub named_as : Name → NodeText-F BodyItem NodeText Statement ProtoText → NodeText
 named_as name (NodeText-F.Use line other) = node.Use line other
 named_as name (NodeText-F.Full line other word items) = node.Full line (Some name) word items
@@ -182,7 +184,7 @@ abbrev pub named : Option Name → NodeText → NodeText
 named None n = n
 named (Some name) n = named_as name (out-NodeText n)
 
--- what an instance is, by its name and what stands between its braces
+-- the body for an instance, by its name and the items between its braces
 abbrev pub body_for : List (Declaration NodeText) → NodeText → Option Name → List BodyItem
     → NodeText
 body_for interface body name items =
@@ -193,7 +195,7 @@ in_place proto interface body line name word items =
     if bytes_eq proto word then body_for interface body name items
     else as_written line name word items
 
--- outside of bodies IS finds nothing
+-- outside of bodies an IS finds nothing
 abbrev pub finds_nothing : Finds
 finds_nothing name = None
 
@@ -221,9 +223,8 @@ written_out d proto interface body rest =
       statements = map (written_statement finds_nothing (in_place proto interface body)) rest;
     }
 
--- a document that begins with the declaration, and in which nothing is wrong, stands for the same
--- as that in which the body is written in the place of each instance. No nodes stand in default
--- values and in what instances give
+-- a document that begins with the declaration and has no fault stands for the same as the document
+-- in which the body replaces each instance. Default values and what instances give hold no nodes
 abbrev pub InstancesWithFieldsAreTheirBodies : Type 0
 InstancesWithFieldsAreTheirBodies =
     (d : Document) (line : ℕ) (proto : Name) (interface : List (Declaration NodeText))

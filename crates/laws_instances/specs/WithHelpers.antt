@@ -1,6 +1,6 @@
--- An instance is its prototype's body written in its place (ISO/IEC 19775-1, 4.4.4, prototypes): of
--- a prototype whose body is several nodes, of which the first stands for the instance. The others,
--- its helpers, are written behind it: so such instances stand as statements.
+-- An instance is its prototype's body, written in its place (ISO/IEC 19775-1, 4.4.4, prototypes).
+-- Here the body is several nodes, of which the first stands for the instance. The others, its
+-- helpers, are written after it: so such instances are statements.
 use Rattle.std.specs.Prelude.{◌≡◌, ◌⊎◌, ℕ, Bool, true, false, if◌then◌else◌, List, [], ◌∷◌, map, Option, Ok}
 use Rattle.std.specs.List.{flat_map, list_all}
 use Rattle.std.specs.Str.{bytes_eq}
@@ -19,7 +19,7 @@ use Rattle.laws_instances.specs.WithFields.{is_plain, is_quiet_node, is_quiet_st
 
 -- ---- which documents
 
--- braces behind the prototype's name
+-- braces after the prototype's name
 abbrev pub is_of : Name → NodeText-F BodyItem NodeText Statement ProtoText → Bool
 is_of proto (NodeText-F.Use line name) = false
 is_of proto (NodeText-F.Full line name word items) = bytes_eq proto word
@@ -29,27 +29,27 @@ abbrev pub is_instance : Name → Statement-F BodyItem NodeText Statement ProtoT
 is_instance proto (Statement-F.Node n) = is_of proto (out-NodeText n)
 is_instance proto _ = false
 
--- instances stand as statements, and nowhere else
+-- instances are statements, and occur nowhere else
 abbrev pub may_be : Name → Statement → Bool
 may_be proto s = is_quiet_statement proto (is_instance proto (out-Statement s)) s
 
--- ---- the body in the place of an instance
+-- ---- the body in place of an instance
 
 abbrev pub as_statements : List NodeText → List Statement
 as_statements nodes = map (λ n. statement.Node n) nodes
 
--- the first node takes the instance's name, if it has one
+-- the first node gets the instance's name, if it has one
 abbrev pub first_named : Option Name → List NodeText → List NodeText
 first_named name [] = []
 first_named name (n ∷ ns) = named name n ∷ ns
 
--- all nodes of the body for an instance of that name that holds these items
+-- all nodes of the body, for an instance of that name with these items
 abbrev pub nodes_for : List (Declaration NodeText) → List NodeText → Option Name → List BodyItem
     → List NodeText
 nodes_for interface body name items =
     first_named name (map (written_node (found interface items) as_written) body)
 
--- a statement that is an instance is all nodes of the body, another stays as it is written
+-- a statement that is an instance becomes all nodes of the body; any other is unchanged
 abbrev pub node_out : Name → List (Declaration NodeText) → List NodeText → Statement
     → NodeText-F BodyItem NodeText Statement ProtoText → List Statement
 node_out proto interface body s (NodeText-F.Use line name) = s ∷ []
@@ -97,8 +97,7 @@ Shuffled xs ys (z ∷ zs) =
     ((rest : List ℕ) × (xs ≡ z ∷ rest) × Shuffled rest ys zs)
     ⊎ ((rest : List ℕ) × (ys ≡ z ∷ rest) × Shuffled xs rest zs)
 
--- the same nodes and routes; and what are helpers of the first are roots of the second, among its
--- roots
+-- equal nodes and routes; the helpers of the first are roots of the second, among its own roots
 pub record HelpersAsRoots (f g : Flat) : Type 0 where
   pub header : g.header ≡ f.header
   pub nodes : g.nodes ≡ f.nodes
@@ -106,9 +105,9 @@ pub record HelpersAsRoots (f g : Flat) : Type 0 where
   pub roots : Shuffled f.roots f.helpers g.roots
   pub helpers : g.helpers ≡ []
 
--- a document that begins with the declaration, and in which nothing is wrong, stands for the same
--- as that in which the body's nodes are written in the place of each instance, but that helpers are
--- roots. No nodes stand in default values and in what instances give
+-- a document that begins with the declaration and has no fault stands for the same as the document
+-- in which the nodes of the body replace each instance, except that helpers are roots. Default
+-- values and what instances give hold no nodes
 abbrev pub InstancesAreAllNodesOfTheirBodies : Type 0
 InstancesAreAllNodesOfTheirBodies =
     (d : Document) (line : ℕ) (proto : Name) (interface : List (Declaration NodeText))

@@ -1,18 +1,18 @@
-//! Instances and the bodies of their prototypes: laws, each the contract of a function that does
-//! nothing.
+//! Laws about instances and the bodies of their prototypes, each the contract of a function that
+//! does nothing.
 
 ghost use Rattle.laws_instances.specs.WithFields.{InstancesWithFieldsAreTheirBodies};
 ghost use Rattle.laws_instances.specs.WithHelpers.{InstancesAreAllNodesOfTheirBodies};
 
-/// An instance with fields is its prototype's body written in its place, each IS replaced by what
-/// the instance gives or by the default: of a prototype whose body is one node, where no nodes
-/// stand in these values.
+/// An instance with fields is its prototype's body, written in its place, with each IS replaced by
+/// what the instance gives or by the default. This holds for a prototype whose body is one node, if
+/// these values hold no nodes.
 pub fn instances_with_fields_are_their_bodies()
     ensures { InstancesWithFieldsAreTheirBodies }
 {}
 
-/// The same of a prototype whose body is several nodes: all of them are written in the place of an
-/// instance that is a statement, and the helpers become roots.
+/// Does the same for a prototype whose body is several nodes: all of them replace an instance that
+/// is a statement, and the helpers become roots.
 pub fn instances_are_all_nodes_of_their_bodies()
     ensures { InstancesAreAllNodesOfTheirBodies }
 {}

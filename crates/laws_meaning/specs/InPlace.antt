@@ -1,6 +1,6 @@
--- An instance is its prototype's body written in its place (ISO/IEC 19775-1, 4.4.4): of a prototype
--- without interface whose body is one node, where instances stand anywhere in a text without other
--- prototypes, USE and ROUTE.
+-- An instance is its prototype's body, written in its place (ISO/IEC 19775-1, 4.4.4). Here the
+-- prototype has no interface, its body is one node, and instances may be anywhere in a text without
+-- other prototypes, USE and ROUTE.
 use Rattle.std.specs.Prelude.{◌≡◌, ◌⊎◌, ℕ, Bool, true, false, ◌&&◌, if◌then◌else◌, List, [], ◌∷◌, map, Option, is_none, Ok, Err}
 use Rattle.std.specs.List.{list_all}
 use Rattle.std.specs.Str.{bytes_eq}
@@ -27,8 +27,8 @@ abbrev pub none_inside : {A : Type 0} → List A → Bool
 none_inside [] = true
 none_inside (x ∷ xs) = false
 
--- braces behind the prototype's name are those of an instance without DEF and fields, if one may
--- stand there
+-- braces after the prototype's name are those of an instance without DEF and fields, if instances
+-- are allowed there
 abbrev pub may_stand : Name → Bool → Option Name → Name → List Bool → Bool
 may_stand proto allowed name word items =
     if bytes_eq proto word then allowed && is_none name && none_inside items
@@ -65,7 +65,7 @@ is_quiet_statement proto allowed =
     fold-Statement Bool Bool Bool Bool quiet_item_step (quiet_node_step proto allowed)
     quiet_statement_step plain_proto_step
 
--- ---- the body in the place of each instance
+-- ---- the body in place of each instance
 
 unfoldable pub item_step : BodyItem-F BodyItem NodeText Statement ProtoText → BodyItem
 item_step (BodyItem-F.Field line name g) = item.Field line name g
@@ -124,8 +124,8 @@ declared d line proto body rest =
 abbrev pub written_out : Document → Name → NodeText → List Statement → Document
 written_out d proto body rest = record d { statements = map (written_statement proto body) rest }
 
--- a document that begins with the declaration, in which nothing is wrong, and one in which the body
--- is written in the place of each instance: they stand for the same, or the instances are too many
+-- a document that begins with the declaration, which has no fault, and the document in which the
+-- body replaces each instance: they stand for the same, or the first is too large
 abbrev pub InstancesAreTheirBodies : Type 0
 InstancesAreTheirBodies =
     (d : Document) (line : ℕ) (proto : Name) (body : NodeText) (rest : List Statement)

@@ -1,6 +1,6 @@
--- A document without PROTO is itself: what it stands for, read plainly. Each pair of braces is a
--- node, numbered when it closes; USE is the last node of a name, ROUTE names the last braces of a
--- name (ISO/IEC 19775-1, 4.4.3 and 4.4.8).
+-- A document without PROTO, read plainly. Each pair of braces is a node, numbered when it closes;
+-- USE is the last node of a name; ROUTE names the last braces of a name (ISO/IEC 19775-1, 4.4.3 and
+-- 4.4.8).
 use Rattle.std.specs.Prelude.{◌≡◌, ℕ, ◌+◌, Bool, true, false, if◌then◌else◌, List, [], ◌∷◌, ◌++◌, drop, length, map, Option, Some, None, option_map, is_some, Result, Ok, Err, slice_get, slice_set}
 use Rattle.std.specs.List.{filter_map, list_all, list_any}
 use Rattle.std.specs.Option.{option_and_then, option_map_or, option_or}
@@ -57,7 +57,7 @@ is_plain_statement =
     fold-Statement Bool Bool Bool Bool plain_item_step plain_node_step plain_statement_step
     plain_proto_step
 
--- no PROTO stands in it, at any depth
+-- the document contains no PROTO, at any depth
 abbrev pub is_plain : Document → Bool
 is_plain d = list_all is_plain_statement d.statements
 
@@ -68,13 +68,13 @@ pub record Pair : Type 0 where
   pub name : Option Name
   pub node : Option ℕ
 
--- a ROUTE, and which braces it names, by how many opened before these
+-- a ROUTE, and which braces it names, by the number of braces that opened before them
 pub record Wire : Type 0 where
   pub route : RouteText
   pub source : Option ℕ
   pub target : Option ℕ
 
--- the nodes so far, the braces in the order in which they open, the ROUTEs
+-- the nodes so far, the braces in the order in which they open, and the ROUTEs
 pub record Reading : Type 0 where
   pub nodes : List FlatNode
   pub pairs : List Pair
@@ -105,13 +105,14 @@ in_turn f (a ∷ rest) x = f a x >>= in_turn f rest
 abbrev pub has_name : Name → Pair → Bool
 has_name name p = option_map_or (bytes_eq name) p.name false
 
--- the last of that name that has a number
+-- the node of the last closed braces of that name
 abbrev pub last_closed : Name → List Pair → Option ℕ
 last_closed name [] = None
 last_closed name (p ∷ ps) =
     option_or (last_closed name ps) (if has_name name p then p.node else None)
 
--- the place of the last of that name, closed or not; the first of these has that place
+-- the place of the last braces of that name, closed or not; the first of the list has the place
+-- `at`
 abbrev pub last_from : ℕ → Name → List Pair → Option ℕ
 last_from at name [] = None
 last_from at name (p ∷ ps) =
@@ -160,7 +161,7 @@ read_value (value.NodeList nodes) =
     in_turn (λ (node : PlainRead ℕ) ns. node >>= λ n. pure (ns ++ n ∷ [])) nodes []
     >>= λ ns. pure (value.NodeList ns)
 
--- between the braces of a node: its fields, and what was given so far
+-- the state between the braces of a node: its fields, and what was given so far
 pub record Between : Type 0 where
   pub fields : List Field
   pub filled : List Filled
@@ -172,8 +173,7 @@ fill line f b v =
           ++ record { line = line; name = f.1.name; number = f.0; value = v } ∷ [];
     }
 
--- f is the field with its number; `twice`: it was given something before. There is nothing that IS
--- could take
+-- f is the field with its number; `twice`: it was given something before. An IS finds no interface
 abbrev pub give : ℕ → ℕ × Field → Bool → Given (PlainRead ℕ) → Between → PlainRead Between
 give line f twice (given.Is outer) b = refuse BadIs line
 give line f twice (given.Value v) b =
@@ -189,7 +189,7 @@ is_filled name b = list_any (λ (f : Filled). bytes_eq f.name name) b.filled
 
 -- ---- each part of a tree
 
--- between the braces of a node of that type
+-- an item between the braces of a node of that type
 abbrev pub ItemReads : Type 0
 ItemReads = NodeType → Between → PlainRead Between
 
@@ -219,7 +219,7 @@ flat_node line name t b =
       interface = drop (length (rows t)) b.fields;
     }
 
--- braces open, and have no number yet
+-- opens braces, which have no number yet
 abbrev pub open_pair : Option Name → PlainRead ℕ
 open_pair name = λ r. comes (Ok (
   length r.pairs,
@@ -228,7 +228,7 @@ open_pair name = λ r. comes (Ok (
   },
 ))
 
--- those that opened at that place close, and have the next number
+-- closes the braces at that place, which get the next number
 abbrev pub close_pair : Option Name → ℕ → FlatNode → PlainRead ℕ
 close_pair name at node = λ r. comes (Ok (
   length r.nodes,

@@ -13,7 +13,7 @@ use Rattle.classic_tree.specs.declared.tree.Statement.TheVariants as statement
 use Rattle.proto_meaning.specs.Names.{Name}
 use Rattle.proto_meaning.specs.Flat.{flat}
 
--- one-to-one, and what names a node type, or none, still does
+-- one-to-one; and a name that names a node type, or none, still does
 pub record IsRenaming (rename : Name → Name) : Type 0 where
   pub apart : (a b : Name) → rename a ≡ rename b → a ≡ b
   pub types : (a : Name) → node_type_named (rename a) ≡ node_type_named a

@@ -1,4 +1,4 @@
--- Whether a text has no PROTO, part by part.
+-- Whether a text has no PROTO, for each part.
 use Rattle.std.specs.Prelude.{Bool, true, false}
 use Rattle.std.specs.List.{list_all}
 use Rattle.classic_tree.specs.declared.tree.BodyItem.TheOpen.{BodyItem-F, Statement-F, ProtoText-F}
@@ -9,7 +9,7 @@ use Rattle.classic_tree.specs.declared.tree.RawValue.TheVariants as value
 abbrev pub is_true : Bool → Bool
 is_true b = b
 
--- all nodes in a value are
+-- whether it holds for all nodes in a value
 abbrev pub all_in : Given Bool → Bool
 all_in (given.Value (value.Node b)) = b
 all_in (given.Value (value.NodeList bs)) = list_all is_true bs

@@ -1,6 +1,6 @@
--- What no IS takes doesn't matter (ISO/IEC 19775-1, 4.4.4): where no IS of its prototype's body
--- takes a field, the value that an instance gives it, and its default, may be any other that
--- declares as much.
+-- A value that no IS takes doesn't matter (ISO/IEC 19775-1, 4.4.4). If no IS of its prototype's
+-- body takes a field, the value that an instance gives it, and its default, may be any other value
+-- that declares the same.
 use Rattle.std.specs.Prelude.{◌≡◌, ℕ, Bool, true, false, ◌&&◌, is_some, List, [], ◌∷◌, map, Option, None, Result, Ok, Err}
 use Rattle.std.specs.List.{list_all}
 use Rattle.x3d_values.specs.Names.{node_type_named}
@@ -26,21 +26,21 @@ use Rattle.laws_meaning.specs.Steps.{is_true, plain_item_step, plain_statement_s
 
 -- ---- what a value declares
 
--- what the nodes in it declare, and what ISs take there
+-- what the nodes in the value declare, and what ISs take there
 abbrev pub given_declares : Given NodeText → Look
 given_declares g s =
     each (λ n. (node n).sees) (nodes_in g) (record s { taken = taking g s.taken })
 
--- the search for an instance of a prototype in it
+-- the search for an instance of a prototype in the value
 abbrev pub given_holds : Given NodeText → Name → Search
 given_holds g own = each (λ n. (node n).finds own) (nodes_in g)
 
--- a value in the place of another, by the line and the name of its field
+-- a value that replaces another, by the line and the name of its field
 abbrev pub Change : Type 0
 Change = ℕ → Name → RawValue NodeText → RawValue NodeText
 
--- whatever is in sight, the new value declares what the old one does, with the same faults, and the
--- search for an instance of a prototype, whose name is no node type's, finds the same
+-- whatever is in sight, the new value declares what the old one declares, with the same faults; and
+-- the search for an instance of a prototype, whose name is not that of a node type, gives the same
 pub record KeepsDeclarations (change : Change) : Type 0 where
   pub declares : (line : ℕ) (name : Name) (v : RawValue NodeText) (s : Sight)
       → aside (given_declares (given.Value (change line name v))) s
@@ -52,7 +52,7 @@ pub record KeepsDeclarations (change : Change) : Type 0 where
 
 -- ---- parts of a text by what is in sight before them
 
--- what is in sight behind a part: behind one that is wrong, nothing is asked
+-- what is in sight after a part; unchanged if the part has a fault
 abbrev pub seen_or : Sight → Result Sight ExpandFault → Sight
 seen_or s (Ok t) = t
 seen_or s (Err e) = s
@@ -68,7 +68,7 @@ in_turn at sees (f ∷ fs) s = at f s ∷ in_turn at sees fs (past (sees (at f s
 abbrev pub NodeAt : Type 0
 NodeAt = Sight → NodeText
 
--- by what the braces around it take
+-- an item, by the names that the braces around it keep
 abbrev pub ItemAt : Type 0
 ItemAt = Option Names → Sight → BodyItem
 
@@ -119,7 +119,7 @@ defaults_declare ds = aside (each (λ d. given_declares d.given) ds)
 abbrev pub statements_declare : List Statement → Look
 statements_declare ss = each (λ s. (statement s).1.sees) ss
 
--- a prototype whose parts are those, by what is in sight where its interface begins, and its body
+-- the prototype with these parts; `body` is what is in sight where its body begins
 abbrev pub proto_with : Change → ℕ → Name → List (Declaration NodeText) → List Statement → Sight
     → ProtoText
 proto_with change line name ds ss body =
@@ -213,7 +213,7 @@ is_bare_item =
     fold-BodyItem Bool Bool Bool Bool plain_item_step bare_node_step plain_statement_step
     plain_proto_step
 
--- no PROTO stands in it, and before all braces the names of node types
+-- the node contains no PROTO, and each word before braces is the name of a node type
 abbrev pub is_bare_node : NodeText → Bool
 is_bare_node =
     fold-NodeText Bool Bool Bool Bool plain_item_step bare_node_step plain_statement_step
@@ -224,7 +224,7 @@ is_bare_statement =
     fold-Statement Bool Bool Bool Bool plain_item_step bare_node_step plain_statement_step
     plain_proto_step
 
--- NULL in the place of a value that has to do with no prototype
+-- NULL for a value that has nothing to do with prototypes
 abbrev pub null_if : Bool → RawValue NodeText → RawValue NodeText
 null_if true v = value.Null
 null_if false v = v
@@ -232,7 +232,7 @@ null_if false v = v
 abbrev pub blanked : Change
 blanked line name v = null_if (list_all is_bare_node (nodes_in (given.Value v))) v
 
--- of documents that differ in such values alone, where no IS takes these
+-- for documents that differ only in such values that no IS takes
 abbrev pub UntakenPlainValuesDontMatter : Type 0
 UntakenPlainValuesDontMatter =
     (d e : Document) → with_untaken blanked d ≡ with_untaken blanked e → flat d ≡ flat e

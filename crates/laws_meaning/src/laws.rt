@@ -5,14 +5,13 @@ ghost use Rattle.laws_meaning.specs.Plain.{PlainDocumentsAreThemselves};
 ghost use Rattle.laws_meaning.specs.Renamed.{NamesOfPrototypesDontMatter};
 ghost use Rattle.laws_meaning.specs.Untaken.{UntakenPlainValuesDontMatter, UntakenValuesDontMatter};
 
-/// A document stands for the same with other values where no IS takes them, if these declare as
-/// much.
+/// A document stands for the same with other values that no IS takes, if these declare the same.
 pub fn untaken_values_dont_matter()
     ensures { UntakenValuesDontMatter }
 {}
 
-/// Documents that differ in values alone that no IS takes, and in which stand no PROTO and no
-/// instance, stand for the same.
+/// Documents stand for the same if they differ only in values that no IS takes, and that contain no
+/// PROTO and no instance.
 pub fn untaken_plain_values_dont_matter()
     ensures { UntakenPlainValuesDontMatter }
 {}
@@ -22,13 +21,14 @@ pub fn names_of_prototypes_dont_matter()
     ensures { NamesOfPrototypesDontMatter }
 {}
 
-/// What a document without PROTO stands for is read plainly: each pair of braces is a node.
+/// A document without PROTO is read plainly: each pair of braces is a node.
 pub fn plain_documents_are_themselves()
     ensures { PlainDocumentsAreThemselves }
 {}
 
-/// An instance is its prototype's body written in its place: of a prototype without interface whose
-/// body is one node, anywhere in a text without other prototypes, USE and ROUTE.
+/// An instance is its prototype's body, written in its place. This holds for a prototype without
+/// interface whose body is one node, and for instances anywhere in a text without other prototypes,
+/// USE and ROUTE.
 pub fn instances_are_their_bodies()
     ensures { InstancesAreTheirBodies }
 {}

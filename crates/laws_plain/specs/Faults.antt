@@ -1,5 +1,5 @@
--- Which faults a document without prototypes can have, and that it has none but its size where its
--- fields and names are right (ISO/IEC 19775-1, object model).
+-- Which faults a document without prototypes can have. If its fields and names are right, its only
+-- fault can be its size (ISO/IEC 19775-1, object model).
 use Rattle.std.specs.Prelude.{◌≡◌, Err}
 use Rattle.std.specs.List.{AllByRecursion}
 use Rattle.classic_tree.specs.declared.tree.Document.{Document}
@@ -15,7 +15,7 @@ IsPlain (Braces word entries) = Unit {0}
 IsPlain _ = ⊥
 
 -- a word that names no type, a field that its node lacks or that is given twice, a USE that names
--- no node, or too much of something
+-- no node, or a limit that is passed
 abbrev pub IsPlainFault : ExpandFaultKind → Type 0
 IsPlainFault UnknownNode = Unit {0}
 IsPlainFault UnknownField = Unit {0}
@@ -24,7 +24,7 @@ IsPlainFault FieldTwice = Unit {0}
 IsPlainFault TooLarge = Unit {0}
 IsPlainFault _ = ⊥
 
--- where such a document has no flat form, it is for one of these
+-- if such a document has no flat form, the fault is one of these
 abbrev pub PlainDocumentsFail : Type 0
 PlainDocumentsFail =
     (d : Document) (e : ExpandFault) → AllByRecursion IsPlain (parts d) → flat d ≡ Err e

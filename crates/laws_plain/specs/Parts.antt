@@ -1,5 +1,5 @@
--- What stands in each part of a tree, as far as it decides whether the flat form exists: braces,
--- with the names of the fields between them, prototypes, and ISs (ISO/IEC 19776-2, grammar).
+-- The parts of a tree that decide whether the flat form exists: braces, with the names of the
+-- fields between them, prototypes, and ISs (ISO/IEC 19776-2, grammar).
 use Rattle.std.specs.Prelude.{ℕ, List, [], ◌∷◌, ◌++◌}
 use Rattle.std.specs.List.{flat_map}
 use Rattle.classic_tree.specs.declared.tree.BodyItem.{BodyItem, fold-BodyItem}
@@ -13,7 +13,7 @@ use Rattle.classic_tree.specs.declared.tree.RawValue.TheVariants as value
 use Rattle.classic_tree.specs.declared.tree.Statement.{Statement, fold-Statement}
 use Rattle.laws_flat.specs.Signatures.{Signature, signature}
 
--- a field between braces that the node is to have, or one that is declared there
+-- a field between braces that is given something, or one that is declared there
 pub data BraceField : Type 0 where
   Gives : List ℕ → BraceField
   Declares : Signature → BraceField
@@ -24,7 +24,7 @@ pub data TreePart : Type 0 where
   Prototype : TreePart
   Joins : TreePart
 
--- ---- each part of a tree, by those inside
+-- ---- each part of a tree, from its own parts
 
 abbrev pub Inside : Type 0
 Inside = List TreePart
@@ -40,7 +40,7 @@ module _ {N : Type 0} (parts : N → Inside) where
   in_given (given.Value v) = in_value v
   in_given (given.Is name) = Joins ∷ []
 
--- an item between braces: the field that it names, and what stands inside
+-- an item between braces: the field that it names, and the parts inside
 pub record BraceItem : Type 0 where
   pub entries : List BraceField
   pub inside : Inside
@@ -88,6 +88,6 @@ abbrev pub in_statement : Statement → Inside
 in_statement =
     fold-Statement BraceItem Inside Inside Inside item_step node_step statement_step proto_step
 
--- those of a document
+-- the parts of a document
 abbrev pub parts : Document → Inside
 parts document = flat_map in_statement document.statements

@@ -1,4 +1,4 @@
--- Which documents have a flat form, but for their size (ISO/IEC 19775-1, object model): those of
+-- Which documents have a flat form, except for their size (ISO/IEC 19775-1, object model): those of
 -- known nodes, whose fields are known and given once, and in which each USE names a node.
 use Rattle.std.specs.Prelude.{◌≡◌, ℕ, ◌==◌, true, false, Bool, List, [], ◌∷◌, ◌++◌, Option, Some, None, option_map, is_some, Result, Ok, Err}
 use Rattle.std.specs.List.{AllByRecursion, flat_map, list_any}
@@ -16,12 +16,12 @@ use Rattle.laws_plain.specs.Parts.{BraceField, Gives, Declares, TreePart, Braces
 
 -- ---- fields
 
--- a name that the type has is declared no more
+-- a name that the type has isn't declared again
 abbrev pub unless_own : Option KnownField → Option ℕ → Option ℕ
 unless_own None number = number
 unless_own (Some field) number = None
 
--- the number of a field that is given is that of its row; behind these come the declared fields
+-- the number of a field that is given is that of its row; after these come the declared fields
 abbrev pub entry_number : NodeType → List Signature → BraceField → Option ℕ
 entry_number t declared (Gives name) = option_map number_of (of_type t name)
 entry_number t declared (Declares s) =
@@ -35,7 +35,7 @@ signed (Declares s) = s ∷ []
 abbrev pub is_among : ℕ → List ℕ → Bool
 is_among number before = list_any (λ k. k == number) before
 
--- it is a number, and none of those before it
+-- there is a number, and it isn't one of those before
 abbrev pub IsNext : List ℕ → Option ℕ → Type 0
 IsNext before None = ⊥
 IsNext before (Some number) = is_among number before ≡ false
@@ -58,7 +58,7 @@ IsOfType None entries = ⊥
 IsOfType (Some t) entries = AreOnce t (flat_map signed entries) [] entries
 
 -- the word is that of a node type, and the fields are those of a node of this type, each once;
--- nothing is a prototype, or joined to one
+-- there is no prototype and no IS
 abbrev pub IsSound : TreePart → Type 0
 IsSound (Braces word entries) = IsOfType (node_type_named word) entries
 IsSound Prototype = ⊥

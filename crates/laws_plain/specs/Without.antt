@@ -1,4 +1,4 @@
--- A document without what it declares: PROTOs taken out, at any depth outside of them.
+-- A document without its declarations: PROTOs are taken out, at any depth outside of them.
 use Rattle.std.specs.Prelude.{◌≡◌, List, [], ◌∷◌, Ok}
 use Rattle.std.specs.List.{flat_map}
 use Rattle.classic_tree.specs.declared.tree.BodyItem.{BodyItem, fold-BodyItem}
@@ -22,7 +22,7 @@ Statements = List Statement
 abbrev pub these : Items → Items
 these items = items
 
--- an item, or none where it was a PROTO
+-- an item, or nothing for a PROTO
 unfoldable pub item_step : BodyItem-F Items NodeText Statements (Unit {0}) → Items
 item_step (BodyItem-F.Field line name g) = item.Field line name g ∷ []
 item_step (BodyItem-F.Declaration d) = item.Declaration d ∷ []
@@ -58,7 +58,7 @@ left_statements =
 abbrev pub without_protos : Document → Document
 without_protos d = record d { statements = flat_map left_statements d.statements }
 
--- prototypes that no braces name put nothing in: without them the flat form is the same
+-- prototypes that no braces name add nothing: without them the flat form is the same
 abbrev pub DeclarationsPutNothingIn : Type 0
 DeclarationsPutNothingIn =
     (d : Document) (f : Flat) → HasNoInstances d → flat d ≡ Ok f → flat (without_protos d) ≡ Ok f

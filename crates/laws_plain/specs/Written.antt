@@ -1,5 +1,5 @@
--- What is written in a text (ISO/IEC 19776-2, grammar), also where prototypes are declared: all
--- that the nodes of its flat form can hold.
+-- What is written in a text (ISO/IEC 19776-2, grammar), including inside declarations of
+-- prototypes: all that the nodes of its flat form can hold.
 use Rattle.std.specs.Prelude.{◌≡◌, ◌⊎◌, List, [], ◌∷◌, ◌++◌, Option}
 use Rattle.std.specs.List.{AllByRecursion, Contains}
 use Rattle.x3d_values.specs.declared.node_type.NodeType.TheVariants.{Script}
@@ -20,8 +20,8 @@ use Rattle.proto_meaning.specs.Names.{Name, Field}
 use Rattle.proto_meaning.specs.Flat.{field}
 use Rattle.laws_flat.specs.Shapes.{blank}
 
--- of each pair of braces the name that DEF gives; the fields that are declared between braces; and
--- the values of fields and interfaces, up to which nodes stand in them
+-- the name that DEF gives each pair of braces; the fields that are declared between braces; and the
+-- values of fields and interfaces, except for the nodes in them
 pub record Written : Type 0 where
   pub names : List (Option Name)
   pub fields : List Field
@@ -96,7 +96,7 @@ in_proto =
 abbrev pub written : Document → Written
 written d = all_of in_statement d.statements
 
--- ---- a node that holds no more
+-- ---- a node that holds only what is written
 
 abbrev pub IsWrittenValue : Written → FlatField → Type 0
 IsWrittenValue w f = Contains w.values (blank f.value)

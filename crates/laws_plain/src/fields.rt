@@ -2,15 +2,15 @@
 
 ghost use Rattle.laws_plain.specs.Laws.{FieldsAreRead, ShapesStay};
 
-/// The nodes of the flat form of a document without instances have the fields that stand between
-/// their braces, in the order of the text, each by its number, with its value, in which each node
-/// stands as its number; and a Script the fields that are declared there.
+/// The nodes of the flat form of a document without instances have the fields between their braces,
+/// in the order of the text, each with its number and its value, in which each node is its number.
+/// A Script has the fields that are declared there.
 pub fn fields_are_read()
     ensures { FieldsAreRead }
 {}
 
-/// The fields of those nodes, and their values up to which nodes these hold, are those that stand
-/// in the tree, with no reading of names.
+/// The fields of those nodes, and their values except for the nodes in them, are those in the tree;
+/// no names are read.
 pub fn shapes_stay()
     ensures { ShapesStay }
 {}

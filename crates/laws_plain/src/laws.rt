@@ -5,7 +5,7 @@ ghost use Rattle.laws_plain.specs.Laws.{LinesAreForFaults, NodesClose};
 ghost use Rattle.laws_plain.specs.Laws.{RoutesAreRead, UsesAreNamed};
 ghost use Rattle.laws_plain.specs.Without.{DeclarationsPutNothingIn};
 
-/// A document without instances is read plainly, each PROTO passed over.
+/// A document without instances is read plainly; each PROTO is passed over.
 pub fn documents_are_read_plainly()
     ensures { DocumentsAreReadPlainly }
 {}
@@ -17,29 +17,31 @@ pub fn nodes_close()
     ensures { NodesClose }
 {}
 
-/// The flat form of a document without instances has each node in its place: between its braces or
-/// as a root, where each USE is the nearest node before it of that name whose braces are closed.
+/// The flat form of a document without instances has each node where the text has it: between its
+/// braces or as a root. Each USE is the nearest node before it of that name whose braces are
+/// closed.
 pub fn uses_are_named()
     ensures { UsesAreNamed }
 {}
 
 /// The flat form of a document without instances has a route for each ROUTE, in the order of the
-/// text, where an end is the nearest DEF of its name before the ROUTE.
+/// text. Each end is the nearest DEF of its name before the ROUTE.
 pub fn routes_are_read()
     ensures { RoutesAreRead }
 {}
 
-/// What a flat document names stands in it, and what a node holds has a lower number.
+/// What a flat document names exists in it, and what a node holds has a lower number.
 pub fn flats_are_ordered()
     ensures { FlatsAreOrdered }
 {}
 
-/// Documents that differ in lines alone have flat forms that do, or faults of one kind.
+/// Documents that differ only in lines have flat forms that differ only in lines, or faults of one
+/// kind.
 pub fn lines_are_for_faults()
     ensures { LinesAreForFaults }
 {}
 
-/// Prototypes that no braces name put nothing in: without them the flat form is the same.
+/// Prototypes that no braces name add nothing: without them the flat form is the same.
 pub fn declarations_put_nothing_in()
     ensures { DeclarationsPutNothingIn }
 {}

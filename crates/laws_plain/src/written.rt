@@ -1,9 +1,9 @@
-//! Laws of what stands in flat forms, each the contract of a function that does nothing.
+//! Laws about what flat forms hold, each the contract of a function that does nothing.
 
 ghost use Rattle.laws_plain.specs.Laws.{FlatsAreLimited, FlatsAreWritten};
 ghost use Rattle.laws_plain.specs.Laws.{HeadersStay, HelpersAreOfInstances, NamesAreApart};
 
-/// The nodes of a flat form have names, declared fields and values that stand in the text.
+/// The nodes of a flat form have names, declared fields and values that are in the text.
 pub fn flats_are_written()
     ensures { FlatsAreWritten }
 {}
@@ -13,12 +13,12 @@ pub fn flats_are_limited()
     ensures { FlatsAreLimited }
 {}
 
-/// No two fields of a node of a flat form have one name.
+/// No two fields of a node of a flat form have the same name.
 pub fn names_are_apart()
     ensures { NamesAreApart }
 {}
 
-/// A flat form has the head of its document.
+/// A flat form has the header of its document.
 pub fn headers_stay()
     ensures { HeadersStay }
 {}

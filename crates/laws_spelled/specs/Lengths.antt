@@ -1,4 +1,5 @@
--- How long the texts and lists of a flat document are, by the text that the document was read from.
+-- The lengths of the texts and lists of a flat document, limited by the text that the document was
+-- read from.
 use Rattle.std.specs.Prelude.{◌≡◌, ℕ, ◌≤◌, List, length, IsUtf8, Ok}
 use Rattle.std.specs.List.{AllByRecursion}
 use Rattle.classic_lex.specs.Header.{max_len}
@@ -11,7 +12,7 @@ use Rattle.proto_flat.specs.declared.flat.FlatField.{FlatField}
 use Rattle.proto_flat.specs.declared.flat.FlatNode.{FlatNode}
 use Rattle.proto_meaning.specs.Flat.{flat}
 
--- each text of a value is so, and so is the length of its list; nodes are no matter
+-- `Text` holds for each text of a value, and `Count` for the length of its list; nodes don't matter
 abbrev pub HasParts : {N : Type 0} → (List ℕ → Type 0) → (ℕ → Type 0) → RawValue N → Type 0
 HasParts Text Count (String text) = Text text
 HasParts Text Count (Numbers numbers) = Count (length numbers)
@@ -20,11 +21,11 @@ HasParts Text Count (StringList texts) = Count (length texts) × AllByRecursion 
 HasParts Text Count (NumberList numbers) = Count (length numbers)
 HasParts Text Count _ = Unit {0}
 
--- UTF-8, of at most so many bytes
+-- UTF-8, of at most `most` bytes
 abbrev pub IsShortText : ℕ → List ℕ → Type 0
 IsShortText most text = IsUtf8 text × (length text ≤ most)
 
--- no text of the value has more bytes, and no list more items
+-- no text of the value has more bytes than `most`, and no list more items
 abbrev pub IsShort : {N : Type 0} → ℕ → RawValue N → Type 0
 IsShort most value = HasParts (IsShortText most) (λ n. n ≤ most) value
 
@@ -44,6 +45,6 @@ FlatsAreShort =
     (text : List ℕ) (d : Document) (f : Flat)
     → read_text text ≡ Ok d → flat d ≡ Ok f → IsShortFlat (length text) f
 
--- and that has at most 16 MiB
+-- the text has at most 16 MiB
 abbrev pub TextsAreShort : Type 0
 TextsAreShort = (text : List ℕ) (d : Document) → read_text text ≡ Ok d → length text ≤ max_len

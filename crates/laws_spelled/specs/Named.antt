@@ -1,5 +1,5 @@
--- What a text gives the flat form of its document: its names are names, and its texts are UTF-8
--- (ISO/IEC 19776-2, grammar).
+-- What follows from a text for the flat form of its document: its names are valid, and its texts
+-- are UTF-8 (ISO/IEC 19776-2, grammar).
 use Rattle.std.specs.Prelude.{◌≡◌, ◌⊎◌, ℕ, Bool, true, [], List, Ok}
 use Rattle.std.specs.List.{AllByRecursion, list_all}
 use Rattle.std.specs.Str.{is_utf8}
@@ -21,21 +21,21 @@ has_utf8 (raw.String text) = is_utf8 text
 has_utf8 (raw.StringList texts) = list_all is_utf8 texts
 has_utf8 _ = true
 
--- a Script alone declares fields
+-- names are valid, and texts are UTF-8; only a Script declares fields
 pub record IsNamedNode (node : FlatNode) : Type 0 where
   pub named : IsNameOrNone node.name
   pub scripted : (node.node_type ≡ Script) ⊎ (node.interface ≡ [])
   pub declared : AllByRecursion (λ (d : Declaration ℕ). IsFreeName d.name) node.interface
   pub texts : list_all (λ (f : FlatField). has_utf8 f.value) node.fields ≡ true
 
--- so are the head of a flat form, and its nodes
+-- the same for the header of a flat form and all of its nodes
 pub record IsNamed (flat : Flat) : Type 0 where
   pub profile : IsNameOrNone flat.header.profile
   pub components : AllByRecursion IsSpellableComponent flat.header.components
   pub metas : AllByRecursion IsSpellableMeta flat.header.metas
   pub nodes : AllByRecursion IsNamedNode flat.nodes
 
--- the flat form of a document that some text spells, lines apart, is so
+-- this holds for the flat form of a document that some text spells, lines apart
 abbrev pub SpelledFlatsAreNamed : Type 0
 SpelledFlatsAreNamed =
     (text : List ℕ) (d : Document) (f : Flat) → SpellsButLines text d → flat d ≡ Ok f → IsNamed f

@@ -3,13 +3,13 @@
 ghost use Rattle.laws_spelled.specs.Lengths.{FlatsAreShort, TextsAreShort};
 ghost use Rattle.laws_spelled.specs.Named.{SpelledFlatsAreNamed};
 
-/// The flat form of a document that some text spells has names that are names, and texts that are
-/// UTF-8.
+/// The flat form of a document that some text spells has valid names, and its texts are UTF-8.
 pub fn spelled_flats_are_named()
     ensures { SpelledFlatsAreNamed }
 {}
 
-/// What stands in the flat form of a text is no longer than the text, and that has at most 16 MiB.
+/// The texts and lists of the flat form of a text are no longer than the text, which has at most 16
+/// MiB.
 pub fn flats_are_short()
     ensures values { FlatsAreShort }
     ensures texts { TextsAreShort }

@@ -1,4 +1,4 @@
-//! What a text gives the flat form of its document.
+//! What follows from a text for the flat form of its document.
 #![tactic(auto)]
 
 mod laws;

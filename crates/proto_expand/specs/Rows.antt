@@ -1,4 +1,4 @@
--- Statements that are instances of one prototype, given nothing, one behind the other.
+-- Statements in a row that are instances of one prototype, given nothing.
 use Rattle.std.specs.Prelude.{ℕ, ◌-◌, ◌*◌, Bool, false, nat_eq, nat_lt, if◌then◌else◌, List, [], ◌∷◌, Option, Some, None, IfSome, Result, Ok, slice_get}
 use Rattle.std.specs.List.{AllByRecursion, prefix_len}
 use Rattle.std.specs.Option.{option_map_or}
@@ -14,13 +14,13 @@ use Rattle.proto_tree.specs.declared.tree.NodeTree.{NodeTree, out-NodeTree}
 use Rattle.proto_tree.specs.declared.tree.Word.{Word}
 use Rattle.proto_tree.specs.declared.tree.Word.TheVariants as word
 
--- of which prototype it is an instance, by its number
+-- the number of the prototype, for an instance
 abbrev pub instance_number : Word → Option ℕ
 instance_number word.Unknown = None
 instance_number (word.Node t) = None
 instance_number (word.Instance number) = Some number
 
--- the same, where nothing stands between the braces
+-- the number of the prototype, for an instance with nothing between its braces
 abbrev pub number_between : NodeTree-F ItemTree NodeTree → Option ℕ
 number_between (NodeTree-F.Use line name) = None
 number_between (NodeTree-F.Full line name w []) = instance_number w
@@ -37,20 +37,20 @@ bare_number (body.Wrong e) = None
 abbrev pub is_bare_of : ℕ → BodyTree → Bool
 is_bare_of number s = option_map_or (λ found. nat_eq found number) (bare_number s) false
 
--- how many from the first on
+-- how many at the start are in the row
 abbrev pub row_len : List BodyTree → ℕ
 row_len [] = 0
 row_len (s ∷ rest) =
     option_map_or (λ number. prefix_len (is_bare_of number) (s ∷ rest)) (bare_number s) 0
 
--- where so much room was left before the first, and so much is left behind it: how many stand in
--- its row, unless the others can't be put in
+-- `before` is the room before the first, `left` the room after it: how many are in its row, unless
+-- the others don't fit
 abbrev pub look_along : List BodyTree → ℕ → ℕ → Result ℕ ExpandFault
 look_along statements before left =
     if nat_lt left ((before - left) * (row_len statements - 1)) then too_large
     else Ok (row_len statements)
 
--- what an instance of its prototype comes to hangs on sizes alone
+-- what an instance of its prototype gives depends on sizes alone
 abbrev pub RootSized : List Prototype → BodyTree → Type 0
 RootSized ps s = IfSome (bare_number s) (λ number. IfSome (slice_get ps number) IsSized)
 

@@ -8,7 +8,7 @@ use Rattle.proto_tree.specs.Meaning.{instance}
 use Rattle.proto_tree.specs.declared.tree.ProtoTree.{ProtoTree}
 use Rattle.proto_nodes.specs.declared.frames.Proto.{Proto}
 
--- an instance of the prototype is what the tree stands for
+-- an instance of the prototype is what the tree stands for, and the interface is the tree's
 pub record IsTied (ps : List Prototype) (p : Prototype) (tree : ProtoTree) : Type 0 where
   pub interface : p.interface ≡ map field (out-ProtoText tree.text.now).interface
   pub instance : (given : List Filled) (put : Put)
@@ -20,11 +20,11 @@ AreTied ps (Some p) (Some tree) = IsTied ps p tree
 AreTied ps (Some p) None = ⊥
 AreTied ps None (Some tree) = ⊥
 
--- each number is that of a prototype and of its tree
+-- each number has a prototype and the tree of that prototype, or neither
 abbrev pub Tied : List Prototype → List ProtoTree → Type 0
 Tied ps trees = (number : ℕ) → AreTied ps (slice_get ps number) (slice_get trees number)
 
--- ---- as they are read
+-- ---- the prototypes of the program
 
 abbrev pub known_of : Proto → ProtoTree × List Field
 known_of p = (p.tree.now, p.interface)

@@ -15,7 +15,7 @@ use Rattle.proto_tree.specs.declared.tree.BodyTree.{BodyTree}
 use Rattle.proto_expand.specs.declared.whole.Content.{Content}
 use Rattle.proto_nodes.specs.Does.{Comes}
 
--- a statement's nodes are roots, as `stand_together` has it
+-- the nodes of a statement are roots, as in `stand_together`
 abbrev pub root_by : Stated → List ℕ → Does (List ℕ)
 root_by s roots = s.1.does >>= λ ns. pure (roots ++ ns)
 
@@ -25,7 +25,8 @@ root_does ps s roots = root_by (statement ps s) roots
 abbrev pub roots_do : List Prototype → List BodyTree → List ℕ → Does (List ℕ)
 roots_do ps statements = through root_by (map (statement ps) statements)
 
--- the first of these was put in: what is left comes to the same, memory aside; or all are too many
+-- the first statement was added, and the rest gives the same; or the fault is that of all, or
+-- memory ran out
 abbrev pub RootsGo : List Prototype → List BodyTree → List ℕ → State → Result ℕ ExpandFault
     → List ℕ → State → Type 0
 RootsGo ps statements roots s (Ok looked) more t =
@@ -33,7 +34,7 @@ RootsGo ps statements roots s (Ok looked) more t =
 RootsGo ps statements roots s (Err e) more t =
     (e ≡ memory) ⊎ (doing (roots_do ps statements roots) s ≡ Err e)
 
--- the roots, the routes if they are few, and what was put in
+-- the roots, the routes if they are few, and what was added
 abbrev pub all_of : Comes (List ℕ) → Result (List ℕ × List FlatRoute × Put) ExpandFault
 all_of o =
     and_see o (λ p. and_see (few (p.1.walk.scope.routes p.1.walk.scope.braces))
@@ -43,7 +44,7 @@ abbrev pub content_of : List ℕ → List FlatRoute → Put → Content
 content_of roots routes put =
     record { nodes = put.nodes; roots = roots; helpers = put.helpers; routes = routes }
 
--- with its header
+-- the content, with its header
 abbrev pub with_content : Header → Content → Flat
 with_content header c =
     record {

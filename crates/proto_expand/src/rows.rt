@@ -8,7 +8,7 @@ ghost use Rattle.proto_expand.specs.Rows.{bare_in, bare_number, instance_number,
 use proto_flat::{ExpandFault, ExpandFaultKind};
 use proto_tree::{BodyTree, NodeTree, Word};
 
-/// The number of the prototype of which it is an instance.
+/// Returns the number of the prototype, if the word means an instance.
 fn instance_of(word: Word) -> Option<usize>
     ensures { result ≡ instance_number word }
 {
@@ -19,7 +19,7 @@ fn instance_of(word: Word) -> Option<usize>
     }
 }
 
-/// The same, where it is given nothing.
+/// Returns the number of the prototype, if the node is an instance that is given nothing.
 fn bare_node(node: &NodeTree<'_>) -> Option<usize>
     ensures { result ≡ bare_in node.now }
 {
@@ -35,7 +35,7 @@ fn bare_node(node: &NodeTree<'_>) -> Option<usize>
     }
 }
 
-/// The number of the prototype of which the statement is an instance that is given nothing.
+/// Returns the number of the prototype, if the statement is an instance that is given nothing.
 fn bare_proto(statement: &BodyTree<'_>) -> Option<usize>
     ensures { result ≡ bare_number statement.now }
 {
@@ -46,7 +46,7 @@ fn bare_proto(statement: &BodyTree<'_>) -> Option<usize>
     }
 }
 
-/// Whether the statement is an instance of that prototype, and is given nothing.
+/// Reports whether the statement is an instance of that prototype, and is given nothing.
 fn is_bare(statement: &BodyTree<'_>, number: usize) -> bool
     ensures { result ≡ is_bare_of number statement.now }
 {
@@ -56,7 +56,7 @@ fn is_bare(statement: &BodyTree<'_>, number: usize) -> bool
     }
 }
 
-/// How many statements from the first on are such instances of that prototype.
+/// Returns how many statements at the start are such instances of that prototype.
 fn count_bare(statements: &[BodyTree<'_>], number: usize) -> usize
     ensures { result ≡ prefix_len (is_bare_of number) statements.now }
 {
@@ -66,7 +66,7 @@ fn count_bare(statements: &[BodyTree<'_>], number: usize) -> usize
         .count()
 }
 
-/// How many statements from the first on are such instances of one prototype.
+/// Returns how many statements at the start are such instances of one prototype.
 fn row_len(statements: &[BodyTree<'_>]) -> usize
     ensures { result ≡ rows.row_len statements.now }
 {
@@ -79,16 +79,16 @@ fn row_len(statements: &[BodyTree<'_>]) -> usize
     }
 }
 
-/// Whether so many take more room than is left, where each takes so much.
+/// Reports whether `count` instances that take `each` are more than `left`.
 fn is_too_much(each: u32, count: usize, left: u32) -> bool
     ensures { result ≡ nat_lt left (each * count) }
 {
     u64::from(each).saturating_mul(count as u64) > u64::from(left)
 }
 
-/// How many of the statements stand in a row, where so much room was left before the first of them
-/// was put in, and so much is left behind it; or TooLarge, where the others of the row can't be put
-/// in.
+/// Returns how many statements at the start are in a row of such instances. `before` is the room
+/// that was left before the first of them was added, `left` the room after it. TooLarge (line 0) if
+/// the others of the row don't fit into `left`.
 pub fn look_along(statements: &[BodyTree<'_>], before: u32, left: u32) -> Result<usize, ExpandFault>
     ensures { result ≡ rows.look_along statements.now before left }
 {

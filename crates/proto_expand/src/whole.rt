@@ -30,7 +30,7 @@ use proto_walker::Walker;
 use std::alloc::{AllocError, Global};
 use x3d_lists::Items;
 
-/// A text without its header, flat.
+/// The flat form of a text, without its header.
 #[derive(Drop)]
 pub struct Content {
     pub nodes: Items<FlatNode>,
@@ -39,7 +39,7 @@ pub struct Content {
     pub routes: Items<FlatRoute>,
 }
 
-/// The nodes that are statements, and the routes.
+/// The numbers of the nodes that are statements, and the routes.
 #[derive(Drop)]
 pub struct Made {
     pub roots: Items<u32>,
@@ -53,7 +53,7 @@ fn known<'t, 'a>(alloc: Global, tree: &'t ProtoTree<'a>) -> Result<Proto<'t, 'a>
     Ok(Proto { tree, interface })
 }
 
-/// The prototypes, with their interfaces.
+/// Returns the prototypes, each with its interface.
 fn known_protos<'t, 'a>(
     alloc: Global,
     trees: &'t [ProtoTree<'a>],
@@ -67,7 +67,7 @@ fn known_protos<'t, 'a>(
     Ok(protos)
 }
 
-/// The prototypes of a text, each with its interface.
+/// Returns the prototypes of a text, each with its interface. AllocError if memory runs out.
 pub fn protos_of<'t, 'a>(
     alloc: Global,
     trees: &'t [ProtoTree<'a>],
@@ -79,7 +79,7 @@ pub fn protos_of<'t, 'a>(
     Ok(protos)
 }
 
-/// A node that is a statement is a root.
+/// Adds a node that is a statement; it is a root.
 fn put_root<'t, 'a>(
     alloc: Global,
     machine: &mut WalkState<'t, 'a>,
@@ -100,7 +100,7 @@ fn put_root<'t, 'a>(
     Ok(())
 }
 
-/// A ROUTE that is a statement gives no root.
+/// Adds a ROUTE that is a statement; it has no root.
 fn put_route<'t, 'a>(
     machine: &mut WalkState<'t, 'a>,
     route: &'a RouteText,
@@ -119,7 +119,7 @@ fn put_route<'t, 'a>(
     machine.walker.put_route(route)
 }
 
-/// Puts a statement in.
+/// Adds a statement.
 fn put_statement<'t, 'a>(
     alloc: Global,
     machine: &mut WalkState<'t, 'a>,
@@ -142,9 +142,9 @@ fn put_statement<'t, 'a>(
     }
 }
 
-/// Puts the first statement in. So many of the statements were looked at before, this one among
-/// them; where none was, it looks along the row that begins here. Gives how many of the others were
-/// looked at.
+/// Adds the first statement. `looked` statements, this one included, are known to be in a row; if
+/// it is 0, looks along the row that begins here. Returns how many of the others are known to be in
+/// the row.
 fn put_next<'t, 'a>(
     alloc: Global,
     machine: &mut WalkState<'t, 'a>,
@@ -173,7 +173,7 @@ fn put_next<'t, 'a>(
     Ok(count.saturating_sub(1))
 }
 
-/// Puts all in, and gives the numbers of the nodes that are statements.
+/// Adds all statements, and returns the numbers of the nodes that are statements.
 fn put_roots<'t, 'a>(
     alloc: Global,
     machine: &mut WalkState<'t, 'a>,
@@ -194,7 +194,7 @@ fn put_roots<'t, 'a>(
     Ok(roots)
 }
 
-/// The routes, once all braces are closed.
+/// Returns the routes; all braces are closed.
 fn routes(alloc: Global, walker: &mut Walker<'_, '_>) -> Result<Items<FlatRoute>, ExpandFault>
     ensures routes { Gives memory (λ rs. rs) result (few ((scope.shown walker.old.scope).routes
         (scope.shown walker.old.scope).braces)) }
@@ -223,7 +223,7 @@ fn put_all<'t, 'a>(
     Ok(Made { roots, routes })
 }
 
-/// What was put in. The branches that were made go last, and the last of them first.
+/// Returns what was added, and then drops the branches that were made, the last first.
 fn put_in<'t, 'a>(machine: WalkState<'t, 'a>) -> PutIn<'a>
     ensures { result ≡ machine.entry.walker.put }
 {
@@ -240,7 +240,7 @@ fn put_in<'t, 'a>(machine: WalkState<'t, 'a>) -> PutIn<'a>
     put
 }
 
-/// What was put in, with these roots and routes.
+/// Returns what was added, with these roots and routes.
 fn gather(alloc: Global, put_in: PutIn<'_>, made: Made) -> Result<Content, AllocError>
     ensures { IfOk result (λ c. c ≡ content_of made.roots made.routes (put.shown put_in.entry)) }
 {
@@ -255,7 +255,7 @@ fn gather(alloc: Global, put_in: PutIn<'_>, made: Made) -> Result<Content, Alloc
     })
 }
 
-/// The content, or memory was refused.
+/// Returns the content; Memory for an AllocError.
 fn or_memory(content: Result<Content, AllocError>) -> Result<Content, ExpandFault>
     ensures { result ≡ content_or content }
 {
@@ -292,7 +292,8 @@ fn put_text<'t, 'a>(
     }
 }
 
-/// What the text of these statements comes to, whatever its header.
+/// Returns the flat form of these statements, whatever the header. The faults are those of
+/// `expand`.
 pub fn walk<'t, 'a>(
     alloc: Global,
     protos: &'t [Proto<'t, 'a>],

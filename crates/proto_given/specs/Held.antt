@@ -1,4 +1,4 @@
--- What the table of given fields holds, as the definition sees it.
+-- What the table of given fields holds, in the terms of the definition.
 use Rattle.std.specs.Prelude.{◌≡◌, ℕ, Bool, if◌then◌else◌, List, map, Option, Some, option_map, is_some}
 use Rattle.std.specs.List.{list_any}
 use Rattle.std.specs.Option.{option_and_then}
@@ -15,7 +15,7 @@ use Rattle.proto_given.specs.declared.given.GivenField.{GivenField}
 abbrev pub Value : Type 0
 Value = Option (RawValue ℕ)
 
--- the value that is shared
+-- a shared value
 abbrev pub held : {A : Type 0} → Option (Rc (RawValue ℕ) A) → Value
 held value = option_map (λ v. v.value) value
 
@@ -37,16 +37,16 @@ with_entry given value entries name = if bytes_eq given name then Some value els
 abbrev pub value_held : Option Value → Value
 value_held entry = option_and_then (λ v. v) entry
 
--- as the definition asks whether a field was given something
+-- how the definition asks whether a field was given something
 abbrev pub has_name : Name → List Filled → Bool
 has_name name filled = list_any (λ (f : Filled). bytes_eq f.name name) filled
 
--- the table is that of these fields
+-- the table holds these fields
 pub record Holds (given : Given) (filled : List Filled) : Type 0 where
   pub list : shown given ≡ filled
   pub has : (name : Name) → is_some (entry_of given name) ≡ has_name name filled
   pub value : (name : Name) → value_held (entry_of given name) ≡ value_of name filled
 
--- the table is that of its own fields
+-- the table holds its own fields
 abbrev pub IsHeld : Given → Type 0
 IsHeld given = Holds given (shown given)

@@ -1,4 +1,4 @@
-//! What fields are given, by their names and in the order of the text.
+//! What fields are given, by name and in the order of the text.
 
 ghost use Rattle.std.specs.Prelude.{◌≡◌, ◌++◌, ◌∷◌, [], List, false, option_map, IfOk};
 ghost use Rattle.proto_meaning.specs.Names.{Filled, value_of};
@@ -10,9 +10,9 @@ use std::collections::BTreeMap;
 use std::rc::Rc;
 use x3d_lists::Text;
 
-/// What a field is given: the line of its name, its number among the fields there, and the value,
-/// which is there once, however many fields ISs hand it on to. There is none where an IS hands on
-/// nothing, or where the value goes nowhere.
+/// What a field is given: the line of its name, its number among the fields there, and its value.
+/// The value is stored once, however many fields ISs hand it on to. There is no value if an IS
+/// hands on nothing, if no IS takes the field, or if a Script's declaration has none.
 #[derive(Drop)]
 pub struct GivenField {
     pub line: u32,
@@ -29,7 +29,7 @@ pub struct Given<'a> {
     pub values: BTreeMap<&'a str, Option<Rc<RawValue<u32>>>>,
 }
 
-/// The same value once more.
+/// Returns another reference to the same value.
 fn shared(value: &Option<Rc<RawValue<u32>>>) -> Result<Option<Rc<RawValue<u32>>>, AllocError>
     ensures { IfOk result (λ made. option_map (λ v. v.value) made
         ≡ option_map (λ v. v.value) value.now) }
@@ -41,7 +41,7 @@ fn shared(value: &Option<Rc<RawValue<u32>>>) -> Result<Option<Rc<RawValue<u32>>>
 }
 
 impl<'a> Given<'a> {
-    /// Nothing is given.
+    /// Returns an empty table.
     #[tactic(auto, unfolding(crate::specs::Held::entry_of))]
     pub fn new(alloc: Global) -> Given<'a>
         ensures { Holds result [] }
@@ -59,7 +59,7 @@ impl<'a> Given<'a> {
         self.values.get(name.as_str())
     }
 
-    /// Whether the field of that name was given something.
+    /// Reports whether the field of that name was given something.
     pub fn has(&self, name: &Text) -> bool
         ensures { (filled : List Filled) → Holds self.now filled
             → result ≡ has_name name.now filled }
@@ -67,7 +67,7 @@ impl<'a> Given<'a> {
         self.entry(name).is_some()
     }
 
-    /// The value that the field of that name was given.
+    /// Returns the value that the field of that name was given, if there is one.
     pub fn value(&self, name: &Text) -> Option<&Rc<RawValue<u32>>>
         ensures { (filled : List Filled) → Holds self.now filled
             → option_map (λ v. v.now.value) result ≡ value_of name.now filled }
@@ -107,7 +107,8 @@ impl<'a> Given<'a> {
         Ok(())
     }
 
-    /// The field of that name, which was given nothing before, is given that.
+    /// Records what the field of that name is given, which was given nothing before. AllocError if
+    /// memory runs out.
     pub fn fill(&mut self, name: &'a Text, field: GivenField) -> Result<(), AllocError>
         ensures { (filled : List Filled) → Holds self.old filled
             → has_name name.now filled ≡ false → IfOk result (λ _.

@@ -1,4 +1,4 @@
--- What a step between braces has to do.
+-- What a step between braces must do.
 use Rattle.std.specs.Prelude.{◌≡◌, ◌⊎◌, ℕ, Bool, true, false, Option, None, Result, Ok, Err}
 use Rattle.classic_tree.specs.declared.tree.Given.TheVariants as text
 use Rattle.proto_flat.specs.Fault.{memory}
@@ -23,7 +23,7 @@ abbrev pub is_type : holder.Owner → Bool
 is_type (Node t) = true
 is_type (Instance interface) = false
 
--- as proto_meaning has it: braces that opened behind so many others, and whose they are
+-- in the terms of proto_meaning: the braces number `at`, and their owner
 abbrev pub inside_of : ℕ → Owner → Inside → flat.Inside
 inside_of at o i = record { at = at; owner = o; fields = fields_in i; filled = filled_in i }
 
@@ -35,7 +35,7 @@ Gives at o outcome (Ok u) walker old new =
     × (new.owner ≡ old.owner)
 Gives at o outcome (Err e) walker old new = (e ≡ memory) ⊎ (outcome ≡ Err e)
 
--- an IS comes to a join, or to a fault; `twice`: the field was given something before
+-- an IS ends in a join, or in a fault; `twice`: the field was given something before
 abbrev pub MayJoin : ℕ → Name → KnownField → Bool → Name → Inside → State
     → Result (Unit {0}) ExpandFault → Type 0
 MayJoin line name field twice outer i s (Ok u) =
@@ -50,7 +50,7 @@ MayJoin line name field twice outer i s (Err e) =
 
 -- ---- values
 
--- a value may stand at the field, or comes to a fault
+-- the field may have a value, or the result is a fault
 abbrev pub MayStand : ℕ → Name → KnownField → Bool → Inside → Result (Unit {0}) ExpandFault → Type 0
 MayStand line name field twice i (Ok u) =
     (twice ≡ false)
@@ -63,7 +63,7 @@ MayStand line name field twice i (Err e) =
     → flat.is_node o ≡ is_type i.owner
     → doing (value_at line (numbered name field) twice items (inside_of at o i) rest) s ≡ Err e
 
--- a value of so many items may stand at the field, and is met; or it comes to a fault
+-- the field may have a value of that many items, which are counted; or the result is a fault
 abbrev pub MayHold : ℕ → Name → KnownField → Bool → ℕ → Inside → State
     → Result (Unit {0}) ExpandFault → Walker → Type 0
 MayHold line name field twice items i s (Ok u) walker =
@@ -76,6 +76,6 @@ MayHold line name field twice items i s (Err e) walker =
     → (e ≡ memory)
     ⊎ (doing (value_at line (numbered name field) twice items (inside_of at o i) rest) s ≡ Err e)
 
--- a value goes nowhere
+-- a value that no IS takes
 abbrev pub aside : ℕ → ℕ × Field → flat.Inside → Option ExpandFault → Does flat.Inside
 aside line f i wrong = left_by wrong >>= λ _. pure (fill line f i None)

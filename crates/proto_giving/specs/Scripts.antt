@@ -27,7 +27,7 @@ abbrev pub is_script : holder.Owner → Bool
 is_script (Node t) = sameb node_types.the_type t Script
 is_script (Instance interface) = false
 
--- as `declare_field` has it: a Script's declaration is one field more, and then goes on like that
+-- as in `declare_field`: a Script's declaration adds a field, and then `rest` follows
 abbrev pub declares : Declaration NodeText → (ℕ × Field → Bool → flat.Inside → Does flat.Inside)
     → flat.Inside → Does flat.Inside
 declares d rest i =
@@ -36,7 +36,7 @@ declares d rest i =
     (record i { fields = i.fields ++ field d ∷ [] })
     else refuse UnknownField d.line
 
--- the field was declared, and then it goes on like that; or that comes to a fault
+-- the field was declared, and `rest` follows; or the result is a fault
 abbrev pub MayDeclare : Declaration NodeText → Inside → Result Declared ExpandFault → Inside
     → Type 0
 MayDeclare d old (Ok made) new =

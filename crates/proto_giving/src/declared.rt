@@ -12,7 +12,7 @@ use proto_interface::KnownField;
 use x3d_lists::Text;
 use x3d_values::NodeType;
 
-/// A field that was declared: as it is known, and whether its name was known before.
+/// A field that was declared, and whether its name was known before.
 #[derive(Clone, Copy)]
 pub struct Declared {
     pub field: KnownField,
@@ -28,7 +28,7 @@ fn is_script(owner: Owner<'_, '_>) -> bool
     }
 }
 
-/// Whether the name is known, or was given nothing.
+/// Reports whether the name was known before, or was given nothing.
 fn is_free(inside: &Inside<'_, '_>, name: &Text, twice: bool) -> bool
     requires { braces.Sound inside.now }
     ensures { result ≡ true → twice ≡ false
@@ -40,8 +40,7 @@ fn is_free(inside: &Inside<'_, '_>, name: &Text, twice: bool) -> bool
     !inside.has(name)
 }
 
-/// The field stands behind the others. Where it isn't known, but was given something, memory is
-/// said to be refused.
+/// Adds the field after the others. Memory if its name isn't known but was given something.
 fn add<'t, 'a>(
     inside: &mut Inside<'t, 'a>,
     declaration: &'a Declaration<NodeText>,
@@ -58,8 +57,8 @@ fn add<'t, 'a>(
     Ok(Declared { field, twice })
 }
 
-/// A Script declares a field, behind those that it has: UnknownField where it is no Script. What
-/// the field is given, is given to it then.
+/// Adds a field that a Script declares, after the fields that it has; what the field is given
+/// follows later. UnknownField if the owner isn't a Script; Memory if memory runs out.
 pub fn declare<'t, 'a>(
     inside: &mut Inside<'t, 'a>,
     declaration: &'a Declaration<NodeText>,

@@ -1,4 +1,4 @@
-//! Fields that are given something that puts no nodes in.
+//! Fields whose value adds no nodes.
 
 ghost use Rattle.std.specs.Prelude.{◌≡◌, ℕ, false, List, IfOk, option_map};
 ghost use Rattle.std.specs.Option.{option_map_or};
@@ -27,7 +27,7 @@ use std::rc::Rc;
 use x3d_lists::Text;
 use x3d_values::Access;
 
-/// A field of a node is met with its number and items, one of an instance without.
+/// Counts a field: of a node with its number and items, of an instance as one item.
 pub fn meet_field(
     walker: &mut Walker<'_, '_>,
     owner: Owner<'_, '_>,
@@ -45,7 +45,7 @@ pub fn meet_field(
     }
 }
 
-/// The field is met, and given nothing.
+/// Counts the field, and records that it was given nothing.
 fn keep_nothing<'t, 'a>(
     walker: &mut Walker<'t, 'a>,
     inside: &mut Inside<'t, 'a>,
@@ -73,8 +73,8 @@ fn keep_nothing<'t, 'a>(
     Ok(())
 }
 
-/// The field is declared without a value: FieldTwice where `twice` says that it was given something
-/// before.
+/// Declares the field without a value. FieldTwice if `twice`: it was given something before.
+/// TooLarge if that passes a limit; Memory if memory runs out.
 pub fn put_nothing<'t, 'a>(
     walker: &mut Walker<'t, 'a>,
     inside: &mut Inside<'t, 'a>,
@@ -98,7 +98,7 @@ pub fn put_nothing<'t, 'a>(
     keep_nothing(walker, inside, line, name, field)
 }
 
-/// Whether an interface field of the first access may be joined to a field of the second.
+/// Reports whether an interface field of the first access may be joined to a field of the second.
 fn joins(outer: Access, inner: Access) -> bool
     ensures { result ≡ flat.joins outer inner }
 {
@@ -116,7 +116,7 @@ fn fits(outer: KnownField, inner: KnownField) -> bool
     outer.field_type == inner.field_type && joins(outer.access, inner.access)
 }
 
-/// The value once more.
+/// Returns another reference to the value.
 fn shared(value: Option<&Rc<RawValue<u32>>>) -> Result<Option<Rc<RawValue<u32>>>, AllocError>
     ensures { IfOk result (λ v. option_map (λ r. r.value) v
         ≡ option_map (λ r. r.now.value) value.entry) }
@@ -136,7 +136,7 @@ fn items_of(value: &Option<Rc<RawValue<u32>>>) -> usize
     }
 }
 
-/// The field is joined to that of the interface, and holds what it is given.
+/// Joins the field to that of the interface, and records the value that it hands on.
 fn join<'t, 'a>(
     walker: &mut Walker<'t, 'a>,
     inside: &mut Inside<'t, 'a>,
@@ -168,8 +168,8 @@ fn join<'t, 'a>(
     Ok(())
 }
 
-/// Whether the field may be joined to the interface field of that name: BadIs where there is none,
-/// or where they don't fit, and then FieldTwice where it was given something before.
+/// Checks that the field may be joined to the interface field of that name: BadIs if there is none
+/// or if they don't fit; else FieldTwice if `twice`.
 fn check_is(
     walker: &Walker<'_, '_>,
     inside: &Inside<'_, '_>,
@@ -194,7 +194,9 @@ fn check_is(
     Ok(())
 }
 
-/// IS: the field is an end of the interface field, and has what that is given.
+/// IS: joins the field to the interface field `outer`, and gives it the value of that field. BadIs
+/// if there is no such field or if the two don't fit; FieldTwice if `twice`; TooLarge if that
+/// passes a limit; Memory if memory runs out.
 pub fn put_is<'t, 'a>(
     walker: &mut Walker<'t, 'a>,
     inside: &mut Inside<'t, 'a>,

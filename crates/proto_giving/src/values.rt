@@ -23,7 +23,8 @@ use std::alloc::{AllocError, Global};
 use std::rc::Rc;
 use x3d_lists::Text;
 
-/// A node may be given a value at each field, an instance at those that hold one.
+/// Reports whether the field may be given a value: any field of a node, and a field of an instance
+/// that holds one.
 fn admits(owner: Owner<'_, '_>, field: KnownField) -> bool
     ensures { result ≡ (is_type owner.entry || is_initial field.access) }
 {
@@ -33,8 +34,7 @@ fn admits(owner: Owner<'_, '_>, field: KnownField) -> bool
     }
 }
 
-/// Whether a value may stand at the field: UnknownField where it holds none, FieldTwice where it
-/// was given something before.
+/// Checks that the field may have a value: UnknownField if it can hold none, FieldTwice if `twice`.
 fn check_value(
     inside: &Inside<'_, '_>,
     line: u32,
@@ -53,7 +53,8 @@ fn check_value(
     Ok(())
 }
 
-/// A value of so many items is met, if it may stand at the field.
+/// Counts a value of that many items, if the field may have one. UnknownField or FieldTwice if it
+/// may not, TooLarge if that passes a limit.
 pub fn meet_value(
     walker: &mut Walker<'_, '_>,
     inside: &Inside<'_, '_>,
@@ -71,7 +72,7 @@ pub fn meet_value(
     meet_field(walker, inside.owner, field.number, items)
 }
 
-/// The field has the value.
+/// Gives the field the value. AllocError if memory runs out.
 pub fn keep_value<'t, 'a>(
     alloc: Global,
     inside: &mut Inside<'t, 'a>,
@@ -100,7 +101,7 @@ pub fn keep_value<'t, 'a>(
     Ok(())
 }
 
-/// The field is given something that goes nowhere.
+/// Records that the field was given a value that no IS takes. AllocError if memory runs out.
 pub fn keep_none<'t, 'a>(
     inside: &mut Inside<'t, 'a>,
     line: u32,
@@ -126,7 +127,9 @@ pub fn keep_none<'t, 'a>(
     Ok(())
 }
 
-/// A value that goes nowhere, and the first wrong declaration in it.
+/// Counts a value that no IS takes, and records it. UnknownField or FieldTwice if the field may not
+/// have one; else `wrong`, the first wrong declaration in it; TooLarge if that passes a limit;
+/// Memory if memory runs out.
 pub fn put_aside<'t, 'a>(
     walker: &mut Walker<'t, 'a>,
     inside: &mut Inside<'t, 'a>,

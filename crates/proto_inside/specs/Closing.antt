@@ -6,7 +6,7 @@ use Rattle.proto_meaning.specs.Names.{Filled}
 use Rattle.proto_given.specs.declared.given.GivenField.{GivenField}
 use Rattle.proto_given.specs.Held.{held}
 
--- as `flat_node` has it
+-- as in `flat_node`
 abbrev pub flat_fields : List Filled → List FlatField
 flat_fields filled =
     filter_map (λ (f : Filled).

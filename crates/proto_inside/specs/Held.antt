@@ -1,4 +1,4 @@
--- What stands between braces, as proto_meaning has it.
+-- The state between braces, in the terms of proto_meaning.
 use Rattle.std.specs.Prelude.{List, ◌++◌, length, map}
 use Rattle.std.specs.Borrow.{Bor}
 use Rattle.classic_tree.specs.declared.tree.Declaration.{Declaration}
@@ -19,14 +19,14 @@ fields_of_owner (Instance interface) = interface.now
 abbrev pub declared_fields : List (Bor (Declaration NodeText)) → List Field
 declared_fields ds = map (λ d. field d.now) ds
 
--- those of the type or the interface, and those that were declared
+-- the fields of the type or the interface, and then those that were declared
 abbrev pub fields_in : Inside → List Field
 fields_in i = fields_of_owner i.owner ++ declared_fields i.declared.items
 
 abbrev pub filled_in : Inside → List Filled
 filled_in i = given.shown i.given
 
--- the tables are those of the declared fields, and of what is given
+-- the tables hold the declared fields, and what is given
 pub record Sound (i : Inside) : Type 0 where
   pub named : AreFieldsNamed i.named (length (fields_of_owner i.owner))
       (declared_fields i.declared.items)

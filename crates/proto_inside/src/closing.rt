@@ -14,7 +14,7 @@ use proto_given::{Given, GivenField};
 use std::alloc::{AllocError, Global};
 use x3d_lists::{Duplicate, Items};
 
-/// A field more, if it has a value.
+/// Adds a field, if it has a value.
 fn add_field(
     alloc: Global,
     fields: Items<FlatField>,
@@ -43,7 +43,8 @@ fn add_field(
     Ok(fields)
 }
 
-/// The fields that have a value.
+/// Returns the fields that have a value. AllocError if memory runs out, or if a field's number
+/// doesn't fit into 16 bits.
 pub fn flat_fields(alloc: Global, values: Given<'_>) -> Result<Items<FlatField>, AllocError>
     ensures { IfOk result (λ fs. fs ≡ flat_fields (given.shown values.entry)) }
 {
@@ -74,7 +75,7 @@ fn without_value(
     })
 }
 
-/// The declarations of a Script, without values.
+/// Returns the declarations of a Script, without values. AllocError if memory runs out.
 pub fn declarations(
     alloc: Global,
     declared: &[&Declaration<NodeText>],

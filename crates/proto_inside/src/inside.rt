@@ -21,17 +21,17 @@ pub enum Owner<'t, 'a> {
     Instance(&'t Interface<'a>),
 }
 
-/// What stands between braces so far.
+/// The state between braces.
 #[derive(Drop)]
 pub struct Inside<'t, 'a> {
     pub owner: Owner<'t, 'a>,
-    /// The fields that a Script declared so far, behind those of its type.
+    /// The fields that a Script declared so far, after those of its type.
     pub declared: Vec<&'a Declaration<NodeText>>,
     pub named: Fields<'a>,
     pub given: Given<'a>,
 }
 
-/// The field of that name of a node type.
+/// Returns the field of that name of a node type.
 fn type_field(node_type: NodeType, name: &Text) -> Option<KnownField>
     ensures { option_map (numbered name.now) result
         ≡ numbered_from 0 name.now (meaning.fields_of node_type) }
@@ -47,7 +47,7 @@ fn type_field(node_type: NodeType, name: &Text) -> Option<KnownField>
     })
 }
 
-/// The field of that name of an owner.
+/// Returns the field of that name of an owner.
 fn owner_field(owner: Owner<'_, '_>, name: &Text) -> Option<KnownField>
     ensures { option_map (numbered name.now) result
         ≡ numbered_from 0 name.now (fields_of_owner owner.entry) }
@@ -58,7 +58,7 @@ fn owner_field(owner: Owner<'_, '_>, name: &Text) -> Option<KnownField>
     }
 }
 
-/// How many fields an owner has.
+/// Returns the number of fields of an owner.
 fn owner_count(owner: Owner<'_, '_>) -> usize
     ensures { result ≡ length (fields_of_owner owner.entry) }
 {
@@ -69,7 +69,7 @@ fn owner_count(owner: Owner<'_, '_>) -> usize
 }
 
 impl<'t, 'a> Inside<'t, 'a> {
-    /// Nothing is given yet.
+    /// Returns the state of braces that just opened: nothing is given.
     pub fn new(alloc: Global, owner: Owner<'t, 'a>) -> Inside<'t, 'a>
         ensures fields { fields_in result ≡ fields_of_owner owner.entry }
         ensures filled { filled_in result ≡ [] }
@@ -84,7 +84,7 @@ impl<'t, 'a> Inside<'t, 'a> {
         }
     }
 
-    /// The field of that name, with its number.
+    /// Returns the first field of that name, with its number.
     pub fn field(&self, name: &Text) -> Option<KnownField>
         requires { Sound self.now }
         ensures { option_map (numbered name.now) result
@@ -96,7 +96,7 @@ impl<'t, 'a> Inside<'t, 'a> {
         }
     }
 
-    /// Whether the field of that name was given something.
+    /// Reports whether the field of that name was given something.
     pub fn has(&self, name: &Text) -> bool
         requires { Sound self.now }
         ensures { result ≡ given.has_name name.now (filled_in self.now) }
@@ -104,7 +104,8 @@ impl<'t, 'a> Inside<'t, 'a> {
         self.given.has(name)
     }
 
-    /// A Script declares a field, behind those that it has. Gives it with its number.
+    /// Adds a field that a Script declares, after the fields that it has, and returns it with its
+    /// number. AllocError if memory runs out, or if the number doesn't fit.
     pub fn declare(
         &mut self,
         declaration: &'a Declaration<NodeText>,
@@ -130,7 +131,8 @@ impl<'t, 'a> Inside<'t, 'a> {
         })
     }
 
-    /// The field of that name, which was given nothing before, is given that.
+    /// Records what the field of that name is given, which was given nothing before. AllocError if
+    /// memory runs out.
     pub fn fill(&mut self, name: &'a Text, field: GivenField) -> Result<(), AllocError>
         requires sound { Sound self.old }
         requires free { given.has_name name.now (filled_in self.old) ≡ false }

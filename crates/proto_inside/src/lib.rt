@@ -1,5 +1,5 @@
-//! What stands between braces: the fields that are known there, and what they are given
-//! (ISO/IEC 19775-1, 4.4.4, prototypes; a Script declares fields of its own).
+//! The state between braces: the fields that are known there, and what they are given (ISO/IEC
+//! 19775-1, 4.4.4, prototypes; a Script declares fields of its own).
 #![tactic(auto)]
 
 mod closing;

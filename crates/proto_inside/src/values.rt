@@ -1,4 +1,4 @@
-//! Values: how many items they have, and copies of them.
+//! Values: the number of their items, and copies of them.
 
 ghost use Rattle.std.specs.Prelude.{◌≡◌, IfOk};
 ghost use Rattle.proto_meaning.specs.Limits.{item_count};
@@ -9,7 +9,8 @@ use std::alloc::{AllocError, Global};
 use std::rc::Rc;
 use x3d_lists::{Duplicate, Items};
 
-/// How many items the value has: a list as many as its length, any other value one.
+/// Returns the number of items of a value: the length of a list or of a run of numbers; 1 for any
+/// other value.
 pub fn item_count<N>(value: &RawValue<N>) -> usize
     ensures { result ≡ item_count value.now }
 {
@@ -27,7 +28,8 @@ pub fn item_count<N>(value: &RawValue<N>) -> usize
     }
 }
 
-/// A value without nodes, as it is. Nodes are left out.
+/// Returns a copy of a value without nodes. A value that holds nodes becomes an empty list.
+/// AllocError if memory runs out.
 pub fn plain(alloc: Global, value: &RawValue<NodeText>) -> Result<RawValue<u32>, AllocError>
     ensures { IfOk result (λ copy. copy ≡ plain value.now) }
 {
@@ -83,7 +85,7 @@ fn copied(alloc: Global, value: &RawValue<u32>) -> Result<RawValue<u32>, AllocEr
     }
 }
 
-/// The value, or a copy where another field has it too.
+/// Returns the value itself, or a copy if another field shares it. AllocError if memory runs out.
 pub fn owned(alloc: Global, value: Rc<RawValue<u32>>) -> Result<RawValue<u32>, AllocError>
     ensures { IfOk result (λ own. own ≡ value.value) }
 {

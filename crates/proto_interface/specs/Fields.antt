@@ -1,4 +1,4 @@
--- Fields by their names, as the definition has them.
+-- Fields by their names, in the terms of the definition.
 use Rattle.std.specs.Prelude.{◌≡◌, ℕ, ◌&&◌, Bool, if◌then◌else◌, List, [], ◌∷◌, Option, Some, None, option_map}
 use Rattle.std.specs.List.{find, list_any}
 use Rattle.std.specs.Option.{option_or}
@@ -15,7 +15,7 @@ use Rattle.proto_interface.specs.declared.fields.Fields.{Fields}
 use Rattle.proto_interface.specs.declared.fields.KnownField.{KnownField}
 use Rattle.proto_interface.specs.declared.interface.Tables.{Tables}
 
--- a field of that name, and with its number
+-- a field of that name; and that field with its number
 abbrev pub field_named : Name → KnownField → Field
 field_named name k = field_with k.line k.access k.field_type name
 
@@ -37,12 +37,12 @@ no_fields name = None
 abbrev pub with_entry : Name → KnownField → (Name → Option KnownField) → Name → Option KnownField
 with_entry given field fields name = if bytes_eq given name then Some field else fields name
 
--- one field more, behind those of the same name
+-- one more field, after those of the same name
 abbrev pub added : KnownField → Name → (Name → Option KnownField) → Name → Option KnownField
 added field given fields name =
     option_or (fields name) (if bytes_eq given name then Some field else None)
 
--- the table has the first of these fields of each name, where the first has that number
+-- the table has the first of these fields of each name; they are numbered from `first`
 abbrev pub AreFieldsNamed : Fields → ℕ → List Field → Type 0
 AreFieldsNamed table first fs =
     (name : Name) → option_map (numbered name) (fields_of table name) ≡ numbered_from first name fs
@@ -53,18 +53,18 @@ IsExposed table fs =
     (name : Name) → option_map (field_named name) (fields_of table name)
     ≡ find (λ (f : Field). is_exposed f.access && bytes_eq f.name name) fs
 
--- ---- names that stand twice
+-- ---- names that occur twice
 
 abbrev pub has_name : Name → List Field → Bool
 has_name name fs = list_any (λ (f : Field). bytes_eq f.name name) fs
 
--- the line of the first field whose name is one of these, or stands before it
+-- the line of the first field whose name is in `seen` or occurs earlier in the list
 abbrev pub twice_after : Names → List Field → Option ℕ
 twice_after seen [] = None
 twice_after seen (f ∷ fs) =
     if seen f.name then Some f.line else twice_after (with_name f.name seen) fs
 
--- the tables are those of these fields
+-- the tables hold these fields
 pub record HasFields (tables : Tables) (fs : List Field) : Type 0 where
   pub named : AreFieldsNamed tables.named 0 fs
   pub exposed : IsExposed tables.exposed fs

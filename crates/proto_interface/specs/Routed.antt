@@ -1,4 +1,4 @@
--- A field that a ROUTE names, as the definition has it.
+-- A field that a ROUTE names, in the terms of the definition.
 use Rattle.proto_meaning.specs.Names.{Field}
 use Rattle.proto_interface.specs.declared.named.RouteField.{RouteField}
 use Rattle.proto_interface.specs.Fields.{field_named}

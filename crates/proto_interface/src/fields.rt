@@ -1,4 +1,4 @@
-//! Fields in a table of their names.
+//! Fields in a table by name.
 
 ghost use Rattle.std.specs.Prelude.{◌≡◌, ℕ, ◌+◌, ◌++◌, ◌∷◌, [], List, length, not, is_none, IfOk};
 ghost use Rattle.proto_meaning.specs.Names.{Field};
@@ -17,7 +17,7 @@ use x3d_values::{Access, FieldType};
 pub struct KnownField {
     /// The line of its declaration, 0 for a field of a node type.
     pub line: u32,
-    /// Its number among the fields that it stands with.
+    /// Its number among the fields of its node or interface.
     pub number: usize,
     pub access: Access,
     pub field_type: FieldType,
@@ -30,6 +30,7 @@ pub struct Fields<'a> {
 }
 
 impl<'a> Fields<'a> {
+    /// Returns an empty table.
     pub fn new(alloc: Global) -> Fields<'a>
         ensures { fields_of result ≡ no_fields }
     {
@@ -38,7 +39,7 @@ impl<'a> Fields<'a> {
         }
     }
 
-    /// The first field of that name.
+    /// Returns the first field of that name.
     #[tactic(auto, unfolding(crate::specs::Fields::fields_of))]
     pub fn get(&self, name: &str) -> Option<KnownField>
         ensures { result ≡ fields_of self.now name.now }
@@ -46,7 +47,7 @@ impl<'a> Fields<'a> {
         self.table.get(name).copied()
     }
 
-    /// The field has the name, and no longer the one that had it: it is answered.
+    /// Stores the field under the name, and returns the field that it replaces.
     #[tactic(auto, unfolding(crate::specs::Fields::fields_of))]
     fn insert(
         &mut self,
@@ -61,8 +62,8 @@ impl<'a> Fields<'a> {
         Ok(before)
     }
 
-    /// A field of that name stands behind the others. Says whether none of them has it. Most names
-    /// are new: they are looked up once.
+    /// Adds a field of that name after the others. Returns whether none of them has the name. Most
+    /// names are new, so the first of a name is put back afterwards: a new name needs one look-up.
     fn add(&mut self, name: &'a Text, field: KnownField) -> Result<bool, AllocError>
         ensures fields { IfOk result (λ _. fields_of self.new
             ≡ added field name.now (fields_of self.old)) }
@@ -87,8 +88,8 @@ fn known(declaration: &Declaration<NodeText>, number: usize) -> KnownField
     }
 }
 
-/// The declaration stands behind other fields, the first of which has the number `first`. Says
-/// whether none of them has its name.
+/// Adds a declaration, with its number, after the fields of the table. Returns whether none of them
+/// has its name. AllocError if memory runs out.
 pub fn add_named<'a>(
     named: &mut Fields<'a>,
     declaration: &'a Declaration<NodeText>,
@@ -104,7 +105,7 @@ pub fn add_named<'a>(
     Ok(new)
 }
 
-/// An inputOutput field stands behind the others; another one doesn't.
+/// Adds an inputOutput field after the others; ignores other fields.
 pub fn add_exposed<'a>(
     exposed: &mut Fields<'a>,
     declaration: &'a Declaration<NodeText>,

@@ -12,12 +12,12 @@ use classic_tree::{Declaration, NodeText};
 use std::alloc::{AllocError, Global};
 use std::marker::Model;
 
-/// What is known of an interface by its names.
+/// What is known of an interface by its fields' names.
 #[derive(Drop)]
 pub struct Tables<'a> {
     pub named: Fields<'a>,
     pub exposed: Fields<'a>,
-    /// The line of the first name that stood before.
+    /// The line of the first field whose name occurs earlier.
     pub twice: Option<u32>,
 }
 
@@ -41,7 +41,7 @@ impl<'a> Model for Interface<'a> {
     ghost invariant = { λ s. HasFields s.tables (map field s.declarations.now) };
 }
 
-/// The line that was found before, or the line of a name that isn't new.
+/// Returns the line that was found before, or else the line of a name that isn't new.
 fn first_line(before: Option<u32>, new: bool, line: u32) -> Option<u32>
     ensures { result ≡ option_or before (if new then None else Some line) }
 {
@@ -96,7 +96,7 @@ fn read<'a>(
 }
 
 impl<'a> Interface<'a> {
-    /// The interface of these declarations.
+    /// Returns the interface of these declarations. AllocError if memory runs out.
     pub fn read(
         alloc: Global,
         declarations: &'a [Declaration<NodeText>],
@@ -110,35 +110,35 @@ impl<'a> Interface<'a> {
         })
     }
 
-    /// How many fields it has.
+    /// Returns the number of fields.
     pub fn len(&self) -> usize
         ensures { result ≡ length self.now }
     {
         self.declarations.len()
     }
 
-    /// The first field of that name, with its number.
+    /// Returns the first field of that name; its number counts.
     pub fn field(&self, name: &str) -> Option<KnownField>
         ensures { option_map (numbered name.now) result ≡ numbered_from 0 name.now self.now }
     {
         self.tables.named.get(name)
     }
 
-    /// The first field of that name, without its number.
+    /// Returns the first field of that name; its number doesn't count.
     pub fn known(&self, name: &str) -> Option<KnownField>
         ensures { option_map (field_named name.now) result ≡ own_field self.now name.now }
     {
         self.field(name)
     }
 
-    /// The first inputOutput field of that name.
+    /// Returns the first inputOutput field of that name.
     pub fn exposed(&self, name: &str) -> Option<KnownField>
         ensures { option_map (field_named name.now) result ≡ exposed_field self.now name.now }
     {
         self.tables.exposed.get(name)
     }
 
-    /// The line of the first field whose name stands before it.
+    /// Returns the line of the first field whose name occurs earlier, or None.
     pub fn twice(&self) -> Option<u32>
         ensures { result ≡ twice_after no_names self.now }
     {

@@ -17,7 +17,7 @@ pub struct RouteField<'n> {
     pub field: KnownField,
 }
 
-/// The inputOutput field of the name before `_changed`.
+/// Returns the inputOutput field whose name comes before `_changed`.
 fn changed_field<'n>(interface: &Interface<'_>, name: &'n str) -> Option<RouteField<'n>>
     ensures { option_map routed result
         ≡ changed_alias (exposed_field interface.now) name.now }
@@ -31,7 +31,7 @@ fn changed_field<'n>(interface: &Interface<'_>, name: &'n str) -> Option<RouteFi
     Some(RouteField { name: own, field })
 }
 
-/// The inputOutput field of the name behind `set_`.
+/// Returns the inputOutput field whose name comes after `set_`.
 fn set_field<'n>(interface: &Interface<'_>, name: &'n str) -> Option<RouteField<'n>>
     ensures { option_map routed result ≡ set_alias (exposed_field interface.now) name.now }
 {
@@ -44,7 +44,7 @@ fn set_field<'n>(interface: &Interface<'_>, name: &'n str) -> Option<RouteField<
     Some(RouteField { name: own, field })
 }
 
-/// The field of that very name.
+/// Returns the field of exactly that name.
 fn own_field<'n>(interface: &Interface<'_>, name: &'n str) -> Option<RouteField<'n>>
     ensures { option_map routed result ≡ meaning.own_field interface.now name.now }
 {
@@ -54,7 +54,8 @@ fn own_field<'n>(interface: &Interface<'_>, name: &'n str) -> Option<RouteField<
     Some(RouteField { name, field })
 }
 
-/// The field that a source names: by its own name or, of an inputOutput field `f`, as `f_changed`.
+/// Returns the field that a source names: by its own name or, for an inputOutput field `f`, as
+/// `f_changed`.
 pub fn source_field<'n>(interface: &Interface<'_>, name: &'n Text) -> Option<RouteField<'n>>
     ensures { option_map routed result ≡ source_in interface.now name.now }
 {
@@ -64,7 +65,8 @@ pub fn source_field<'n>(interface: &Interface<'_>, name: &'n Text) -> Option<Rou
     }
 }
 
-/// The field that a target names: by its own name or, of an inputOutput field `f`, as `set_f`.
+/// Returns the field that a target names: by its own name or, for an inputOutput field `f`, as
+/// `set_f`.
 pub fn target_field<'n>(interface: &Interface<'_>, name: &'n Text) -> Option<RouteField<'n>>
     ensures { option_map routed result ≡ target_in interface.now name.now }
 {

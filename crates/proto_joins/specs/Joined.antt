@@ -1,4 +1,4 @@
--- The ends of the fields of an interface, as the definition sees them.
+-- The ends of the fields of an interface, in the terms of the definition.
 use Rattle.std.specs.Prelude.{if◌then◌else◌, List, [], ◌++◌, map, Option, option_map}
 use Rattle.std.specs.Borrow.{Bor}
 use Rattle.std.specs.Str.{bytes_eq}
@@ -28,6 +28,6 @@ ends_in joined name = owned (get_by (λ k. slice_cmp nat_cmp name k.now) joined.
 abbrev pub with_ends : Name → List FlatEnd → (Name → List FlatEnd) → Name → List FlatEnd
 with_ends given ends before name = if bytes_eq given name then ends else before name
 
--- more ends of one name
+-- one name has more ends
 abbrev pub with_more : Name → List FlatEnd → (Name → List FlatEnd) → Name → List FlatEnd
 with_more given more ends name = ends name ++ (if bytes_eq given name then more else [])

@@ -1,4 +1,4 @@
--- Braces of a scope, and what ISs join, as the definition sees them.
+-- Braces of a scope and what ISs join, in the terms of the definition.
 use Rattle.std.specs.Prelude.{ℕ, if◌then◌else◌, List, [], ◌∷◌, Option, None, Some, option_map}
 use Rattle.std.specs.List.{flat_map}
 use Rattle.std.specs.Option.{option_map_or}
@@ -33,13 +33,13 @@ abbrev pub braces_of : Braces → meaning.Braces
 braces_of braces =
     record { name = braces.name.now; stands = option_map stands_of braces.stands }
 
--- the ends that an IS joins, by what all braces come to stand for
+-- the ends that an IS joins, by what all braces stand for
 abbrev pub ends_behind : List meaning.Braces → Join → List FlatEnd
 ends_behind all join =
     option_map_or (λ (what : meaning.Stands). what.ends join.field.now)
     (stands_at all (Some join.at)) []
 
--- the ends of each interface field: what the definition's scope has, IS by IS
+-- the ends of each interface field, IS by IS, as in the definition's scope
 abbrev pub joins_ends : List Join → List meaning.Braces → Name → List FlatEnd
 joins_ends joins all name =
     flat_map (λ (j : Join). if bytes_eq j.outer.now name then ends_behind all j else []) joins

@@ -4,7 +4,7 @@ use Rattle.std.specs.Str.{bytes_eq}
 use Rattle.proto_joins.specs.declared.joins.Join.{Join}
 use Rattle.proto_joins.specs.Joins.{ends_behind, joins_ends}
 
--- what proto_meaning's `join` makes of the ends of a scope is an IS more
+-- proto_meaning's `join` adds one IS to the ends of a scope
 abbrev pub JoinsGrow : Type 0
 JoinsGrow =
     (joins : List Join) (j : Join)

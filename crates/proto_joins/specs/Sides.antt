@@ -1,4 +1,4 @@
--- ROUTEs of a scope, as the definition sees them.
+-- ROUTEs of a scope, in the terms of the definition.
 use Rattle.std.specs.Prelude.{List, [], Option, None, Some}
 use Rattle.std.specs.List.{flat_map}
 use Rattle.std.specs.declared.rc.Rc.{Rc}
@@ -11,7 +11,7 @@ use Rattle.proto_joins.specs.declared.sides.Pending.{Pending}
 use Rattle.proto_joins.specs.declared.sides.RoutePart.{RoutePart}
 use Rattle.proto_joins.specs.declared.sides.RoutePart.TheVariants as part
 
--- what proto_meaning's `note_route` adds, by what all braces come to stand for
+-- what proto_meaning's `note_route` adds, by what all braces stand for
 abbrev pub pending_routes : Pending → List meaning.Braces → List FlatRoute
 pending_routes p all =
     pairs p.line (source_ends p.source.field.now (stands_at all p.source.at))

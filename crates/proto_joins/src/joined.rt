@@ -9,14 +9,14 @@ use std::collections::BTreeMap;
 use std::rc::Rc;
 use x3d_lists::Text;
 
-/// The ends of each field of an interface that has any, by its name.
+/// The ends of each field of an interface that has ends, by the field's name.
 #[derive(Drop)]
 pub struct JoinedEnds<'a> {
     pub ends: BTreeMap<&'a str, Rc<Ends<'a>>>,
 }
 
 impl<'a> JoinedEnds<'a> {
-    /// Nothing is joined.
+    /// Returns a table in which nothing is joined.
     #[tactic(auto, unfolding(crate::specs::Joined::ends_in))]
     pub fn new(alloc: Global) -> JoinedEnds<'a>
         ensures { ends_in result ≡ (λ name. []) }
@@ -26,7 +26,7 @@ impl<'a> JoinedEnds<'a> {
         }
     }
 
-    /// The ends of the field of that name; none where nothing is joined to it.
+    /// Returns the ends of the field of that name, or None if nothing is joined to it.
     #[tactic(auto, unfolding(crate::specs::Joined::ends_in))]
     pub fn get(&self, name: &str) -> Option<&Rc<Ends<'a>>>
         ensures { borrowed result ≡ ends_in self.now name.now }
@@ -47,7 +47,7 @@ impl<'a> JoinedEnds<'a> {
         Ok(())
     }
 
-    /// The ends of the field, and then more.
+    /// Returns the ends of the field, and then `more`.
     fn grown(
         &self,
         alloc: Global,
@@ -65,7 +65,8 @@ impl<'a> JoinedEnds<'a> {
         kept.both(alloc, first, more)
     }
 
-    /// More ends are joined to the field of that name, behind those before, or none.
+    /// Joins more ends, if there are any, to the field of that name, after its earlier ones.
+    /// AllocError if memory runs out.
     pub fn join(
         &mut self,
         alloc: Global,

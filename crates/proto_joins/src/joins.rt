@@ -1,4 +1,4 @@
-//! The ISs of a body, by what its braces come to stand for.
+//! The ISs of a body, by what its braces stand for.
 
 ghost use Rattle.std.specs.Prelude.{◌≡◌, map, IfOk};
 ghost use Rattle.proto_joins.specs.Joined.{ends_in, owned};
@@ -18,22 +18,22 @@ pub struct InstanceEnds<'t, 'a> {
     pub joined: JoinedEnds<'a>,
 }
 
-/// What a node or an instance stands for: the number of a node, and of an instance its ends.
+/// What a node or an instance stands for: the number of a node, and for an instance its ends.
 #[derive(Drop)]
 pub struct Stands<'t, 'a> {
     pub node: u32,
     pub instance: Option<Rc<InstanceEnds<'t, 'a>>>,
 }
 
-/// Braces of a scope: the name that DEF gives them, and once they close what they stand for.
+/// Braces of a scope: the name that DEF gives them, and what they stand for once they close.
 #[derive(Drop)]
 pub struct Braces<'t, 'a> {
     pub name: &'a Option<Text>,
     pub stands: Option<Stands<'t, 'a>>,
 }
 
-/// An IS: the field of the interface, and the field that it joins to it, of the braces that
-/// opened behind `at` others of the scope.
+/// An IS: the field of the interface, and the field that the IS joins to it. The second is a field
+/// of the braces before which `at` others of the scope were opened.
 #[derive(Clone, Copy)]
 pub struct Join<'a> {
     pub outer: &'a Text,
@@ -41,7 +41,7 @@ pub struct Join<'a> {
     pub field: &'a Text,
 }
 
-/// The ends of a field; none where nothing is joined to it.
+/// Returns the ends of a field, or None if nothing is joined to it. AllocError if memory runs out.
 pub fn field_ends<'t, 'a>(
     alloc: Global,
     stands: &Stands<'t, 'a>,
@@ -59,7 +59,7 @@ pub fn field_ends<'t, 'a>(
     Ok(Some(ends.clone()?))
 }
 
-/// The ends that an IS joins, by what the braces of the scope stand for.
+/// Returns the ends that an IS joins, by what the braces of the scope stand for.
 fn join_ends<'t, 'a>(
     alloc: Global,
     braces: &[Braces<'t, 'a>],
@@ -77,7 +77,8 @@ fn join_ends<'t, 'a>(
     field_ends(alloc, stands, join.field)
 }
 
-/// The ends of the fields of an interface, once all braces of the body are closed.
+/// Returns the ends of the fields of an interface; all braces of the body are closed. AllocError if
+/// memory runs out.
 pub fn joined_ends<'t, 'a>(
     alloc: Global,
     kept: &mut Branches<'a>,

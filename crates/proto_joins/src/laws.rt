@@ -2,7 +2,7 @@
 
 ghost use Rattle.proto_joins.specs.Laws.{JoinsGrow};
 
-/// An IS behind others adds its ends to those of the field that it names, and to no other.
+/// One more IS adds its ends to those of the field that it names, and to no other.
 pub fn joins_grow()
     ensures { JoinsGrow }
 {}

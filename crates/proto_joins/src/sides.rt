@@ -18,8 +18,8 @@ use std::alloc::{AllocError, Global};
 use std::rc::Rc;
 use x3d_lists::Text;
 
-/// An end of a ROUTE as it is written: the braces that it names, by how many of the scope opened
-/// before them, and the name of the field.
+/// An end of a ROUTE as written: the braces that it names, by the number of braces of the scope
+/// opened before them, and the name of the field.
 #[derive(Clone, Copy)]
 pub struct Side<'a> {
     pub at: Option<usize>,
@@ -48,7 +48,7 @@ fn alone<'a>(alloc: Global, only: End<'a>) -> Result<Option<Rc<Ends<'a>>>, Alloc
     Ok(Some(made))
 }
 
-/// The ends that are joined to an interface field of that name.
+/// Returns the ends that are joined to the interface field of that name.
 fn inner_ends<'t, 'a>(
     instance: &InstanceEnds<'t, 'a>,
     name: &str,
@@ -61,7 +61,7 @@ fn inner_ends<'t, 'a>(
     Ok(Some(ends.clone()?))
 }
 
-/// The ends of an instance that a source names.
+/// Returns the ends that a source names in an instance.
 fn sources_in<'t, 'a>(
     alloc: Global,
     instance: &InstanceEnds<'t, 'a>,
@@ -80,7 +80,7 @@ fn sources_in<'t, 'a>(
     alone(alloc, End::WrongWay)
 }
 
-/// The ends of an instance that a target names.
+/// Returns the ends that a target names in an instance.
 fn targets_in<'t, 'a>(
     alloc: Global,
     instance: &InstanceEnds<'t, 'a>,
@@ -99,7 +99,7 @@ fn targets_in<'t, 'a>(
     alone(alloc, End::WrongWay)
 }
 
-/// What the braces stand for, once they are closed.
+/// Returns what the braces stand for, or None if they are open or absent.
 fn standing<'b, 't, 'a>(
     braces: &'b [Braces<'t, 'a>],
     at: Option<usize>,
@@ -118,7 +118,7 @@ fn standing<'b, 't, 'a>(
     Some(stands)
 }
 
-/// The ends that a source names.
+/// Returns the ends that a source names.
 fn sources<'t, 'a>(
     alloc: Global,
     stands: Option<&Stands<'t, 'a>>,
@@ -136,7 +136,7 @@ fn sources<'t, 'a>(
     sources_in(alloc, instance, name)
 }
 
-/// The ends that a target names.
+/// Returns the ends that a target names.
 fn targets<'t, 'a>(
     alloc: Global,
     stands: Option<&Stands<'t, 'a>>,
@@ -154,7 +154,7 @@ fn targets<'t, 'a>(
     targets_in(alloc, instance, name)
 }
 
-/// The ends of a ROUTE, once all braces of the scope are closed.
+/// Returns a ROUTE with its ends; all braces of the scope are closed.
 fn wire<'t, 'a>(
     alloc: Global,
     braces: &[Braces<'t, 'a>],
@@ -197,7 +197,7 @@ fn wires_of<'t, 'a>(
     }
 }
 
-/// Those ROUTEs and then these.
+/// Returns the ROUTEs `before` and then `next`.
 fn behind<'a>(
     alloc: Global,
     kept: &mut Branches<'a>,
@@ -213,8 +213,8 @@ fn behind<'a>(
     kept.both_wires(alloc, before, next)
 }
 
-/// The ROUTEs of a scope and of the instances in it, in the order in which they stand, once all
-/// braces of the scope are closed. None where there are none.
+/// Returns the ROUTEs of a scope and of the instances in it, in the order of the text, or None if
+/// there are none. All braces of the scope are closed. AllocError if memory runs out.
 pub fn routes_made<'t, 'a>(
     alloc: Global,
     kept: &mut Branches<'a>,

@@ -6,12 +6,13 @@ use Rattle.proto_meaning.specs.Sight.{and_see}
 use Rattle.proto_meaning.specs.Flat.{Does, ◌>>=◌}
 use Rattle.proto_limits.specs.Settled.{State, full, settle, doing}
 
--- where limits are met on the way, and routes behind all, a document comes to the same
+-- the limits may be checked as things are counted, and the number of routes at the end: the result
+-- is the same
 abbrev pub LimitsAreSettled : Type 0
 LimitsAreSettled =
     (o : Outcome Flat) → limited o ≡ and_see (settle o full) (λ p. with_few_routes (Ok p.0))
 
--- one part and then the other, by what the first gives and leaves
+-- one part after the other: the second uses what the first returns and the room that it leaves
 abbrev pub PartsSettleInTurn : Type 0 → Type 0 → Type 0
 PartsSettleInTurn A B =
     (m : Does A) (f : A → Does B) (s : State)

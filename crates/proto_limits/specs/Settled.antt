@@ -1,6 +1,6 @@
--- The limits where they are passed: how much more may be met, and what a part of a text comes to in
--- so much room. Nothing of this is part of the definition of a flat document; limits_are_settled
--- says that the answers are the same.
+-- Limits that are checked as things are counted: how much more may be counted, and what a part of a
+-- text gives in that room. Nothing here is part of the definition of a flat document;
+-- limits_are_settled says that the results are the same.
 use Rattle.std.specs.Prelude.{ℕ, ◌-◌, ◌&&◌, not, nat_lt, if◌then◌else◌, List, [], ◌∷◌, Result, Ok, Err}
 use Rattle.proto_flat.specs.Fault.{fault}
 use Rattle.proto_flat.specs.declared.fault.ExpandFault.{ExpandFault}
@@ -10,14 +10,14 @@ use Rattle.proto_meaning.specs.Sight.{and_see}
 use Rattle.proto_meaning.specs.Flat.{Walk, Does}
 use Rattle.proto_limits.specs.declared.room.Room.{Room}
 
--- before anything is met
+-- before anything is counted
 abbrev pub full : Room
 full = record { nodes = 65536; instances = 8388608; items = 8388608; all = 134217728 }
 
 abbrev pub too_large : {A : Type 0} → Result A ExpandFault
 too_large = Err (fault TooLarge 0)
 
--- one thing more of all, and so much of the others
+-- uses one of all, and that many of the others
 abbrev pub spend_so_much : ℕ → ℕ → ℕ → Room → Result Room ExpandFault
 spend_so_much nodes instances items r =
     if not (nat_lt r.nodes nodes) && not (nat_lt r.instances instances)
@@ -31,7 +31,7 @@ spend_so_much nodes instances items r =
     else too_large)
     else too_large
 
--- what is met takes its room
+-- uses the room of what is counted
 abbrev pub spend : Met → Room → Result Room ExpandFault
 spend m r =
     if has_room m then spend_so_much (nodes_met m) (instances_met m) (items_met m) r else too_large
@@ -43,11 +43,11 @@ spend_all (m ∷ ms) r = and_see (spend m r) (spend_all ms)
 abbrev pub beside : {A : Type 0} → Room → A → Result (A × Room) ExpandFault
 beside left a = Ok (a, left)
 
--- what a part comes to in so much room, and how much it leaves
+-- what a part gives in that room, and the room that it leaves
 abbrev pub settle : {A : Type 0} → Outcome A → Room → Result (A × Room) ExpandFault
 settle o r = and_see (spend_all o.met r) (λ left. and_see o.comes (beside left))
 
--- where a walk stands, and how much more may be met
+-- the state of the walk, and how much more may be counted
 pub record State : Type 0 where
   pub room : Room
   pub walk : Walk
@@ -55,6 +55,6 @@ pub record State : Type 0 where
 abbrev pub onward : {A : Type 0} → (A × Walk) × Room → Result (A × State) ExpandFault
 onward p = Ok (p.0.0, record { room = p.1; walk = p.0.1 })
 
--- what a part does from there
+-- what a part does from that state
 abbrev pub doing : {A : Type 0} → Does A → State → Result (A × State) ExpandFault
 doing m s = and_see (settle (m s.walk) s.room) onward

@@ -1,4 +1,4 @@
-//! Limits of flat documents where they are met, and what a part of a text then comes to.
+//! Limits of flat documents, checked as things are counted, and what a part of a text then gives.
 #![tactic(auto)]
 
 mod laws;

@@ -1,4 +1,4 @@
-//! How much more may be met.
+//! How much more may be counted.
 
 ghost use Rattle.std.specs.Prelude.{◌≡◌, ◌&&◌, not, nat_lt};
 ghost use Rattle.std.specs.Result.{result_map_both};
@@ -10,8 +10,8 @@ use proto_flat::{ExpandFault, ExpandFaultKind};
 /// The most fields that a node may have.
 const MAX_FIELDS: usize = 65_536;
 
-/// How much more may be met: nodes, instances, items of values where these stand in nodes, and
-/// things that are put in, those among them.
+/// How much more may be counted: nodes, instances, items of the values of nodes, and in `all`
+/// nodes, instances, fields, ROUTEs and USEs together.
 #[derive(Clone, Copy)]
 pub struct Room {
     pub nodes: u32,
@@ -21,7 +21,8 @@ pub struct Room {
 }
 
 impl Room {
-    /// Before anything is met.
+    /// Returns the room before anything is counted: 65,536 nodes, 8,388,608 instances, 8,388,608
+    /// items and 2^27 things in all.
     pub fn new() -> Room
         ensures { result ≡ full }
     {
@@ -63,21 +64,23 @@ impl Room {
         Ok(())
     }
 
-    /// The first word of a node is met. TooLarge where that passes a limit, as at each call.
+    /// Counts the first word of a node. TooLarge (line 0) if that passes a limit, as in the other
+    /// calls.
     pub fn meet_node(&mut self) -> Result<(), ExpandFault>
         ensures { result_map_both (λ _. self.new) (λ e. e) result ≡ spend ANode self.old }
     {
         self.spend(1, 0, 0)
     }
 
-    /// The first word of an instance is met.
+    /// Counts the first word of an instance.
     pub fn meet_instance(&mut self) -> Result<(), ExpandFault>
         ensures { result_map_both (λ _. self.new) (λ e. e) result ≡ spend AnInstance self.old }
     {
         self.spend(0, 1, 0)
     }
 
-    /// The field of that number of a node is met, whose value has so many items.
+    /// Counts a field of a node: its number among the fields, and the number of items in its value.
+    /// TooLarge also if `number` is 65,536 or more.
     pub fn meet_field(&mut self, number: usize, items: usize) -> Result<(), ExpandFault>
         ensures { result_map_both (λ _. self.new) (λ e. e) result
             ≡ spend (AField number items) self.old }
@@ -88,7 +91,7 @@ impl Room {
         self.spend(0, 0, items)
     }
 
-    /// A field of an instance is met, a ROUTE or a USE.
+    /// Counts a field of an instance, a ROUTE or a USE.
     pub fn meet_item(&mut self) -> Result<(), ExpandFault>
         ensures { result_map_both (λ _. self.new) (λ e. e) result ≡ spend AnItem self.old }
     {

@@ -1,6 +1,30 @@
--- What a document stands for (ISO/IEC 19775-1, 4.4.4, prototypes; 4.4.3, DEF and USE): each
--- instance is its prototype's body, in which `field IS name` holds what the instance gives, or the
--- default. Order, lines and which fault comes first are our choice.
+-- What a document with prototypes stands for (ISO/IEC 19775-1, 4.4.4, prototypes; 4.4.3, DEF and
+-- USE). Each instance is its prototype's body, in which `field IS name` holds the value that the
+-- instance gives, or else the default. Order, lines and which fault comes first are our choice.
+--
+-- How the steps tie together: the four steps at the end (`item_step` to `proto_step`) give each
+-- part of the tree three functions, made from those of its own parts. `finds` searches the part for
+-- an instance of a PROTO inside that PROTO. `sees` gives what the part declares, and which
+-- interface fields its ISs take. `does` adds the part to the flat document. `flat` runs the `does`
+-- of the statements in turn, from an empty `Walk`. A PROTO adds no node: `declare` brings a
+-- prototype in sight, with its `instance_of`. When the braces of an instance close,
+-- `close_instance` runs that `instance_of`, which runs the `does` of the body's statements in a
+-- scope of its own.
+--
+-- An example, traced by hand:
+--     1  PROTO Lamp [ inputOutput SFFloat power 1 ] { PointLight { intensity IS power } }
+--     2  DEF L Lamp { power 0.5 }
+-- Line 1, `declare`: Lamp comes in sight, and its body takes `power`. No node is added. Line 2,
+-- `full_node`: the word Lamp means that prototype. An instance is counted, braces L open.
+--   `give`: `power` is field 0 of Lamp and is given 500000 (millionths).
+--   The braces close, so `close_instance` runs the body, which begins an empty scope.
+--   `default`: the instance gives `power` a value, so the default 1 is left out.
+--   `join`: `intensity`, field 5 of PointLight, fits `power`, and holds 500000.
+--   `close_node`: the PointLight becomes node 0, with the end At 0 intensity for that field.
+--   `made`: node 0 stands for the instance. `power` has the ends of `intensity`: At 0 intensity.
+--   `renamed`, `close`: node 0 has the name L. Braces L stand for node 0.
+-- `flat`: nodes = node 0 alone: line 1, name L, PointLight, fields = (line 1, field 5, 500000);
+--   roots = 0; no helpers, no routes.
 use Rattle.std.specs.Prelude.{ℕ, ◌+◌, Bool, true, false, ◌&&◌, ◌||◌, not, if◌then◌else◌, List, [], ◌∷◌, ◌++◌, drop, length, map, Option, Some, None, option_map, is_none, is_some, Result, Ok, Err, slice_get, slice_set}
 use Rattle.std.specs.List.{filter_map, find, list_any}
 use Rattle.std.specs.Option.{option_map_or}
@@ -40,55 +64,56 @@ use Rattle.proto_meaning.specs.Limits.{Met, ANode, AnInstance, AField, AnItem, i
 use Rattle.proto_meaning.specs.Names.{Name, Field, Filled, value_of, Stands, Scope, used, stands_at, sources, targets, pairs}
 use Rattle.proto_meaning.specs.Sight.{Put, Instance, Prototype, Sight, Look, and_see, each, opened, aside, nodes_in, Names, no_names, taking, Owner, OfType, OfProto, declared, meant, taken_by, is_kept, Search}
 
--- ---- one thing after the other
+-- ---- one part after the other
 
--- what was put in, what is in sight (`taken` stays empty here), and the name scope
+-- the state between two parts: what was added, what is in sight (`taken` stays empty here), and the
+-- name scope
 pub record Walk : Type 0 where
   pub put : Put
   pub sight : Sight
   pub scope : Scope
 
--- what a part of the text does: it gives an A and goes on, or is refused
+-- what a part of the text does: it returns an A and the next state, or ends with a fault
 abbrev pub Does : Type 0 → Type 0
 Does A = Walk → Outcome (A × Walk)
 
--- one after the other, the second by what the first gives
+-- one part after the other; the second uses what the first returns
 infixl 10 ◌>>=◌
 abbrev pub ◌>>=◌ : {A B : Type 0} → Does A → (A → Does B) → Does B
 m >>= f = λ w. and_then (m w) (λ p. f p.0 p.1)
 
--- nothing is met on the way
+-- an outcome in which nothing is counted
 abbrev pub comes : {A : Type 0} → Result A ExpandFault → Outcome A
 comes result = record { met = []; comes = result }
 
--- it gives that, and nothing changes
+-- returns `a`, and changes nothing
 abbrev pub pure : {A : Type 0} → A → Does A
 pure a = λ w. comes (Ok (a, w))
 
 abbrev pub refuse : {A : Type 0} → ExpandFaultKind → ℕ → Does A
 refuse kind line = λ w. comes (Err (fault kind line))
 
--- in turn, each by what the one before gives
+-- for each of the list in turn, from what the one before returned
 abbrev pub through : {A X : Type 0} → (A → X → Does X) → List A → X → Does X
 through f [] x = pure x
 through f (a ∷ rest) x = f a x >>= through f rest
 
--- something is met, and counts
+-- counts one thing
 abbrev pub meet : Met → Does (Unit {0})
 meet m = λ w. record { met = m ∷ []; comes = Ok (tt, w) }
 
--- what comes to be in sight, and nothing else
+-- changes what is in sight, and nothing else
 abbrev pub see : Look → Does (Unit {0})
 see step = λ w. follow [] (step w.sight) (λ s. comes (Ok (tt, record w { sight = s })))
 
--- the name scope changes, and `a` is given
+-- changes the name scope, and returns `a`
 abbrev pub note : {A : Type 0} → A → (Scope → Scope) → Does A
 note a f = λ w. comes (Ok (a, record w { scope = f w.scope }))
 
 -- ---- the parts of a tree
 
--- what is said of a part of the tree: the search for a type in it; what it declares and takes,
--- whether it is put in or not; and what it does where it is put in
+-- what each part of the tree has: `finds`, the search for an instance of a PROTO inside that PROTO;
+-- `sees`, what the part declares and takes, added or not; and `does`, what it does if it is added
 pub record Part (S D : Type 0) : Type 0 where
   pub finds : Name → Search
   pub sees : S
@@ -97,7 +122,7 @@ pub record Part (S D : Type 0) : Type 0 where
 abbrev pub part : {S D : Type 0} → (Name → Search) → S → D → Part S D
 part finds sees does = record { finds = finds; sees = sees; does = does }
 
--- a node as it stands in the text: where it is put in, it gives its number
+-- a node of the text; adding it returns its number
 abbrev pub Node : Type 0
 Node = Part Look (Does ℕ)
 
@@ -110,11 +135,11 @@ given_finds g own = each (λ n. n.finds own) (nodes_in g)
 abbrev pub given_sees : Given Node → Look
 given_sees g s = each (λ n. n.sees) (nodes_in g) (record s { taken = taking g s.taken })
 
--- a value that goes nowhere is left out with all that is inside; but its PROTOs come in sight
+-- leaves out a value that no IS takes, with all that is inside; but its PROTOs come in sight
 abbrev pub leave_out : Given Node → Does (Unit {0})
 leave_out g = see (aside (given_sees g))
 
--- the nodes in a value are put in, and stand in it by their numbers
+-- adds the nodes in a value; in the value returned, their numbers replace them
 abbrev pub put_in : RawValue Node → Does (RawValue ℕ)
 put_in value.Null = pure value.Null
 put_in (value.Truth truth) = pure (value.Truth truth)
@@ -131,8 +156,8 @@ put_in (value.NodeList nodes) =
 
 -- ---- fields
 
--- between braces: they opened as the at-th of the scope; whose fields they hold, the fields, and
--- what was given so far
+-- the state between braces: the braces are number `at` of the scope; whose fields they hold, these
+-- fields, and what was given so far
 pub record Inside : Type 0 where
   pub at : ℕ
   pub owner : Owner
@@ -156,7 +181,7 @@ field d = field_with d.line d.access d.field_type d.name
 abbrev pub fields_of : NodeType → List Field
 fields_of t = map (λ row. field_with 0 row.access row.field_type row.name) (rows t)
 
--- the field of that name, with its number
+-- the field of that name, with its number; the first of `fields` has the number `number`
 abbrev pub numbered_from : ℕ → Name → List Field → Option (ℕ × Field)
 numbered_from number name [] = None
 numbered_from number name (f ∷ fs) =
@@ -169,8 +194,8 @@ abbrev pub is_node : Owner → Bool
 is_node (OfType t) = true
 is_node (OfProto p) = false
 
--- an interface field of the first access may be joined to a field of the second (4.4.4, PROTO
--- definition semantics)
+-- whether an interface field of the first access may be joined to a field of the second (4.4.4,
+-- PROTO definition semantics)
 abbrev pub joins : Access → Access → Bool
 joins InputOnly access = receives access
 joins OutputOnly access = sends access
@@ -181,11 +206,11 @@ abbrev pub fits : Field → Field → Bool
 fits outer inner =
     sameb the_type outer.field_type inner.field_type && joins outer.access inner.access
 
--- a value counts where it stands in a node
+-- counts a field; the items of its value count only in a node
 abbrev pub met_field : Owner → ℕ → ℕ → Does (Unit {0})
 met_field owner number items = meet (if is_node owner then AField number items else AnItem)
 
--- the field f (its number, and the field itself) has that
+-- records that field f (a number and the field itself) was given v
 abbrev pub fill : ℕ → ℕ × Field → Inside → Option (RawValue ℕ) → Inside
 fill line f i v =
     record i {
@@ -193,7 +218,7 @@ fill line f i v =
           ++ record { line = line; name = f.1.name; number = f.0; value = v } ∷ [];
     }
 
--- the value of a field is put in, unless it goes nowhere: no IS takes it
+-- adds the value of a field, or leaves it out if no IS takes the field
 abbrev pub give_value : ℕ → ℕ × Field → Inside → RawValue Node → Does Inside
 give_value line f i v =
     met_field i.owner f.0 (item_count v)
@@ -201,8 +226,8 @@ give_value line f i v =
     then (put_in v >>= λ r. pure (fill line f i (Some r)))
     else leave_out (given.Value v) >>= λ _. pure (fill line f i None)
 
--- IS: the field is an end of the interface field, and holds what that is given. `all` are the
--- braces of the scope, once they are closed
+-- IS: the field holds what the interface field `outer` is given, and its ends become ends of
+-- `outer`. `all` are the braces of the scope once they are closed
 abbrev pub join : ℕ → ℕ × Field → Inside → Name → Option (RawValue ℕ) → Does Inside
 join line f i outer v =
     met_field i.owner f.0 (option_map_or item_count v 0) >>= λ _. note (tt {0}) (λ s. record s {
@@ -210,8 +235,7 @@ join line f i outer v =
           then option_map_or (λ what. what.ends f.1.name) (stands_at all (Some i.at)) [] else []);
     }) >>= λ _. pure (fill line f i v)
 
--- only what stands in the interface and fits can be joined; `twice`: the field was given something
--- before
+-- an IS must name a field of the interface that fits. `twice`: the field was given something before
 abbrev pub give_is : ℕ → ℕ × Field → Bool → Inside → Option Field → Does Inside
 give_is line f twice i None = refuse BadIs line
 give_is line f twice i (Some outer) =
@@ -220,8 +244,8 @@ give_is line f twice i (Some outer) =
     else (λ w. join line f i outer.name (value_of outer.name w.scope.given) w))
     else refuse BadIs line
 
--- a node may be given a value at each field, which the scene judges; an instance only at those that
--- hold a value. Nothing is what a Script's declaration without a value gives
+-- a node may be given a value at each field, which the scene checks; an instance only at fields
+-- that hold a value. Nothing is what a Script's declaration without a value gives
 abbrev pub give : ℕ → ℕ × Field → Bool → Given Node → Inside → Does Inside
 give line f twice (given.Is outer) i =
     λ w. give_is line f twice i (find (λ o. bytes_eq o.name outer) w.scope.interface) w
@@ -237,7 +261,7 @@ abbrev pub is_script : Owner → Bool
 is_script (OfType t) = sameb node_types.the_type t Script
 is_script (OfProto p) = false
 
--- a Script's declaration is one field more; no other node and no instance has any
+-- a Script's declaration adds a field; no other node and no instance may have one
 abbrev pub declare_field : Declaration Node → Inside → Does Inside
 declare_field d i =
     if is_script i.owner
@@ -250,7 +274,7 @@ declare_field d i =
 abbrev pub Item : Type 0
 Item = Part (Option Names → Look) (Inside → Does Inside)
 
--- braces open, and then come the items between them, in turn
+-- opens braces, and then does the items between them, in turn
 abbrev pub inside : Option Name → Owner → List Field → List Item → Does Inside
 inside name owner fields items =
     (λ w. note (length w.scope.braces) (λ s. record s {
@@ -258,7 +282,7 @@ inside name owner fields items =
     }) w) >>= λ at. through (λ (item : Item). item.does) items
     (record { at = at; owner = owner; fields = fields; filled = [] })
 
--- braces that close stand for `what`, with that put in
+-- closes the braces number `at`: they stand for `what`; `put` is what was added up to there
 abbrev pub close : Option Name → ℕ → Stands → Put → Walk → Outcome (ℕ × Walk)
 close name at what put w = comes (Ok (
   what.node,
@@ -270,7 +294,7 @@ close name at what put w = comes (Ok (
   },
 ))
 
--- a node with the values that its fields hold, and a Script's declarations
+-- a node with the values that its fields hold, and with a Script's declarations
 abbrev pub flat_node : ℕ → Option Name → NodeType → Inside → FlatNode
 flat_node line name t i =
     record {
@@ -283,7 +307,7 @@ flat_node line name t i =
       interface = drop (length (rows t)) i.fields;
     }
 
--- a node has the next number when its braces close
+-- adds a node when its braces close; it gets the next number
 abbrev pub close_node : Option Name → ℕ → FlatNode → Does ℕ
 close_node name at node = λ w.
     close name at
@@ -294,15 +318,15 @@ close_node name at node = λ w.
     })
     (record w.put { nodes = w.put.nodes ++ node ∷ [] }) w
 
--- the node in its place takes the instance's name, if it has one
+-- gives the instance's name, if it has one, to the node that stands for it
 abbrev pub renamed : Option Name → ℕ → List FlatNode → List FlatNode
 renamed None n nodes = nodes
 renamed name n nodes =
     option_map_or (λ node. slice_set nodes n (record node { name = name }))
     (slice_get nodes n) nodes
 
--- when its braces close, an instance's body is put in, behind what it is given; its routes stand
--- behind those of the scope so far
+-- adds an instance's body when its braces close, after the values that it is given. Its routes come
+-- after those of the scope so far
 abbrev pub close_instance : Option Name → Prototype → Inside → Does ℕ
 close_instance name p i = λ w. and_then (p.instance i.filled w.put) (λ made.
     close name i.at
@@ -310,17 +334,17 @@ close_instance name p i = λ w. and_then (p.instance i.filled w.put) (λ made.
     (record made.put { nodes = renamed name made.node made.put.nodes })
     (record w { scope = record w.scope { routes = λ all. w.scope.routes all ++ made.routes } }))
 
--- whether a name is one of these
+-- whether a name is one of these names
 abbrev pub is_one : Name → List Name → Bool
 is_one name names = list_any (bytes_eq name) names
 
--- no name stands twice in an interface; it is asked at each instance (our choice)
+-- no name may occur twice in an interface; that is checked at each instance (our choice)
 abbrev pub unless_twice : List Name → List Field → Does (Unit {0})
 unless_twice seen [] = pure tt
 unless_twice seen (f ∷ fs) =
     if is_one f.name seen then refuse FieldTwice f.line else unless_twice (f.name ∷ seen) fs
 
--- braces by what the word before them means
+-- does a node or an instance, by what the word before its braces means
 abbrev pub full_node : ℕ → Option Name → List Item → Option Owner → Does ℕ
 full_node line name items None = refuse UnknownNode line
 full_node line name items (Some (OfType t)) =
@@ -330,7 +354,8 @@ full_node line name items (Some (OfProto p)) =
     meet AnInstance >>= λ _. unless_twice [] p.interface
     >>= λ _. inside name (OfProto p) p.interface items >>= close_instance name p
 
--- a ROUTE names what stands before it, and is read by what all braces come to stand for
+-- a ROUTE names braces that open before it; its ends are read once all braces of the scope are
+-- closed
 abbrev pub note_route : RouteText → Does (Unit {0})
 note_route r = meet AnItem >>= λ _. note (tt {0}) (λ s. record s {
   routes = λ all. s.routes all
@@ -339,12 +364,12 @@ note_route r = meet AnItem >>= λ _. note (tt {0}) (λ s. record s {
 
 -- ---- prototypes
 
--- a statement: whether it is a node; put in, it gives the nodes in its place, one or none
+-- a statement: whether it is a node; adding it returns a list of its node, or an empty list
 abbrev pub Stated : Type 0
 Stated = Bool × Part Look (Does (List ℕ))
 
--- a statement of a body, by the node before it that stands for the instance, if there is one: the
--- first node does, the others are helpers
+-- a statement of a body. The list is the node that stands for the instance: it is empty until the
+-- first node. Later nodes are helpers
 abbrev pub in_body : Stated → List ℕ → Does (List ℕ)
 in_body s [] = s.1.does
 in_body s first = s.1.does >>= λ ns. (λ w. comes (Ok (
@@ -352,20 +377,20 @@ in_body s first = s.1.does >>= λ ns. (λ w. comes (Ok (
   record w { put = record w.put { helpers = w.put.helpers ++ ns } },
 )))
 
--- the field's default, if it has one
+-- adds the field's default, if it has one
 abbrev pub put_default : Declaration Node → List Filled → Given Node → Does (List Filled)
 put_default d filled (given.Value v) =
     put_in v >>= λ r. pure (filled
     ++ record { line = d.line; name = d.name; number = 0; value = Some r } ∷ [])
 put_default d filled _ = pure filled
 
--- a default is put in where some IS takes it, and the instance gives nothing; else it is left out
+-- adds a default if some IS takes the field and the instance gives it no value; else leaves it out
 abbrev pub default : Names → Declaration Node → List Filled → Does (List Filled)
 default takes d filled =
     if takes d.name && is_none (value_of d.name filled) then put_default d filled d.given
     else leave_out d.given >>= λ _. pure filled
 
--- where a scope begins, which sees the prototypes around it
+-- the state at the start of a scope, with the prototypes around it in sight
 abbrev pub begin : List Prototype → Put → Walk
 begin outside put =
     record {
@@ -380,7 +405,8 @@ begin outside put =
       };
     }
 
--- where a body ends, whose first node stands for the instance (`declare` asks that it has one)
+-- the instance at the end of a body, whose first node stands for it (`declare` checks that there is
+-- one)
 abbrev pub made : ℕ → List ℕ → Walk → Outcome Instance
 made line [] w = comes (Err (fault EmptyBody line))
 made line (n ∷ ns) w =
@@ -393,14 +419,14 @@ made line (n ∷ ns) w =
 
 -- a PROTO statement, by its parts
 module _ (line : ℕ) (name : Name) (interface : List (Declaration Node)) (body : List Stated) where
-  -- what an instance is: the defaults, in which IS finds nothing, and then the statements
+  -- makes an instance: adds the defaults, in which an IS finds nothing, and then the statements
   abbrev pub instance_of : List Prototype → Names → List Filled → Put → Outcome Instance
   instance_of outside takes given put =
       and_then ((through (default takes) interface given
       >>= λ all. note (tt {0}) (λ s. record s { interface = map field interface; given = all })
       >>= λ _. through in_body body []) (begin outside put)) (λ p. made line p.0 p.1)
 
-  -- by the prototypes around it, and what its ISs take
+  -- the prototype, by those around it and by what its ISs take
   abbrev pub prototype : List Prototype → Names → Prototype
   prototype outside takes =
       record {
@@ -410,7 +436,7 @@ module _ (line : ℕ) (name : Name) (interface : List (Declaration Node)) (body 
         instance = instance_of outside takes;
       }
 
-  -- in the text's order: the defaults stand in the scope of the body
+  -- in the order of the text; the defaults are in the scope of the body
   abbrev pub body_finds : Name → Search
   body_finds own hidden =
       and_see (each (λ (d : Declaration Node). given_finds d.given own) interface hidden)
@@ -422,8 +448,8 @@ module _ (line : ℕ) (name : Name) (interface : List (Declaration Node)) (body 
       and_see (aside (each (λ (d : Declaration Node). given_sees d.given) interface) s)
       (each (λ (s : Stated). s.1.sees) body)
 
-  -- first what is wrong with the declaration itself, and then with those inside; the prototype
-  -- isn't in sight in its own body, but behind it
+  -- faults of the declaration itself come first, then those of the declarations inside. The
+  -- prototype isn't in sight in its own body, but after it
   abbrev pub declare_body : Result Bool ℕ → Look
   declare_body (Err itself) s = Err (fault ProtoItself itself)
   declare_body (Ok hidden) s =
@@ -434,20 +460,20 @@ module _ (line : ℕ) (name : Name) (interface : List (Declaration Node)) (body 
       }))
       else Err (fault EmptyBody line)
 
-  -- no PROTO has the name of a node type, or of one before it in its scope
+  -- no PROTO may have the name of a node type, or of an earlier PROTO in its scope
   abbrev pub declare : Look
   declare s =
       if is_some (node_type_named name) || is_some (declared name s.here)
       then Err (fault ProtoTwice line)
       else declare_body (body_finds name false) s
 
--- ---- each part, by those inside
+-- ---- each part, from its own parts
 
 abbrev pub Proto : Type 0
 Proto = Part Look (Does (Unit {0}))
 
--- an item between braces: what it does to the fields given so far. (A BodyItem-F is a BodyItem that
--- has, in the place of its parts, what is said of them; NodeText-F and the others as well)
+-- an item between braces: what it does to the fields given so far. (A BodyItem-F is a BodyItem in
+-- which each part is replaced by its `Part`; so are NodeText-F and the others)
 unfoldable pub item_step : BodyItem-F Item Node Stated Proto → Item
 item_step (BodyItem-F.Field line name g) =
     part (given_finds g)
@@ -461,7 +487,7 @@ item_step (BodyItem-F.BodyItem::Route route) =
 item_step (BodyItem-F.BodyItem::Proto proto) =
     part proto.finds (λ taken. proto.sees) (λ i. proto.does >>= λ _. pure i)
 
--- a USE, or braces; what the word before them means is settled before they open
+-- a USE, or braces; the word before the braces is looked up before they open
 unfoldable pub node_step : NodeText-F Item Node Stated Proto → Node
 node_step (NodeText-F.Use line name) =
     part nothing_found (λ s. Ok s) (meet AnItem >>= λ _ w.
@@ -481,7 +507,7 @@ statement_step (Statement-F.Statement::Route route) =
 statement_step (Statement-F.Statement::Proto proto) =
     (false, part proto.finds proto.sees (proto.does >>= λ _. pure []))
 
--- a PROTO hides its own name behind it; it puts nothing in, but comes in sight
+-- a PROTO hides its own name after it. It adds no node, but its prototype comes in sight
 unfoldable pub proto_step : ProtoText-F Item Node Stated Proto → Proto
 proto_step p =
     part
@@ -503,7 +529,7 @@ statement = fold-Statement Item Node Stated Proto item_step node_step statement_
 
 -- ---- a document
 
--- what the statements come to, without limits
+-- what the statements give, without limits
 abbrev pub stand_together : Header → List Stated → Outcome Flat
 stand_together header parts =
     and_then
@@ -521,6 +547,6 @@ abbrev pub header_of : Document → Header
 header_of d =
     record { version = d.version; profile = d.profile; components = d.components; metas = d.metas }
 
--- what a document stands for, or the first thing that is wrong with it
+-- what a document stands for, or its first fault
 unfoldable pub flat : Document → Result Flat ExpandFault
 flat d = limited (stand_together (header_of d) (map statement d.statements))

@@ -8,16 +8,16 @@ use Rattle.proto_meaning.specs.Limits.{Met, Outcome, behind, is_within, limited}
 use Rattle.proto_meaning.specs.Sight.{Sight}
 use Rattle.proto_meaning.specs.Flat.{Walk, statement}
 
--- which prototypes are in sight behind a statement that was put in is what its text declares: it
--- hangs neither on what instances give nor on what is put in
+-- which prototypes are in sight after a statement that was added is what its text declares: it
+-- depends neither on what instances give nor on what was added
 abbrev pub SightIsOfTheText : Type 0
 SightIsOfTheText =
     (s : Statement) (w v : Walk) (nodes : List ℕ) → ((statement s).1.does w).comes ≡ Ok (nodes, v)
     → (t : Sight) × ((statement s).1.sees w.sight ≡ Ok t) × (t.here ≡ v.sight.here)
     × (t.outside ≡ v.sight.outside)
 
--- what is over a limit stays over it: TooLarge may be answered where a limit is passed, whatever
--- follows
+-- what is over a limit stays over it: TooLarge may be answered as soon as a limit is passed,
+-- whatever follows
 abbrev pub LimitsStayPassed : Type 0
 LimitsStayPassed =
     (met : List Met) (o : Outcome Flat) → is_within met ≡ false

@@ -1,6 +1,6 @@
--- What is met on the way, and its limits (our choice). They are no part of what a document stands
--- for: they are asked of what was met up to the end of the text or to its first fault. So TooLarge
--- is answered exactly where too much was met before anything else was wrong.
+-- What is counted on the way, and its limits (our choice). They are no part of what a document
+-- stands for: they apply to what was counted up to the end of the text or to its first fault. So
+-- TooLarge is answered exactly if too much was counted before anything else was wrong.
 use Rattle.std.specs.Prelude.{ℕ, ◌&&◌, Bool, true, not, if◌then◌else◌, List, ◌++◌, length, nat_lt, Result, Ok, Err}
 use Rattle.std.specs.List.{list_all, sum_by}
 use Rattle.classic_tree.specs.declared.tree.RawValue.{RawValue}
@@ -10,9 +10,9 @@ use Rattle.proto_flat.specs.declared.fault.ExpandFault.{ExpandFault}
 use Rattle.proto_flat.specs.declared.fault.ExpandFaultKind.TheVariants.{TooLarge}
 use Rattle.proto_flat.specs.declared.flat.Flat.{Flat}
 
--- what is met, in the order of the work: the first word of a node, and of an instance; a field of a
--- node or declaration of a Script, by its number there and how many items its value has; and
--- AnItem, which is no item of a value: a field of an instance, a ROUTE, a USE
+-- what is counted, in the order of the work: the first word of a node, and of an instance; a field
+-- of a node or a declaration of a Script, with its number there and the number of items in its
+-- value; and AnItem, which is no item of a value, but a field of an instance, a ROUTE or a USE
 pub data Met : Type 0 where
   ANode : Met
   AnInstance : Met
@@ -20,7 +20,7 @@ pub data Met : Type 0 where
   AnItem : Met
 
 -- numbers are counted one by one, with brackets or without; any other list has as many items as its
--- length, any other value one
+-- length, any other value has one
 abbrev pub item_count : {N : Type 0} → RawValue N → ℕ
 item_count value.Null = 1
 item_count (value.Truth truth) = 1
@@ -33,16 +33,16 @@ item_count (value.StringList texts) = length texts
 item_count (value.NumberList numbers) = length numbers
 item_count (value.NodeList nodes) = length nodes
 
--- what a part of a text comes to, with all that was met on the way
+-- what a part of a text gives, or its fault (`comes`), and all that was counted on the way (`met`)
 pub record Outcome (A : Type 0) : Type 0 where
   pub met : List Met
   pub comes : Result A ExpandFault
 
--- what comes behind what was met before
+-- an outcome, after what was counted before
 abbrev pub behind : {A : Type 0} → List Met → Outcome A → Outcome A
 behind before o = record { met = before ++ o.met; comes = o.comes }
 
--- one after the other, up to the first fault
+-- one part after the other, up to the first fault
 abbrev pub follow : {A B : Type 0} → List Met → Result A ExpandFault → (A → Outcome B) → Outcome B
 follow met (Ok a) next = behind met (next a)
 follow met (Err e) next = record { met = met; comes = Err e }
@@ -52,7 +52,7 @@ and_then o next = follow o.met o.comes next
 
 -- ---- the limits
 
--- how many nodes that is, how many instances, how many items of values
+-- how much of a limit a thing uses: of nodes, of instances, of items of values
 abbrev pub nodes_met : Met → ℕ
 nodes_met ANode = 1
 nodes_met _ = 0
@@ -65,7 +65,7 @@ abbrev pub items_met : Met → ℕ
 items_met (AField number items) = items
 items_met _ = 0
 
--- whatever is met counts one
+-- whatever is counted is one thing
 abbrev pub all_met : Met → ℕ
 all_met met = 1
 
@@ -86,6 +86,6 @@ abbrev pub with_few_routes : Result Flat ExpandFault → Result Flat ExpandFault
 with_few_routes (Ok f) = if nat_lt 65536 (length f.routes) then Err (fault TooLarge 0) else Ok f
 with_few_routes (Err e) = Err e
 
--- a fault ends what is met: if that is too much, it was so before the fault
+-- counting ends at the first fault, so what is too much was counted before that fault
 abbrev pub limited : Outcome Flat → Result Flat ExpandFault
 limited o = if is_within o.met then with_few_routes o.comes else Err (fault TooLarge 0)

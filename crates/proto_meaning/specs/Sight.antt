@@ -1,6 +1,6 @@
 -- Which prototypes are in sight (ISO/IEC 19775-1, 4.4.4, prototype scoping rules), by the place in
--- the text alone. That a PROTO in a default value belongs to the body, and that one in a value that
--- is left out is declared, is our choice.
+-- the text alone. Our choice: a PROTO in a default value belongs to the body, and a PROTO in a
+-- value that is left out is declared.
 use Rattle.std.specs.Prelude.{ℕ, Bool, true, false, if◌then◌else◌, List, [], ◌∷◌, ◌++◌, Option, Some, None, option_map, Result, Ok, Err}
 use Rattle.std.specs.List.{find}
 use Rattle.std.specs.Option.{option_or}
@@ -17,15 +17,15 @@ use Rattle.proto_flat.specs.declared.flat.FlatRoute.{FlatRoute}
 use Rattle.proto_meaning.specs.Limits.{Outcome}
 use Rattle.proto_meaning.specs.Names.{Name, Field, Filled}
 
--- ---- what was put in
+-- ---- what was added
 
--- the nodes in the order in which they close, and the helpers: nodes of bodies behind the first
+-- the nodes in the order in which they close, and the helpers: the nodes of bodies after the first
 pub record Put : Type 0 where
   pub nodes : List FlatNode
   pub helpers : List ℕ
 
--- an instance: the node in its place, which ends each interface field is, the routes of its body,
--- and what was put in with it
+-- an instance: the node that stands for it, the ends of each interface field, the routes of its
+-- body, and all that was added so far, its own nodes included
 pub record Instance : Type 0 where
   pub node : ℕ
   pub ends : Name → List FlatEnd
@@ -46,8 +46,8 @@ with_name given names name = if bytes_eq given name then true else names name
 
 -- ---- what is in sight
 
--- a prototype: its name, its interface, which fields of it some IS of its body takes, and what an
--- instance is: by what it is given, and put in behind what was put in before
+-- a prototype: its name, its interface, the fields that some IS of its body takes, and what an
+-- instance is, by what it is given and what was added before
 pub record Prototype : Type 0 where
   pub name : Name
   pub interface : List Field
@@ -55,19 +55,19 @@ pub record Prototype : Type 0 where
   pub instance : List Filled → Put → Outcome Instance
 
 -- the prototypes in sight at a place of the text: those declared in the scope, in the order of the
--- text, and those of the scopes around it, the nearest scope first; and the names that the ISs of
--- the body have taken up to there
+-- text; and those of the scopes around it, the nearest scope first. And the names that the ISs of
+-- the body have taken so far
 pub record Sight : Type 0 where
   pub here : List Prototype
   pub outside : List Prototype
   pub taken : Names
 
--- what a part of the text declares and takes: by what is in sight before it, what is behind it, or
--- what is wrong with a declaration
+-- what a part of the text declares and takes: from what is in sight before it, what is in sight
+-- after it, or what is wrong with a declaration
 abbrev pub Look : Type 0
 Look = Sight → Result Sight ExpandFault
 
--- one after the other, up to the first fault; and so each of a list
+-- one part after the other, up to the first fault; `each` does so for a list
 abbrev pub and_see : {X Y E : Type 0} → Result X E → (X → Result Y E) → Result Y E
 and_see (Ok x) f = f x
 and_see (Err e) f = Err e
@@ -76,7 +76,7 @@ abbrev pub each : {A X E : Type 0} → (A → X → Result X E) → List A → X
 each f [] x = Ok x
 each f (a ∷ rest) x = and_see (f a x) (each f rest)
 
--- where the parts of a PROTO begin: a scope of its own, in which what is around it is in sight
+-- the start of a PROTO's parts: a new scope, in which what is around it is in sight
 abbrev pub opened : Sight → Sight
 opened s = record { here = []; outside = s.here ++ s.outside; taken = no_names }
 
@@ -85,13 +85,13 @@ abbrev pub aside : Look → Look
 aside step s =
     and_see (step (record s { taken = no_names })) (λ t. Ok (record t { taken = s.taken }))
 
--- the nodes that stand in a value
+-- the nodes in a value
 abbrev pub nodes_in : {N : Type 0} → Given N → List N
 nodes_in (given.Value (value.Node node)) = node ∷ []
 nodes_in (given.Value (value.NodeList nodes)) = nodes
 nodes_in _ = []
 
--- `IS name` takes the name
+-- the nodes in a value
 abbrev pub taking : {N : Type 0} → Given N → Names → Names
 taking (given.Is name) names = with_name name names
 taking _ names = names
@@ -106,15 +106,15 @@ pub data Owner : Type 0 where
 abbrev pub declared : Name → List Prototype → Option Prototype
 declared name prototypes = find (λ (p : Prototype). bytes_eq name p.name) prototypes
 
--- a node type, or the nearest prototype that is declared before
+-- the first prototype of that name; no scope has two
 abbrev pub meant : Name → Sight → Option Owner
 meant word s =
     option_or (option_map OfType (node_type_named word))
     (option_map OfProto (declared word (s.here ++ s.outside)))
 
--- which fields keep what they are given (None: all): those of a node, and of an instance those that
--- some IS of its prototype's body takes. A word that means nothing leaves nothing out: it is
--- UnknownNode where it is put in
+-- which fields keep what they are given (None: all). A node keeps all; an instance keeps those that
+-- some IS of its prototype's body takes. A word that means nothing leaves nothing out: `full_node`
+-- answers UnknownNode if the node is added
 abbrev pub taken_by : Option Owner → Option Names
 taken_by (Some (OfProto p)) = Some p.takes
 taken_by _ = None
@@ -123,10 +123,14 @@ abbrev pub is_kept : Option Names → Name → Bool
 is_kept None name = true
 is_kept (Some taken) name = taken name
 
--- ---- whether a prototype holds an instance of itself
+-- ---- whether a prototype contains an instance of itself
 
--- the search in a part of the text for a node with a PROTO's own name before its braces, by whether
--- a PROTO of that name further inside hides it there. It ends with the node's line (Err), or says
--- whether the name is hidden from there on. (In sight is only a PROTO of that name further out)
+-- the search in a part of the text for an instance of a PROTO inside that PROTO: for a node with
+-- the PROTO's name before its braces. The argument says whether the name is hidden where the part
+-- begins: a PROTO of the same name, declared further inside, hides it. There are two outcomes:
+--   Err line: such a node is on that line, where the name isn't hidden (ProtoItself).
+--   Ok hidden: there is none in the part; `hidden` says whether the name is hidden after it.
+-- (A PROTO isn't in sight in its own body. So the word could only mean a PROTO of that name further
+-- out; it is refused all the same.)
 abbrev pub Search : Type 0
 Search = Bool → Result Bool ℕ

@@ -2,7 +2,7 @@
 
 ghost use Rattle.proto_meaning.specs.Laws.{LimitsStayPassed, SightIsOfTheText};
 
-/// Which prototypes are in sight behind a statement that was put in is what its text declares,
+/// The prototypes in sight after a statement that was added are those that its text declares,
 /// whatever instances give.
 pub fn sight_is_of_the_text()
     ensures { SightIsOfTheText }

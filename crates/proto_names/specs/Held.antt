@@ -1,4 +1,4 @@
--- What the tables of names hold, as the definition sees it.
+-- What the tables of names hold, in the terms of the definition.
 use Rattle.std.specs.Prelude.{◌≡◌, ℕ, ◌+◌, nat_lt, Bool, false, if◌then◌else◌, List, [], ◌∷◌, Option, None, Some, option_map}
 use Rattle.std.specs.Option.{option_or}
 use Rattle.std.specs.Str.{bytes_eq}
@@ -34,12 +34,12 @@ abbrev pub closed_at : ℕ → Name → Braces → Option Closed
 closed_at at name b =
     if has_name name b then option_map (λ s. record { at = at; node = s.node }) b.stands else None
 
--- the last braces of that name that are closed, where the first of these has that place
+-- the last closed braces of that name; the first of the list has the place `at`
 abbrev pub last_closed : ℕ → Name → List Braces → Option Closed
 last_closed at name [] = None
 last_closed at name (b ∷ bs) = option_or (last_closed (at + 1) name bs) (closed_at at name b)
 
--- the tables are those of these braces
+-- the tables hold the names of these braces
 pub record Knows (names : Names) (braces : List Braces) : Type 0 where
   pub begun : (name : Name) → begun_of names name ≡ last_from 0 name braces
   pub closed : (name : Name) → closed_of names name ≡ last_closed 0 name braces

@@ -10,16 +10,15 @@ use std::alloc::{AllocError, AllocFailed, Global};
 use std::collections::BTreeMap;
 use x3d_lists::Text;
 
-/// Braces of a scope that are closed: how many of the scope were opened before them, and the
-/// number of the node that they stand for.
+/// Closed braces of a scope: the number of braces of the scope that were opened before them, and
+/// the number of the node that they stand for.
 #[derive(Clone, Copy)]
 pub struct Closed {
     pub at: usize,
     pub node: u32,
 }
 
-/// The names that DEFs gave in a scope: for each the last braces of that name, and the last that
-/// are closed.
+/// The names that DEFs gave in a scope: for each name the last braces, and the last closed braces.
 #[derive(Drop)]
 pub struct Names<'a> {
     pub begun: BTreeMap<&'a str, usize>,
@@ -36,7 +35,7 @@ fn is_later(closed: Option<Closed>, at: usize) -> bool
 }
 
 impl<'a> Names<'a> {
-    /// Of a scope that begins.
+    /// Returns the names of a scope that begins: none.
     #[tactic(auto, unfolding(crate::specs::Held::begun_of, crate::specs::Held::closed_of))]
     pub fn new(alloc: Global) -> Names<'a>
         ensures { Knows result [] }
@@ -85,7 +84,8 @@ impl<'a> Names<'a> {
         self.begun.get(name.as_str()).copied()
     }
 
-    /// Braces open behind the others of the scope, with the name that DEF gives them.
+    /// Records that braces open, with the name that DEF gives them; `at` braces of the scope were
+    /// opened before. AllocError if memory runs out.
     pub fn open(&mut self, name: &'a Option<Text>, at: usize) -> Result<(), AllocError>
         ensures { (braces : List Braces) → at ≡ length braces → Knows self.old braces
             → IfOk result (λ _. Knows self.new (braces ++ held.opened name.now ∷ [])) }
@@ -97,7 +97,8 @@ impl<'a> Names<'a> {
         Ok(())
     }
 
-    /// Braces close, and stand for the node of that number.
+    /// Records that the braces number `at` close, and stand for the node of that number. AllocError
+    /// if memory runs out.
     pub fn close(&mut self, name: &'a Option<Text>, at: usize, node: u32) -> Result<(), AllocError>
         ensures { (before after : List Braces) (what : Stands) → at ≡ length before
             → what.node ≡ node → Knows self.old (before ++ held.opened name.now ∷ after)
@@ -113,7 +114,7 @@ impl<'a> Names<'a> {
         Ok(())
     }
 
-    /// The number of the node that USE takes: of the last braces of that name that are closed.
+    /// Returns the number of the node that USE takes: that of the last closed braces of that name.
     pub fn used(&self, name: &Text) -> Option<u32>
         ensures { (braces : List Braces) → Knows self.now braces
             → result ≡ meaning.used name.now braces }
@@ -124,7 +125,7 @@ impl<'a> Names<'a> {
         }
     }
 
-    /// The braces that ROUTE names: the last of that name, closed or not.
+    /// Returns the place of the braces that ROUTE names: the last of that name, closed or not.
     pub fn named(&self, name: &Text) -> Option<usize>
         ensures { (braces : List Braces) → Knows self.now braces
             → result ≡ meaning.last_from 0 name.now braces }

@@ -1,5 +1,5 @@
--- What is still to be done of a tree, by what stands between braces so far. None of this is part
--- of the definition of a flat document.
+-- The work that is left on a tree, by what is between braces so far. None of this is part of the
+-- definition of a flat document.
 use Rattle.std.specs.Prelude.{ℕ, List, [], ◌∷◌, ◌++◌, map, Option, Some, None, Result, Ok, Err}
 use Rattle.std.specs.Option.{option_map_or}
 use Rattle.classic_tree.specs.declared.tree.ProtoText.{out-ProtoText}
@@ -35,12 +35,12 @@ use Rattle.proto_nodes.specs.declared.frames.Open.{Open}
 use Rattle.proto_nodes.specs.declared.frames.FieldAt.{FieldAt}
 use Rattle.proto_nodes.specs.Protos.{owner_by, proto_by}
 
--- ---- what something comes to from where the walk stands
+-- ---- the result of a part, from the state of the walk
 
 abbrev pub Comes : Type 0 → Type 0
 Comes A = Result (A × State) ExpandFault
 
--- and what then follows, by what it gives
+-- and what then follows, by what the part returns
 abbrev pub after : {A B : Type 0} → Comes A → (A → State → Comes B) → Comes B
 after o next = and_see o (λ p. next p.0 p.1)
 
@@ -49,14 +49,14 @@ done a s = Ok (a, s)
 
 -- ---- braces
 
--- the nodes of a list in turn, behind those before
+-- the nodes of a list in turn, after those before
 abbrev pub add_node : flat.Node → List ℕ → Does (List ℕ)
 add_node n ns = n.does >>= λ number. pure (ns ++ number ∷ [])
 
 abbrev pub nodes_do : List Prototype → List NodeTree → List ℕ → Does (List ℕ)
 nodes_do ps nodes numbers = through add_node (map (node ps) nodes) numbers
 
--- what a field is given, in which nodes do what they stand for
+-- what a field is given, with its nodes replaced by what they do
 abbrev pub given_by : List Prototype → GivenTree NodeTree → GivenTree flat.Node
 given_by ps tree.Nothing = tree.Nothing
 given_by ps (tree.Is name) = tree.Is name
@@ -65,7 +65,7 @@ given_by ps (tree.One n) = tree.One (node ps n)
 given_by ps (tree.Many count ns) = tree.Many count (map (node ps) ns)
 given_by ps (tree.LeftOut wrong) = tree.LeftOut wrong
 
--- as `item_step` has it
+-- as in `item_step`
 abbrev pub field_does : ℕ → Name → GivenTree flat.Node → flat.Inside → Does flat.Inside
 field_does line name g i =
     option_map_or (λ f. gives line f (flat.is_filled name i) g i)
@@ -82,36 +82,36 @@ abbrev pub closes : List Prototype → ℕ → Option Name → Word → holder.O
 closes ps line name w (Node t) i = flat.close_node name i.at (flat.flat_node line name t i)
 closes ps line name w (Instance interface) i = flat.close_instance name (proto_by ps w) i
 
--- braces open, all between them is put in, and they close
+-- opens braces, adds all between them, and closes them
 abbrev pub braces_do : List Prototype → ℕ → Option Name → Word → holder.Owner → List ItemTree
     → Does ℕ
 braces_do ps line name w o items =
     flat.inside name (owner_by ps w o) (fields_of_owner o) (map (item ps) items)
     >>= closes ps line name w o
 
--- those of an instance with that interface
+-- the braces of an instance with that interface
 abbrev pub instance_do : List Prototype → Option Name → Prototype → List Field → List ItemTree
     → Does ℕ
 instance_do ps name p fields items =
     flat.inside name (OfProto p) fields (map (item ps) items) >>= flat.close_instance name p
 
--- what is left between braces, and then these close
+-- does the items that are left between braces, and then closes the braces
 unfoldable pub open_does : List Prototype → Open → flat.Inside → Does ℕ
 open_does ps o i =
     items_do ps o.rest.now i >>= closes ps o.line o.name.now o.word o.inside.owner
 
--- what stands between them so far
+-- what is between them so far
 abbrev pub inside_now : List Prototype → Open → flat.Inside
 inside_now ps o = inside_of o.at (owner_by ps o.word o.inside.owner) o.inside
 
--- the same when a field has a value
+-- what is between them when a field is given a value
 abbrev pub with_value : List Prototype → Open → FieldAt → RawValue ℕ → flat.Inside
 with_value ps o p v =
     flat.fill p.line (numbered p.name.now p.field) (inside_now ps o) (Some v)
 
 -- ---- bodies
 
--- the scope around goes on; no prototype is looked up by its name
+-- the scope around goes on; no prototype is looked up by name
 abbrev pub outside : Scope → State → State
 outside around t =
     record {
@@ -123,7 +123,7 @@ outside around t =
       };
     }
 
--- a body is done: its scope is left, and the braces around stand for its first node
+-- a body ends: its scope is left, and the braces around stand for its first node
 abbrev pub leaves_by : ℕ → List Field → Option Name → ℕ → Scope → List ℕ → State → Comes ℕ
 leaves_by line interface name at around [] t = Err (fault EmptyBody line)
 leaves_by line interface name at around (n ∷ ns) t =
@@ -149,15 +149,15 @@ abbrev pub first_of : Option ℕ → List ℕ
 first_of None = []
 first_of (Some n) = n ∷ []
 
--- what is left of a body, behind that first node
+-- the rest of a body, after that first node
 unfoldable pub body_comes : List Prototype → Around → List BodyTree → List ℕ → State → Comes ℕ
 body_comes ps a rest first s = after (doing (statements_do ps rest first) s) (leaves a)
 
--- ISs find the interface, and what the instance is given
+-- an IS finds the interface, and what the instance is given
 abbrev pub finds : List Field → List Filled → Does (Unit {0})
 finds interface all = note (tt {0}) (λ s. record s { interface = interface; given = all })
 
--- what is left of the default values, and then the body
+-- the rest of the default values, and then the body
 abbrev pub defaults_do : List Prototype → Around → List DefaultTree → List Filled → Does (List ℕ)
 defaults_do ps a rest all =
     through (default ps) rest all >>= λ filled. finds a.proto.now.interface filled
@@ -175,7 +175,7 @@ abbrev pub default_value : FieldAt → RawValue ℕ → Filled
 default_value p v =
     record { line = p.line; name = p.name.now; number = p.field.number; value = Some v }
 
--- a default value is put in, and then what is left
+-- adds a default value, and then does the rest
 abbrev pub default_comes : List Prototype → DefaultTree → Filling → State → Comes ℕ
 default_comes ps d f s =
     after

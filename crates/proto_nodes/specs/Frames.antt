@@ -1,4 +1,4 @@
--- What the frames still do. None of this is part of the definition of a flat document.
+-- The work that is left in the frames. None of this is part of the definition of a flat document.
 use Rattle.std.specs.Prelude.{◌≡◌, ◌⊎◌, ℕ, Bool, true, false, is_some, List, [], ◌∷◌, ◌++◌, Option, Some, None, Result, Ok, Err}
 use Rattle.std.specs.declared.alloc.AllocError.{AllocError}
 use Rattle.classic_tree.specs.declared.tree.RawValue.{RawValue}
@@ -34,9 +34,9 @@ use Rattle.proto_nodes.specs.declared.frames.NodeTask.{NodeTask}
 use Rattle.proto_nodes.specs.declared.frames.NodeTask.TheVariants as task
 use Rattle.proto_nodes.specs.Does.{Comes, after, done, nodes_do, open_does, inside_now, with_value, first_of, body_comes, filling_comes, filled_now, default_value}
 
--- ---- what is done
+-- ---- the results
 
--- what a holder comes to as it is, and with one value more
+-- the result of a holder as it is, and with one value more
 unfoldable pub holder_comes : List Prototype → Holder → State → Comes ℕ
 holder_comes ps (Braces o) s = doing (open_does ps o (inside_now ps o)) s
 holder_comes ps (Defaults f) s =
@@ -53,7 +53,7 @@ unfoldable pub list_comes : List Prototype → Holder → FieldAt → List NodeT
 list_comes ps h p rest numbers s =
     after (doing (nodes_do ps rest numbers) s) (λ ns. value_comes ps h p (value.NodeList ns))
 
--- a body has a node more
+-- a body has one node more
 abbrev pub held : Option ℕ → ℕ → Does (List ℕ)
 held None n = pure (n ∷ [])
 held (Some first) n =
@@ -62,7 +62,7 @@ held (Some first) n =
       record w { put = record w.put { helpers = w.put.helpers ++ n ∷ [] } },
     ))
 
--- what a frame does with the number that it waits for
+-- the result of a frame with the number that it waits for
 unfoldable pub frame_comes : List Prototype → Frame → ℕ → State → Comes ℕ
 frame_comes ps (frame.One h p) n s = value_comes ps h p (value.Node n) s
 frame_comes ps (frame.List h l) n s =
@@ -70,7 +70,7 @@ frame_comes ps (frame.List h l) n s =
 frame_comes ps (frame.Body b) n s =
     after (doing (held b.first n) s) (body_comes ps b.around.value b.rest.now)
 
--- the frames, of which the last comes first
+-- the results of the frames, the last first
 unfoldable pub frames_come : List Prototype → List Frame → ℕ → State → Comes ℕ
 frames_come ps [] n s = done n s
 frames_come ps (f ∷ fs) n s = after (frames_come ps fs n s) (frame_comes ps f)
@@ -82,12 +82,12 @@ task_comes ps (task.Body b) s = body_comes ps b.around.value b.rest.now (first_o
 task_comes ps (task.NodeFor f n) s = after (doing (node ps n.now).does s) (frame_comes ps f)
 task_comes ps (task.Number n) s = done n s
 
--- the task and then the frames
+-- the result of the task, and then of the frames
 abbrev pub all_comes : List Prototype → NodeTask → WalkState → Comes ℕ
 all_comes ps t m = after (task_comes ps t (shown.shown m.walker)) (frames_come ps m.frames.items)
 
--- what is next: the next thing, a field's value that is a node or a list of nodes, or nothing; by
--- what comes of the rest as it is, and with one value more
+-- the result by what comes next: the next step, a field whose value is a node or a list of nodes,
+-- or nothing. `on` is the result of the rest as it is, `more` with one value more
 abbrev pub next_by : List Prototype → (State → Comes ℕ) → (FieldAt → RawValue ℕ → State → Comes ℕ)
     → Next → State → Comes ℕ
 next_by ps on more next.On s = on s
@@ -110,9 +110,9 @@ filling_next ps f =
 abbrev pub holder_next : List Prototype → Holder → Next → State → Comes ℕ
 holder_next ps h = next_by ps (holder_comes ps h) (value_comes ps h)
 
--- ---- the tables are those of what they stand for
+-- ---- the tables agree with what they stand for
 
--- each of these has a value
+-- each of these fields has a value
 abbrev pub AllValued : List Filled → Type 0
 AllValued [] = Unit
 AllValued (f ∷ fs) = (is_some f.value ≡ true) × AllValued fs
@@ -175,35 +175,35 @@ pub record MachineSound (m : WalkState) : Type 0 where
 
 -- ---- a step
 
--- toward that: what is to be done after it comes to the same, memory aside
+-- the result of what is to be done next is the same, unless memory runs out
 abbrev pub Goes : List Prototype → Comes ℕ → Result NodeTask ExpandFault → State → Type 0
 Goes ps outcome (Ok t) s = outcome ≡ task_comes ps t s
 Goes ps outcome (Err e) s = (e ≡ memory) ⊎ (outcome ≡ Err e)
 
--- the same by what all comes to
+-- like `Goes`, for the result of all
 abbrev pub AllGoes : List Prototype → Comes ℕ → Result NodeTask ExpandFault → WalkState → Type 0
 AllGoes ps outcome (Ok t) m = outcome ≡ all_comes ps t m
 AllGoes ps outcome (Err e) m = (e ≡ memory) ⊎ (outcome ≡ Err e)
 
--- the same, with what is next in the place of the task
+-- like `AllGoes`, with what comes next in place of the task
 abbrev pub StepsOn : List Prototype → Comes ℕ → Result (Unit {0}) ExpandFault → NodeTask → WalkState
     → Type 0
 StepsOn ps outcome (Ok u) t m = outcome ≡ all_comes ps t m
 StepsOn ps outcome (Err e) t m = (e ≡ memory) ⊎ (outcome ≡ Err e)
 
--- all that was to be done came to this
+-- the result of all the work
 abbrev pub Ends : {A X : Type 0} → (A → X) → Comes X → Result A ExpandFault → State → Type 0
 Ends view outcome (Ok a) s = outcome ≡ Ok (view a, s)
 Ends view outcome (Err e) s = (e ≡ memory) ⊎ (outcome ≡ Err e)
 
--- something is done between braces, and then what is left there
+-- something is done between braces, and then the rest there
 abbrev pub item_comes : List Prototype → (flat.Inside → Does flat.Inside) → Open → State → Comes ℕ
 item_comes ps m o s = doing (m (inside_now ps o) >>= open_does ps o) s
 
 abbrev pub given_at : FieldAt → Bool → GivenTree flat.Node → flat.Inside → Does flat.Inside
 given_at p twice g i = gives p.line (numbered p.name.now p.field) twice g i
 
--- the same of a step between braces, and of one in a holder
+-- like `Goes`, for a step between braces, and for one in a holder
 abbrev pub OpenGoes : List Prototype → Comes ℕ → Result Next ExpandFault → Walker → Open → Type 0
 OpenGoes ps outcome (Ok n) walker o = outcome ≡ open_next ps o n (shown.shown walker)
 OpenGoes ps outcome (Err e) walker o = (e ≡ memory) ⊎ (outcome ≡ Err e)
@@ -221,7 +221,7 @@ abbrev pub HolderGoesSound : Result Next ExpandFault → Walker → Holder → T
 HolderGoesSound (Ok n) walker h = shown.Sound walker × HolderSound h × HolderFits h n
 HolderGoesSound (Err e) walker h = Unit
 
--- the same of a step on default values, which leaves the walk where it stands
+-- like `Goes`, for a step on default values, which leaves the walk unchanged
 abbrev pub DefaultGoes : List Prototype → Comes ℕ → Result Next AllocError → Filling → State
     → Type 0
 DefaultGoes ps outcome (Ok n) f s = outcome ≡ filling_next ps f n s
@@ -231,24 +231,24 @@ abbrev pub DefaultSound : Result Next AllocError → Filling → Type 0
 DefaultSound (Ok n) f = FillingSound f × FillingFits f n
 DefaultSound (Err e) f = Unit
 
--- one value more stands behind the others
+-- one value more, after the others
 pub record HasFilled (old : Filling) (value : Filled) (new : Filling) : Type 0 where
   pub filled : filled_now new ≡ filled_now old ++ value ∷ []
   pub rest : new.rest ≡ old.rest
   pub around : new.around ≡ old.around
   pub sound : FillingSound new
 
--- the next thing, if what was done went well
+-- the next step, if the step before succeeded
 abbrev pub on_or : Result (Unit {0}) ExpandFault → Result Next ExpandFault
 on_or (Ok u) = Ok next.On
 on_or (Err e) = Err e
 
--- what is left of a body, if what was done before it went well
+-- the rest of a body, if the step before succeeded
 abbrev pub body_or : ProtoBody → Result (Unit {0}) ExpandFault → Result NodeTask ExpandFault
 body_or b (Ok u) = Ok (task.Body b)
 body_or b (Err e) = Err e
 
--- the first of these, and those behind it
+-- the first of these, and the rest
 abbrev pub IsSplit : {A : Type 0} → List A → Option (A × List A) → Type 0
 IsSplit all None = all ≡ []
 IsSplit all (Some p) = all ≡ p.0 ∷ p.1

@@ -29,7 +29,7 @@ AreKnown ps None (Some known) = ⊥
 abbrev pub Knows : List Prototype → List Proto → Type 0
 Knows ps protos = (number : ℕ) → AreKnown ps (slice_get ps number) (slice_get protos number)
 
--- ---- whose braces they are
+-- ---- the owner of braces
 
 abbrev pub no_prototype : Prototype
 no_prototype =
@@ -49,7 +49,7 @@ proto_by ps word.Unknown = no_prototype
 proto_by ps (word.Node t) = no_prototype
 proto_by ps (word.Instance number) = found (slice_get ps number)
 
--- by the owner and what the word before the braces means
+-- the owner, by the kind of braces and what the word before them means
 abbrev pub owner_by : List Prototype → Word → holder.Owner → Owner
 owner_by ps w (Node t) = OfType t
 owner_by ps w (Instance interface) = OfProto (proto_by ps w)

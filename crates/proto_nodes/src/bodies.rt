@@ -22,14 +22,14 @@ use proto_walker::Walker;
 use std::alloc::{AllocError, Global};
 use std::rc::Rc;
 
-/// What a body joins, and its ROUTEs.
+/// What the ISs of a body join, and its ROUTEs.
 #[derive(Drop)]
 struct Joined<'a> {
     ends: JoinedEnds<'a>,
     routes: Option<Rc<Wires<'a>>>,
 }
 
-/// All default values are put in.
+/// Begins the body, after all default values are added.
 pub fn begin_body<'t, 'a>(
     walker: &mut Walker<'t, 'a>,
     filling: Filling<'t, 'a>,
@@ -59,7 +59,7 @@ pub fn begin_body<'t, 'a>(
     }
 }
 
-/// What is left of a body, if what was done before it went well.
+/// Goes on with the rest of a body, if the step before succeeded.
 fn go_on<'t, 'a>(
     body: ProtoBody<'t, 'a>,
     done: Result<(), ExpandFault>,
@@ -106,7 +106,7 @@ fn join<'t, 'a>(alloc: Global, walker: &mut Walker<'t, 'a>) -> Result<Joined<'a>
     Ok(Joined { ends, routes })
 }
 
-/// The scope around goes on, and the braces of the instance stand for the node.
+/// Goes back to the scope around; the braces of the instance stand for the node.
 fn stand_in<'t, 'a>(
     alloc: Global,
     walker: &mut Walker<'t, 'a>,
@@ -143,7 +143,7 @@ fn stand_in<'t, 'a>(
     Ok(NodeTask::Number(number))
 }
 
-/// A body is done.
+/// Ends a body. EmptyBody if it has no node.
 fn leave<'t, 'a>(
     alloc: Global,
     walker: &mut Walker<'t, 'a>,
@@ -171,7 +171,7 @@ fn leave<'t, 'a>(
     }
 }
 
-/// The first of these, and those behind it.
+/// Returns the first statement, and the rest.
 fn first_statement<'t, 'a>(
     statements: &'t [BodyTree<'a>],
 ) -> Option<(&'t BodyTree<'a>, &'t [BodyTree<'a>])>
@@ -180,14 +180,15 @@ fn first_statement<'t, 'a>(
     statements.split_first()
 }
 
-/// These are left.
+/// Stores the statements that are left.
 fn set_rest<'t, 'a>(body: &mut ProtoBody<'t, 'a>, rest: &'t [BodyTree<'a>])
     ensures { body.new ≡ record body.old { rest = rest.entry } }
 {
     body.rest = rest;
 }
 
-/// The next statement of a body, or the body is done.
+/// Does the next statement of a body, or ends the body. Returns what is to be done next, or the
+/// first fault: of the statement, TooLarge, or Memory.
 pub fn next_statement<'t, 'a>(
     alloc: Global,
     walker: &mut Walker<'t, 'a>,
@@ -241,7 +242,8 @@ fn help<'t, 'a>(
     }
 }
 
-/// A statement's node has its number: the first stands for the instance, the others are helpers.
+/// Takes the number of a statement's node: the first node stands for the instance, the others are
+/// helpers. Memory if memory runs out.
 pub fn hold<'t, 'a>(
     walker: &mut Walker<'t, 'a>,
     body: ProtoBody<'t, 'a>,

@@ -1,4 +1,4 @@
-//! A node or an instance begins, and braces close.
+//! The start of a node or an instance, and the end of its braces.
 
 ghost use Rattle.std.specs.Prelude.{◌≡◌, [], List, Some, map, option_map, slice_get, IfOk, IfSome};
 ghost use Rattle.proto_meaning.specs.Flat as flat;
@@ -26,7 +26,7 @@ use x3d_lists::Text;
 use x3d_values::NodeType;
 
 /// Braces of the text: the line of the first word, the name that DEF gives, what the word before
-/// them means, and what stands between.
+/// the braces means, and the items between them.
 #[derive(Clone, Copy)]
 pub struct Full<'t, 'a> {
     pub line: u32,
@@ -35,7 +35,7 @@ pub struct Full<'t, 'a> {
     pub items: &'t [ItemTree<'a>],
 }
 
-/// Braces open.
+/// Opens braces.
 fn open_braces<'t, 'a>(
     alloc: Global,
     walker: &mut Walker<'t, 'a>,
@@ -78,7 +78,7 @@ fn begin_node<'t, 'a>(
     open_braces(alloc, walker, text, Owner::Node(node_type))
 }
 
-/// The braces of an instance open.
+/// Opens the braces of an instance.
 fn open_instance<'t, 'a>(
     alloc: Global,
     walker: &mut Walker<'t, 'a>,
@@ -161,7 +161,9 @@ fn begin_use<'t, 'a>(
     Ok(NodeTask::Number(number))
 }
 
-/// A node of the text.
+/// Begins a node of the text: opens its braces, or takes the node that USE names. Returns what is
+/// to be done next; Err is UnknownNode, UseWithoutDef, FieldTwice (in an interface), TooLarge or
+/// Memory.
 pub fn begin<'t, 'a>(
     alloc: Global,
     walker: &mut Walker<'t, 'a>,
@@ -189,7 +191,7 @@ pub fn begin<'t, 'a>(
     }
 }
 
-/// What stands between the braces of a node, when they close.
+/// Returns the node that the braces hold when they close.
 fn placed<'t, 'a>(
     alloc: Global,
     line: u32,
@@ -218,7 +220,7 @@ fn placed<'t, 'a>(
     })
 }
 
-/// The braces of a node close.
+/// Closes the braces of a node.
 fn close_node<'t, 'a>(
     alloc: Global,
     walker: &mut Walker<'t, 'a>,
@@ -245,7 +247,7 @@ fn close_node<'t, 'a>(
     Ok(NodeTask::Number(number))
 }
 
-/// The braces of an instance close: a scope of its own begins, and default values are put in.
+/// Closes the braces of an instance: begins a scope, to which the default values are added first.
 fn begin_defaults<'t, 'a>(
     alloc: Global,
     walker: &mut Walker<'t, 'a>,
@@ -286,7 +288,7 @@ fn begin_defaults<'t, 'a>(
     })))
 }
 
-/// The prototype that the word before braces means.
+/// Returns the prototype that the word before braces means.
 fn proto_of<'t, 'a>(protos: &'t [Proto<'t, 'a>], word: Word) -> Option<&'t Proto<'t, 'a>>
     ensures { (ps : List Prototype) → Knows ps protos.now
         → IfSome result (λ known. IsKnown ps (proto_by ps word) known.now) }
@@ -298,7 +300,7 @@ fn proto_of<'t, 'a>(protos: &'t [Proto<'t, 'a>], word: Word) -> Option<&'t Proto
     }
 }
 
-/// The braces of an instance close. Where there is no such prototype, memory is said to be refused.
+/// Closes the braces of an instance. Memory if there is no such prototype.
 fn close_instance<'t, 'a>(
     alloc: Global,
     walker: &mut Walker<'t, 'a>,
@@ -320,7 +322,7 @@ fn close_instance<'t, 'a>(
     begin_defaults(alloc, walker, opened, proto)
 }
 
-/// Braces close.
+/// Closes braces, and returns what is to be done next. Memory if memory runs out.
 pub fn close_braces<'t, 'a>(
     alloc: Global,
     walker: &mut Walker<'t, 'a>,

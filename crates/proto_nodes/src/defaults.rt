@@ -19,7 +19,7 @@ use std::alloc::{AllocError, Global};
 use std::rc::Rc;
 use x3d_lists::Text;
 
-/// Whether none of the two has a value of that name.
+/// Reports whether neither of the two has a value of that name.
 fn is_free(given: &Given<'_>, defaults: &Given<'_>, name: &Text) -> bool
     requires given { table.IsHeld given.now }
     requires defaults { table.IsHeld defaults.now }
@@ -49,7 +49,7 @@ fn place_of<'a>(declaration: &'a Declaration<NodeText>) -> FieldAt<'a>
     }
 }
 
-/// The field has the value.
+/// Gives the field the value. AllocError if memory runs out.
 pub fn fill<'t, 'a>(
     alloc: Global,
     filling: &mut Filling<'t, 'a>,
@@ -112,7 +112,7 @@ fn put_default<'t, 'a>(
     }
 }
 
-/// The first of these, and those behind it.
+/// Returns the first default, and the rest.
 fn first_default<'t, 'a>(
     defaults: &'t [DefaultTree<'a>],
 ) -> Option<(&'t DefaultTree<'a>, &'t [DefaultTree<'a>])>
@@ -121,14 +121,14 @@ fn first_default<'t, 'a>(
     defaults.split_first()
 }
 
-/// These are left.
+/// Stores the defaults that are left.
 fn set_rest<'t, 'a>(filling: &mut Filling<'t, 'a>, rest: &'t [DefaultTree<'a>])
     ensures { filling.new ≡ record filling.old { rest = rest.entry } }
 {
     filling.rest = rest;
 }
 
-/// The next default value, where the instance gives none.
+/// Does the next default value, if the instance gives none. AllocError if memory runs out.
 pub fn next_default<'t, 'a>(
     alloc: Global,
     filling: &mut Filling<'t, 'a>,

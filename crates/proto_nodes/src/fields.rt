@@ -1,4 +1,4 @@
-//! What stands between braces.
+//! The items between braces.
 
 ghost use Rattle.std.specs.Prelude.{◌≡◌, List, map, option_map, false, IfOk};
 ghost use Rattle.proto_meaning.specs.Sight.{Prototype};
@@ -21,7 +21,7 @@ use proto_walker::Walker;
 use std::alloc::{AllocError, Global};
 use x3d_lists::Text;
 
-/// The next thing, if what was done went well.
+/// Returns `Next::On` if the step succeeded.
 fn on<'t, 'a>(done: Result<(), ExpandFault>) -> Result<Next<'t, 'a>, ExpandFault>
     ensures { result ≡ on_or done }
 {
@@ -31,7 +31,7 @@ fn on<'t, 'a>(done: Result<(), ExpandFault>) -> Result<Next<'t, 'a>, ExpandFault
     }
 }
 
-/// A value that is one node.
+/// Does a value that is one node.
 fn put_one<'t, 'a>(
     walker: &mut Walker<'t, 'a>,
     opened: &Open<'t, 'a>,
@@ -53,7 +53,7 @@ fn put_one<'t, 'a>(
     Ok(Next::One(place, node))
 }
 
-/// A value that is a list of nodes.
+/// Does a value that is a list of nodes.
 fn put_many<'t, 'a>(
     walker: &mut Walker<'t, 'a>,
     opened: &Open<'t, 'a>,
@@ -76,7 +76,7 @@ fn put_many<'t, 'a>(
     Ok(Next::List(place, nodes))
 }
 
-/// A value without nodes.
+/// Does a value without nodes.
 fn put_plain<'t, 'a>(
     alloc: Global,
     walker: &mut Walker<'t, 'a>,
@@ -109,7 +109,7 @@ fn put_plain<'t, 'a>(
     Ok(Next::On)
 }
 
-/// What a field is given.
+/// Does what a field is given.
 fn put_given<'t, 'a>(
     alloc: Global,
     walker: &mut Walker<'t, 'a>,
@@ -147,7 +147,7 @@ fn put_given<'t, 'a>(
     }
 }
 
-/// A field of the text.
+/// Does a field of the text.
 fn put_field<'t, 'a>(
     alloc: Global,
     walker: &mut Walker<'t, 'a>,
@@ -178,7 +178,7 @@ fn put_field<'t, 'a>(
     )
 }
 
-/// A field that a Script declares.
+/// Does a field that a Script declares.
 fn put_declaration<'t, 'a>(
     alloc: Global,
     walker: &mut Walker<'t, 'a>,
@@ -203,7 +203,7 @@ fn put_declaration<'t, 'a>(
     put_given(alloc, walker, opened, place, twice, given)
 }
 
-/// A ROUTE between braces.
+/// Does a ROUTE between braces.
 fn put_route<'t, 'a>(
     walker: &mut Walker<'t, 'a>,
     opened: &Open<'t, 'a>,
@@ -242,21 +242,22 @@ fn put_item<'t, 'a>(
     }
 }
 
-/// The first of these, and those behind it.
+/// Returns the first item, and the rest.
 fn first_item<'t, 'a>(items: &'t [ItemTree<'a>]) -> Option<(&'t ItemTree<'a>, &'t [ItemTree<'a>])>
     ensures { IsSplit items.now (option_map (λ p. (p.0.now, p.1.now)) result) }
 {
     items.split_first()
 }
 
-/// These are left.
+/// Stores the items that are left.
 fn set_rest<'t, 'a>(opened: &mut Open<'t, 'a>, rest: &'t [ItemTree<'a>])
     ensures { opened.new ≡ record opened.old { rest = rest.entry } }
 {
     opened.rest = rest;
 }
 
-/// The next thing between braces.
+/// Does the next item between braces. Returns what comes next, or the fault of the item, TooLarge
+/// or Memory.
 pub fn next_item<'t, 'a>(
     alloc: Global,
     walker: &mut Walker<'t, 'a>,
@@ -277,7 +278,7 @@ pub fn next_item<'t, 'a>(
     put_item(alloc, walker, opened, item)
 }
 
-/// The field has the value.
+/// Gives the field the value. AllocError if memory runs out.
 pub fn set_value<'t, 'a>(
     alloc: Global,
     opened: &mut Open<'t, 'a>,

@@ -1,4 +1,4 @@
-//! What is still to be done, on the heap.
+//! The work that is left, on the heap.
 
 use proto_given::Given;
 use proto_inside::Inside;
@@ -15,12 +15,12 @@ pub struct Proto<'t, 'a> {
     pub interface: Interface<'a>,
 }
 
-/// Braces that are open: what stands between them so far, and what is left.
+/// Braces that are open: what is between them so far, and the items that are left.
 #[derive(Drop)]
 pub struct Open<'t, 'a> {
     pub line: u32,
     pub name: &'a Option<Text>,
-    /// How many braces of the scope opened before them.
+    /// The number of braces of the scope that opened before them.
     pub at: usize,
     /// What the word before them means.
     pub word: Word,
@@ -28,8 +28,8 @@ pub struct Open<'t, 'a> {
     pub inside: Inside<'t, 'a>,
 }
 
-/// Where an instance stands: its prototype, its name, its braces, and the scope that goes on
-/// behind it.
+/// What is around the body of an instance: its prototype, its name, its braces, and the scope that
+/// goes on after it.
 #[derive(Drop)]
 pub struct Around<'t, 'a> {
     pub proto: &'t Proto<'t, 'a>,
@@ -38,7 +38,7 @@ pub struct Around<'t, 'a> {
     pub scope: Scope<'t, 'a>,
 }
 
-/// What an instance is given, and its default values, which are put in before its body.
+/// What an instance is given, and its default values, which are added before its body.
 #[derive(Drop)]
 pub struct Filling<'t, 'a> {
     pub rest: &'t [DefaultTree<'a>],
@@ -55,7 +55,7 @@ pub struct ProtoBody<'t, 'a> {
     pub around: Box<Around<'t, 'a>>,
 }
 
-/// The field whose value it is.
+/// The field that waits for a value.
 #[derive(Clone, Copy)]
 pub struct FieldAt<'a> {
     pub line: u32,
@@ -63,14 +63,14 @@ pub struct FieldAt<'a> {
     pub field: KnownField,
 }
 
-/// What fields are given values in.
+/// What holds the fields that are given values.
 #[derive(Drop)]
 pub enum Holder<'t, 'a> {
     Braces(Open<'t, 'a>),
     Defaults(Filling<'t, 'a>),
 }
 
-/// A list of nodes in a field: those that are left, and the numbers of those before.
+/// A list of nodes in a field: the nodes that are left, and the numbers of those before.
 #[derive(Drop)]
 pub struct Listing<'t, 'a> {
     pub place: FieldAt<'a>,
@@ -78,14 +78,14 @@ pub struct Listing<'t, 'a> {
     pub numbers: Items<u32>,
 }
 
-/// What is next in a holder.
+/// What comes next in a holder.
 #[derive(Clone, Copy)]
 pub enum Next<'t, 'a> {
-    /// The next thing.
+    /// The next step of the holder.
     On,
-    /// A field's value is that node.
+    /// A field's value is this node.
     One(FieldAt<'a>, &'t NodeTree<'a>),
-    /// It is a list of those.
+    /// A field's value is a list of these nodes.
     List(FieldAt<'a>, &'t [NodeTree<'a>]),
     /// Nothing is left.
     Closed,
@@ -94,7 +94,7 @@ pub enum Next<'t, 'a> {
 /// What waits for the number of a node.
 #[derive(Drop)]
 pub enum Frame<'t, 'a> {
-    /// The field that is this node.
+    /// The field whose value is this node.
     One(Holder<'t, 'a>, FieldAt<'a>),
     /// The list in which this node is next.
     List(Holder<'t, 'a>, Listing<'t, 'a>),
@@ -110,11 +110,11 @@ pub enum NodeTask<'t, 'a> {
     Body(ProtoBody<'t, 'a>),
     /// A node whose number this frame waits for.
     NodeFor(Frame<'t, 'a>, &'t NodeTree<'a>),
-    /// The last frame has the number that it waits for.
+    /// The last frame gets the number that it waits for.
     Number(u32),
 }
 
-/// All that the walk holds.
+/// The whole state of the walk.
 #[derive(Drop)]
 pub struct WalkState<'t, 'a> {
     pub protos: &'t [Proto<'t, 'a>],

@@ -1,4 +1,4 @@
-//! What fields are given values in: braces, and the default values of an instance.
+//! The holders of fields that are given values: braces, and the default values of an instance.
 
 ghost use Rattle.std.specs.Prelude.{◌≡◌, ℕ, ◌++◌, ◌∷◌, [], List, option_map, IfOk};
 ghost use Rattle.proto_meaning.specs.Sight.{Prototype};
@@ -20,7 +20,7 @@ use proto_walker::Walker;
 use std::alloc::{AllocError, Global};
 use x3d_lists::Items;
 
-/// What is next, or memory was refused.
+/// Returns what comes next; Memory for an AllocError.
 fn or_memory<'t, 'a>(next: Result<Next<'t, 'a>, AllocError>) -> Result<Next<'t, 'a>, ExpandFault>
     ensures { result ≡ next_or next.entry }
 {
@@ -30,7 +30,7 @@ fn or_memory<'t, 'a>(next: Result<Next<'t, 'a>, AllocError>) -> Result<Next<'t, 
     }
 }
 
-/// Nothing is left in it.
+/// Ends a holder in which nothing is left.
 fn close<'t, 'a>(
     alloc: Global,
     walker: &mut Walker<'t, 'a>,
@@ -51,7 +51,7 @@ fn close<'t, 'a>(
     }
 }
 
-/// A list of these nodes begins.
+/// Begins a list of these nodes.
 fn listing<'t, 'a>(alloc: Global, place: FieldAt<'a>, nodes: &'t [NodeTree<'a>]) -> Listing<'t, 'a>
     ensures place { result.place ≡ place.entry }
     ensures rest { result.rest ≡ nodes.entry }
@@ -64,7 +64,7 @@ fn listing<'t, 'a>(alloc: Global, place: FieldAt<'a>, nodes: &'t [NodeTree<'a>])
     }
 }
 
-/// What is to be done next, by what is next in the holder.
+/// Returns what is to be done next, by what comes next in the holder.
 fn begin_next<'t, 'a>(
     alloc: Global,
     walker: &mut Walker<'t, 'a>,
@@ -89,7 +89,7 @@ fn begin_next<'t, 'a>(
     }
 }
 
-/// The same, if what was done went well.
+/// Like `begin_next`, if the step before succeeded.
 fn proceed<'t, 'a>(
     alloc: Global,
     walker: &mut Walker<'t, 'a>,
@@ -113,7 +113,7 @@ fn proceed<'t, 'a>(
     }
 }
 
-/// The next step between braces.
+/// Does the next step between braces.
 fn go_on_braces<'t, 'a>(
     alloc: Global,
     walker: &mut Walker<'t, 'a>,
@@ -133,7 +133,7 @@ fn go_on_braces<'t, 'a>(
     proceed(alloc, walker, protos, Holder::Braces(opened), next)
 }
 
-/// The next step on default values.
+/// Does the next step on default values.
 fn go_on_defaults<'t, 'a>(
     alloc: Global,
     walker: &mut Walker<'t, 'a>,
@@ -159,7 +159,8 @@ fn go_on_defaults<'t, 'a>(
     )
 }
 
-/// The next step.
+/// Does the next step, and returns what is to be done next. Err is the fault of the step, TooLarge
+/// or Memory.
 pub fn go_on<'t, 'a>(
     alloc: Global,
     walker: &mut Walker<'t, 'a>,
@@ -179,7 +180,7 @@ pub fn go_on<'t, 'a>(
     }
 }
 
-/// A field between braces has the value.
+/// Gives a field between braces its value.
 fn keep_braces<'t, 'a>(
     alloc: Global,
     opened: Open<'t, 'a>,
@@ -202,7 +203,7 @@ fn keep_braces<'t, 'a>(
     }
 }
 
-/// A default value is that.
+/// Gives a default its value.
 fn keep_defaults<'t, 'a>(
     alloc: Global,
     filling: Filling<'t, 'a>,
@@ -225,7 +226,7 @@ fn keep_defaults<'t, 'a>(
     }
 }
 
-/// The field has the value.
+/// Gives the field its value, and returns what is to be done next. Memory if memory runs out.
 pub fn keep<'t, 'a>(
     alloc: Global,
     holder: Holder<'t, 'a>,
@@ -244,21 +245,22 @@ pub fn keep<'t, 'a>(
     }
 }
 
-/// The first of these, and those behind it.
+/// Returns the first node, and the rest.
 fn first_node<'t, 'a>(nodes: &'t [NodeTree<'a>]) -> Option<(&'t NodeTree<'a>, &'t [NodeTree<'a>])>
     ensures { IsSplit nodes.now (option_map (λ p. (p.0.now, p.1.now)) result) }
 {
     nodes.split_first()
 }
 
-/// These are left.
+/// Stores the nodes that are left.
 fn set_rest<'t, 'a>(listing: &mut Listing<'t, 'a>, rest: &'t [NodeTree<'a>])
     ensures { listing.new ≡ record listing.old { rest = rest.entry } }
 {
     listing.rest = rest;
 }
 
-/// The next node of a list, or the list is whole.
+/// Does the next node of a list, or ends the list. Returns what is to be done next; Memory if
+/// memory runs out.
 pub fn next_in_list<'t, 'a>(
     alloc: Global,
     holder: Holder<'t, 'a>,
@@ -279,7 +281,7 @@ pub fn next_in_list<'t, 'a>(
     Ok(NodeTask::NodeFor(Frame::List(holder, listing), node))
 }
 
-/// The list has one number more.
+/// Returns the list with one number more.
 fn longer<'t, 'a>(listing: Listing<'t, 'a>, number: u32) -> Result<Listing<'t, 'a>, AllocError>
     ensures { IfOk result (λ l. l
         ≡ record listing.entry { numbers = listing.entry.numbers ++ number ∷ [] }) }
@@ -289,7 +291,8 @@ fn longer<'t, 'a>(listing: Listing<'t, 'a>, number: u32) -> Result<Listing<'t, '
     Ok(listing)
 }
 
-/// A node of the list has its number.
+/// Adds the number of a node to the list, and returns what is to be done next. Memory if memory
+/// runs out.
 pub fn add_number<'t, 'a>(
     holder: Holder<'t, 'a>,
     listing: Listing<'t, 'a>,

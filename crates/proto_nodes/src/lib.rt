@@ -1,4 +1,4 @@
-//! The nodes of a resolved text, put in by number (ISO/IEC 19775-1, 4.4.4, prototypes).
+//! Adds the nodes of a resolved text, by number (ISO/IEC 19775-1, 4.4.4, prototypes).
 #![tactic(auto)]
 
 mod bodies;

@@ -1,4 +1,4 @@
-//! The walk over a node and all that is inside, instances' bodies too.
+//! The walk over a node and all that is inside, including the bodies of instances.
 
 ghost use Rattle.std.specs.Prelude.{◌≡◌, [], List, IfOk, IfSome};
 ghost use Rattle.proto_meaning.specs.Sight.{Prototype};
@@ -19,7 +19,7 @@ use proto_tree::NodeTree;
 use std::alloc::Global;
 use std::mem;
 
-/// The frame has the number that it waits for.
+/// Gives the frame the number that it waits for.
 fn give<'t, 'a>(
     alloc: Global,
     machine: &mut WalkState<'t, 'a>,
@@ -43,7 +43,7 @@ fn give<'t, 'a>(
     }
 }
 
-/// The node begins, and the frame waits for its number.
+/// Begins the node; the frame waits for its number.
 fn wait<'t, 'a>(
     alloc: Global,
     machine: &mut WalkState<'t, 'a>,
@@ -65,7 +65,7 @@ fn wait<'t, 'a>(
     begin(alloc, &mut machine.walker, machine.protos, node)
 }
 
-/// The next step of what is to be done.
+/// Does the next step of the task.
 fn step<'t, 'a>(
     alloc: Global,
     machine: &mut WalkState<'t, 'a>,
@@ -91,7 +91,7 @@ fn step<'t, 'a>(
     }
 }
 
-/// The number, if nothing is left to be done.
+/// Returns the number, if no work is left.
 fn result_of(machine: &WalkState<'_, '_>, task: &NodeTask<'_, '_>) -> Option<u32>
     ensures { IfSome result (λ n.
         (task.now ≡ NodeTask.Number n) × (machine.now.frames.items ≡ [])) }
@@ -102,7 +102,7 @@ fn result_of(machine: &WalkState<'_, '_>, task: &NodeTask<'_, '_>) -> Option<u32
     }
 }
 
-/// One step: what is to be done next stands in the place of the task.
+/// Does one step; what is to be done next replaces the task.
 fn step_on<'t, 'a>(
     alloc: Global,
     machine: &mut WalkState<'t, 'a>,
@@ -144,7 +144,9 @@ fn run<'t, 'a>(
     Err(ExpandFaultKind::Memory.on_line(0))
 }
 
-/// Puts a node in with all that is inside, and gives its number.
+/// Adds a node with all that is inside, including the bodies of instances, and returns its number.
+/// Err is the first fault inside, with its line; TooLarge (line 0) if that passes a limit; Memory
+/// if memory runs out.
 pub fn put_node<'t, 'a>(
     alloc: Global,
     machine: &mut WalkState<'t, 'a>,

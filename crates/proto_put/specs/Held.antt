@@ -1,4 +1,4 @@
--- What was put in, as the definition sees it.
+-- What was added, in the terms of the definition.
 use Rattle.std.specs.Prelude.{List, map}
 use Rattle.proto_flat.specs.declared.flat.FlatNode.{FlatNode}
 use Rattle.proto_meaning.specs.Sight.{Put}

@@ -1,4 +1,4 @@
-//! What was put in: the nodes in the order in which they close, and which of them are helpers.
+//! What was added: the nodes in the order in which they close, and which of them are helpers.
 #![tactic(auto)]
 
 mod put;

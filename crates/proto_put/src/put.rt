@@ -1,4 +1,4 @@
-//! Nodes that were put in, and how they grow.
+//! The nodes that were added.
 
 ghost use Rattle.std.specs.Prelude.{◌≡◌, ◌++◌, ◌∷◌, [], length, IfOk, OnOk};
 ghost use Rattle.proto_meaning.specs.Flat.{renamed};
@@ -10,7 +10,8 @@ use std::alloc::{AllocError, Global};
 use x3d_lists::{Duplicate, Items, Text};
 use x3d_values::NodeType;
 
-/// A node that was put in. Its name is that of the text, and is copied when all nodes are there.
+/// A node that was added. Its name is borrowed from the text, and is copied when all nodes are
+/// there.
 #[derive(Drop)]
 pub struct PlacedNode<'a> {
     pub line: u32,
@@ -21,16 +22,16 @@ pub struct PlacedNode<'a> {
     pub interface: Items<Declaration<u32>>,
 }
 
-/// What was put in so far.
+/// What was added so far.
 #[derive(Drop)]
 pub struct PutIn<'a> {
     /// In the order in which they close.
     pub nodes: Vec<PlacedNode<'a>>,
-    /// The nodes of bodies behind the first of each.
+    /// The nodes of bodies after the first of each.
     pub helpers: Items<u32>,
 }
 
-/// The node with a copy of its name.
+/// Returns the node with a copy of its name.
 fn named(alloc: Global, node: PlacedNode<'_>) -> Result<FlatNode, AllocError>
     ensures { IfOk result (λ n. n ≡ flat_of node.entry) }
 {
@@ -45,7 +46,7 @@ fn named(alloc: Global, node: PlacedNode<'_>) -> Result<FlatNode, AllocError>
 }
 
 impl<'a> PutIn<'a> {
-    /// Before anything is put in.
+    /// Returns an empty list of nodes and of helpers.
     pub fn new(alloc: Global) -> PutIn<'a>
         ensures { shown result ≡ record { nodes = []; helpers = [] } }
     {
@@ -55,7 +56,8 @@ impl<'a> PutIn<'a> {
         }
     }
 
-    /// A node closes, and has the next number.
+    /// Adds a node whose braces close, and returns its number, which is the next one. AllocError if
+    /// memory runs out, or if the number doesn't fit into 32 bits.
     pub fn close(&mut self, node: PlacedNode<'a>) -> Result<u32, AllocError>
         ensures number { IfOk result (λ n. n ≡ length (shown self.old).nodes) }
         ensures node { OnOk result (shown self.new ≡ record (shown self.old) {
@@ -70,7 +72,8 @@ impl<'a> PutIn<'a> {
         Ok(number)
     }
 
-    /// The node of that number stands for an instance, and takes its name, if it has one.
+    /// Gives the name of an instance, if it has one, to the node of that number, which stands for
+    /// it. Does nothing if there is no such node.
     pub fn rename(&mut self, number: u32, name: &'a Option<Text>)
         ensures { shown self.new ≡ record (shown self.old) {
           nodes = renamed name.now number (shown self.old).nodes;
@@ -86,7 +89,7 @@ impl<'a> PutIn<'a> {
         self.nodes[number].name = name;
     }
 
-    /// The node is a helper.
+    /// Records that the node of that number is a helper. AllocError if memory runs out.
     pub fn help(&mut self, number: u32) -> Result<(), AllocError>
         ensures { OnOk result (shown self.new ≡ record (shown self.old) {
           helpers = (shown self.old).helpers ++ number ∷ [];
@@ -97,7 +100,8 @@ impl<'a> PutIn<'a> {
     }
 }
 
-/// The nodes of the flat document.
+/// Returns the nodes of the flat document, with copies of their names. AllocError if memory runs
+/// out.
 pub fn flat_nodes(alloc: Global, nodes: Vec<PlacedNode<'_>>) -> Result<Items<FlatNode>, AllocError>
     ensures { IfOk result (λ flat. flat ≡ nodes_of nodes.entry.items) }
 {

@@ -40,7 +40,7 @@ with_entry given declared entries name =
 unfoldable pub found : Table → Entries
 found table name = get_by (λ k. slice_cmp nat_cmp name k.now) table.prototypes
 
--- in these scopes, of which the nearest stands last
+-- the prototypes in these scopes, the nearest scope last
 abbrev pub seen : List Table → Entries
 seen [] name = None
 seen (outer ∷ nearer) name = option_or (seen nearer name) (found outer name)

@@ -11,7 +11,7 @@ use Rattle.proto_tree.specs.declared.tree.ProtoTree.{ProtoTree}
 use Rattle.proto_tree.specs.Meaning.{instance, stand_together}
 use Rattle.proto_resolver.specs.Parts.{IsResolved}
 
--- the statements of the text and of the tree come to the same
+-- the statements of the text and of the tree give the same
 abbrev pub ResolvedTextsStandForTheSame : Type 0
 ResolvedTextsStandForTheSame =
     (text : List Statement) (protos : List ProtoTree) (trees : List BodyTree)
@@ -19,7 +19,8 @@ ResolvedTextsStandForTheSame =
     → stand_together r.prototypes header trees
     ≡ flat.stand_together header (map flat.statement text)
 
--- a number means a tree and a prototype, or neither; an instance of the one is what the other says
+-- a number means a tree and a prototype, or neither; an instance of the prototype is what the tree
+-- says
 abbrev pub IsTreeOf : List Prototype → Option ProtoTree → Option Prototype → Type 0
 IsTreeOf ps None None = Unit {0}
 IsTreeOf ps None (Some p) = ⊥

@@ -1,4 +1,4 @@
--- Parts of a text and their trees, one behind the other.
+-- Parts of a text and their trees, in order.
 use Rattle.std.specs.Prelude.{◌≡◌, List, [], ◌∷◌, ◌++◌, Option, None, Some, Ok, Err}
 use Rattle.classic_tree.specs.declared.tree.Declaration.{Declaration}
 use Rattle.classic_tree.specs.declared.tree.NodeText.{NodeText}
@@ -13,13 +13,13 @@ use Rattle.proto_tree.specs.Resolved.{Seen, AreDefaults, AreStatements}
 use Rattle.proto_resolver.specs.Standing.{TreesStand}
 use Rattle.proto_resolver.specs.Steps.{defaults_taken}
 
--- what is left behind a part: nothing, once something is wrong
+-- the rest after a part: no trees, once something is wrong
 abbrev pub Left : {X T : Type 0} → (List X → List T → Sight → Seen → Type 0) → List X → Seen
     → List T → Seen → Type 0
 Left are rest (Ok u) trees r = are rest trees u r
 Left are rest (Err e) trees r = (trees ≡ []) × (r ≡ Err e)
 
--- whatever trees are of what is left, behind those that are made they are of all
+-- whatever the trees of the rest are, together with those made before they are trees of all
 abbrev pub Before : {X T : Type 0} → (List X → List T → Sight → Seen → Type 0) → List X → List X
     → List T → Sight → Seen → Type 0
 Before {X} {T} are xs rest made s u =
@@ -37,7 +37,7 @@ pub record AreAllDefaults (ps : List Prototype) (ds : List (Declaration NodeText
   pub are : (u : Sight) → r ≡ Ok u → (takes : Names)
       → AreDefaults ps takes ds (defaults_taken takes ts) s u
 
--- the same, where an IS in them takes nothing
+-- default values in which an IS takes nothing
 pub record AreDefaultsAside (ps : List Prototype) (ds : List (Declaration NodeText))
     (ts : List DefaultTree) (s : Sight) (r : Seen) : Type 0 where
   pub sees : aside (sees_interface ds) s ≡ r
@@ -45,7 +45,7 @@ pub record AreDefaultsAside (ps : List Prototype) (ds : List (Declaration NodeTe
       × ((takes : Names)
       → AreDefaults ps takes ds (defaults_taken takes ts) (record s { taken = no_names }) behind)
 
--- what stands between the brackets and the braces of a prototype
+-- the interface and the body of a prototype
 pub record IsInterior (ps : List Prototype) (p : ProtoText) (defaults : List DefaultTree)
     (body : List BodyTree) (s : Sight) (r : Seen) : Type 0 where
   pub sees : sees_inside (out-ProtoText p).interface (out-ProtoText p).body s ≡ r
@@ -54,7 +54,7 @@ pub record IsInterior (ps : List Prototype) (p : ProtoText) (defaults : List Def
       (record s { taken = no_names }) behind
       × AreStatements ps (out-ProtoText p).body body (record behind { taken = s.taken }) (Ok u)
 
--- a whole text is resolved: its trees are its statements' and prototypes'
+-- a resolved text: its trees are those of its statements, and of its prototypes
 pub record IsResolved (text : List Statement) (protos : List ProtoTree) (trees : List BodyTree)
     : Type 0 where
   pub prototypes : List Prototype

@@ -19,7 +19,7 @@ use Rattle.proto_resolver.specs.Held.{names_of, takes_of, found, seen}
 abbrev pub Extends : List Prototype → List Prototype → Type 0
 Extends ps all = (n : ℕ) (p : Prototype) → slice_get ps n ≡ Some p → slice_get all n ≡ Some p
 
--- the tree stands for the prototype: where words mean those of ps, or more
+-- the tree stands for the prototype, if words in it mean the prototypes of ps, or of a longer list
 pub record IsOf (ps : List Prototype) (t : ProtoTree) (p : Prototype) : Type 0 where
   pub name : p.name ≡ (out-ProtoText t.text.now).name
   pub interface : p.interface ≡ map field (out-ProtoText t.text.now).interface
@@ -34,14 +34,14 @@ pub record TreesStand (ps : List Prototype) (trees : List ProtoTree) : Type 0 wh
 
 -- ---- prototypes by name
 
--- the entry has the number of the prototype, and takes what that takes
+-- the entry has the prototype's number, and takes the names that the prototype takes
 abbrev pub Means : List Prototype → Option KnownProto → Option Prototype → Type 0
 Means ps None None = Unit {0}
 Means ps None (Some p) = ⊥
 Means ps (Some e) None = ⊥
 Means ps (Some e) (Some p) = (slice_get ps e.number ≡ Some p) × (p.takes ≡ takes_of e)
 
--- that is in sight in the scopes
+-- the scopes hold what is in sight
 pub record Shows (ps : List Prototype) (scopes : Scopes) (s : Sight) : Type 0 where
   pub here : (name : Name) → Means ps (found scopes.here name) (declared name s.here)
   pub outside : (name : Name) → Means ps (seen scopes.outside.items name) (declared name s.outside)
@@ -49,7 +49,8 @@ pub record Shows (ps : List Prototype) (scopes : Scopes) (s : Sight) : Type 0 wh
 
 -- ---- what a call does
 
--- behind a part in which nothing is wrong that is in sight, and the scopes around are as they were
+-- after a part without a fault, the scopes hold what is in sight, and the scopes around are
+-- unchanged
 abbrev pub Ends : List Prototype → Resolver → Resolver → Option ExpandFault → Seen → Type 0
 Ends ps old new None (Ok u) =
     Shows ps new.scopes u × (new.scopes.outside.items ≡ old.scopes.outside.items)
@@ -57,8 +58,8 @@ Ends ps old new None (Err e) = ⊥
 Ends ps old new (Some wrong) (Ok u) = ⊥
 Ends ps old new (Some wrong) (Err e) = wrong ≡ e
 
--- where s is in sight, by prototypes that may be more than before: what is seen behind, and what
--- holds of that, whatever prototypes are more still
+-- where s is in sight: there is a longer list of prototypes, by which the part leads to `seen`; and
+-- `holds` holds for every list that is longer still
 pub record LeadsTo (ps : List Prototype) (s : Sight) (old new : Resolver)
     (wrong : Option ExpandFault) (holds : List Prototype → Sight → Seen → Type 0) : Type 0 where
   pub more : List Prototype

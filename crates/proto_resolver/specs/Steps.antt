@@ -13,7 +13,7 @@ use Rattle.proto_resolver.specs.declared.scopes.TakenNames.{TakenNames}
 use Rattle.proto_resolver.specs.declared.resolver.Resolver.{Resolver}
 use Rattle.proto_resolver.specs.Held.{names_of, takes_of, found, no_entries, with_entry}
 
--- nothing is taken so far; before is what was
+-- nothing is taken so far; `before` is what was taken
 pub record IsAside (old : Resolver) (before : TakenNames) (new : Resolver) : Type 0 where
   pub kept : names_of before ≡ names_of old.scopes.takes
   pub here : found new.scopes.here ≡ found old.scopes.here
@@ -21,7 +21,7 @@ pub record IsAside (old : Resolver) (before : TakenNames) (new : Resolver) : Typ
   pub takes : names_of new.scopes.takes ≡ no_names
   pub protos : new.protos ≡ old.protos
 
--- that is taken again
+-- the names of `before` are taken again
 pub record IsBack (old : Resolver) (before : TakenNames) (new : Resolver) : Type 0 where
   pub here : found new.scopes.here ≡ found old.scopes.here
   pub outside : new.scopes.outside.items ≡ old.scopes.outside.items
@@ -35,7 +35,7 @@ pub record IsTaking (name : Name) (old new : Resolver) : Type 0 where
   pub takes : names_of new.scopes.takes ≡ with_name name (names_of old.scopes.takes)
   pub protos : new.protos ≡ old.protos
 
--- a scope was opened; before is what the body around takes so far
+-- a scope was opened; `before` is what the body around has taken so far
 pub record IsScopeOpen (old : Resolver) (before : TakenNames) (new : Resolver) : Type 0 where
   pub kept : names_of before ≡ names_of old.scopes.takes
   pub here : found new.scopes.here ≡ no_entries
@@ -43,7 +43,7 @@ pub record IsScopeOpen (old : Resolver) (before : TakenNames) (new : Resolver) :
   pub takes : names_of new.scopes.takes ≡ no_names
   pub protos : new.protos ≡ old.protos
 
--- the scope around, the last of those outside, is open again; taken is what the body took
+-- the scope around, the last of `outside`, is open again; `taken` is what the body took
 pub record IsClosed (outer : List Table) (around : Table) (before taken : TakenNames)
     (old new : Resolver) : Type 0 where
   pub took : names_of taken ≡ names_of old.scopes.takes
@@ -52,7 +52,7 @@ pub record IsClosed (outer : List Table) (around : Table) (before taken : TakenN
   pub takes : names_of new.scopes.takes ≡ names_of before
   pub protos : new.protos ≡ old.protos
 
--- default values that those names take
+-- the default values of fields of those names
 abbrev pub defaults_taken : Names → List DefaultTree → List DefaultTree
 defaults_taken takes = filter (λ d. takes d.declaration.now.name)
 

@@ -19,14 +19,14 @@ use proto_tree::{BodyTree, DefaultTree};
 use std::alloc::{AllocError, Global};
 use x3d_lists::Items;
 
-/// What stands between the brackets and the braces of a prototype.
+/// The resolved interface and body of a prototype.
 #[derive(Drop)]
 pub struct Interior<'a> {
     pub defaults: Items<DefaultTree<'a>>,
     pub body: Items<BodyTree<'a>>,
 }
 
-/// A statement that is a wrong declaration stands for itself; any other declaration for nothing.
+/// Returns a statement for a wrong declaration; a right declaration leaves none.
 fn wrong_statement<'a>(wrong: Option<ExpandFault>) -> Option<BodyTree<'a>>
     ensures { result ≡ option_map (λ e. BodyTree.Wrong e) wrong }
 {
@@ -36,6 +36,8 @@ fn wrong_statement<'a>(wrong: Option<ExpandFault>) -> Option<BodyTree<'a>>
     }
 }
 
+/// Resolves a PROTO, which is in sight after its closing brace. Returns the first wrong
+/// declaration, in it or itself, or None. AllocError if memory runs out.
 #[cycle(resolve)]
 pub fn resolve_proto<'a>(
     alloc: Global,
@@ -51,7 +53,7 @@ pub fn resolve_proto<'a>(
     enter(alloc, resolver, proto)
 }
 
-/// A declaration in which nothing itself is wrong. It is in sight behind its closing brace.
+/// Resolves a declaration that isn't wrong itself. It is in sight after its closing brace.
 #[cycle(resolve)]
 fn enter<'a>(
     alloc: Global,
@@ -97,7 +99,7 @@ fn resolve_inside<'a>(
     Ok(Resolved { tree, wrong })
 }
 
-/// An IS in a default value takes nothing.
+/// Resolves the default values of an interface. An IS in one of them takes nothing.
 #[cycle(resolve)]
 fn resolve_interface<'a>(
     alloc: Global,
@@ -137,6 +139,8 @@ fn resolve_defaults<'a>(
     Ok(Resolved { tree, wrong: None })
 }
 
+/// Resolves the statements of a text or of a body, up to the first wrong declaration. AllocError if
+/// memory runs out.
 #[cycle(resolve)]
 pub fn resolve_body<'a>(
     alloc: Global,

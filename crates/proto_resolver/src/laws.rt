@@ -1,9 +1,9 @@
-//! What resolved texts stand for, each law the contract of a function that does nothing.
+//! What resolved texts stand for; each law is the contract of a function that does nothing.
 
 ghost use Rattle.proto_resolver.specs.Laws.{NumbersMeanTheirTrees, ResolvedTextsStandForTheSame};
 
-/// The statements of a text and of its tree come to the same: nodes, roots, helpers, routes, what
-/// is met on the way, and the fault with its line.
+/// The statements of a text and of its tree give the same: nodes, roots, helpers, routes, what is
+/// counted on the way, and the fault with its line.
 pub fn resolved_texts_stand_for_the_same()
     ensures { ResolvedTextsStandForTheSame }
 {}

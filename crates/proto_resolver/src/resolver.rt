@@ -1,4 +1,4 @@
-//! The scopes and the prototypes so far, and single steps on them.
+//! The state of the resolver: the scopes and the prototypes so far, and single steps on them.
 
 ghost use Rattle.std.specs.Prelude.{◌≡◌, ◌∷◌, ◌++◌, [], List, IfOk, if◌then◌else◌};
 ghost use Rattle.proto_meaning.specs.Sight.{Prototype, Sight, meant, taken_by};
@@ -21,7 +21,7 @@ use std::rc::Rc;
 use x3d_lists::{Items, Text};
 use x3d_values::NodeType;
 
-/// The prototypes in sight, and all that are closed.
+/// The prototypes in sight, and all prototypes whose braces are closed.
 #[derive(Drop)]
 pub struct Resolver<'a> {
     pub scopes: Scopes<'a>,
@@ -29,14 +29,15 @@ pub struct Resolver<'a> {
     pub protos: Items<ProtoTree<'a>>,
 }
 
-/// What a word before braces means, and who takes what stands between these.
+/// What a word before braces means, and which fields between the braces keep what they are given.
 #[derive(Drop)]
 pub struct Meaning<'a> {
     pub word: Word,
     pub taker: Taker<'a>,
 }
 
-/// What a word means.
+/// Returns what a word means: a node type, or else the nearest prototype of that name in sight, or
+/// Unknown. AllocError if memory runs out.
 pub fn meaning_of<'a>(scopes: &Scopes<'a>, word: &Text) -> Result<Meaning<'a>, AllocError>
     ensures { IfOk result (λ made. (ps : List Prototype) (s : Sight) → Shows ps scopes.now s
         → ((all : List Prototype) → Extends ps all → meant word.now s ≡ owner all made.word)
@@ -62,7 +63,7 @@ pub fn meaning_of<'a>(scopes: &Scopes<'a>, word: &Text) -> Result<Meaning<'a>, A
     }
 }
 
-/// Whether a node type or a prototype of the scope has that name.
+/// Reports whether a node type, or a prototype of the open scope, has that name.
 fn is_known(scopes: &Scopes<'_>, name: &Text) -> bool
     ensures { (ps : List Prototype) (s : Sight) → Shows ps scopes.now s
         → result ≡ spec.is_known name.now s }
@@ -70,7 +71,8 @@ fn is_known(scopes: &Scopes<'_>, name: &Text) -> bool
     NodeType::named(name.as_str()).is_some() || scopes.here.get(name).is_some()
 }
 
-/// The faults of a declaration itself.
+/// Checks the declaration itself: ProtoTwice if its name is taken, ProtoItself if it contains an
+/// instance of itself, EmptyBody if its body has no node; the first of these.
 pub fn check_declaration(scopes: &Scopes<'_>, proto: &ProtoText) -> Result<(), ExpandFault>
     ensures { (ps : List Prototype) (s : Sight) → Shows ps scopes.now s
         → result ≡ spec.checked proto.now s }
@@ -88,21 +90,21 @@ pub fn check_declaration(scopes: &Scopes<'_>, proto: &ProtoText) -> Result<(), E
 }
 
 impl<'a> Resolver<'a> {
-    /// Nothing is taken so far. Gives what was.
+    /// Starts an empty set of taken names, and returns the set so far.
     pub fn set_aside(&mut self, alloc: Global) -> TakenNames<'a>
         ensures { IsAside self.old result self.new }
     {
         mem::replace(&mut self.scopes.takes, TakenNames::new(alloc))
     }
 
-    /// That is taken again.
+    /// Goes back to an earlier set of taken names.
     pub fn put_back(&mut self, before: TakenNames<'a>)
         ensures { IsBack self.old before.entry self.new }
     {
         drop(mem::replace(&mut self.scopes.takes, before));
     }
 
-    /// An IS takes the name.
+    /// Records that an IS takes the name. AllocError if memory runs out.
     pub fn take(&mut self, name: &'a Text) -> Result<(), AllocError>
         ensures { IfOk result (λ _. IsTaking name.now self.old self.new) }
     {
@@ -110,7 +112,8 @@ impl<'a> Resolver<'a> {
         Ok(())
     }
 
-    /// Opens a scope. Gives what the body around takes so far.
+    /// Opens a scope, and returns the names that the body around has taken so far. AllocError if
+    /// memory runs out.
     pub fn open(&mut self, alloc: Global) -> Result<TakenNames<'a>, AllocError>
         ensures { IfOk result (λ before. IsScopeOpen self.old before self.new) }
     {
@@ -119,7 +122,8 @@ impl<'a> Resolver<'a> {
         Ok(mem::replace(&mut self.scopes.takes, TakenNames::new(alloc)))
     }
 
-    /// The scope around is open again. Gives what the body took.
+    /// Goes back to the scope around, with the names that its body has taken, and returns those
+    /// that the closed body took.
     pub fn close(&mut self, before: TakenNames<'a>) -> TakenNames<'a>
         ensures { (outer : List Table) (around : Table)
             → self.old.scopes.outside.items ≡ outer ++ around ∷ []
@@ -147,7 +151,7 @@ fn keep<'a>(
     Ok(())
 }
 
-/// Those that some IS takes.
+/// Returns the defaults whose fields some IS takes.
 fn taken_defaults<'a>(
     alloc: Global,
     defaults: Items<DefaultTree<'a>>,
@@ -163,7 +167,8 @@ fn taken_defaults<'a>(
     Ok(trees)
 }
 
-/// The prototype has the next number, and takes what was taken.
+/// Declares the prototype, with the next number, in the open scope; its ISs take `taken`. Defaults
+/// that no IS takes are dropped. AllocError if memory runs out.
 pub fn declare<'a>(
     alloc: Global,
     resolver: &mut Resolver<'a>,

@@ -17,11 +17,11 @@ pub struct TakenNames<'a> {
     pub names: BTreeSet<&'a str>,
 }
 
-/// What stands between the braces of a node goes to the node. That of an instance goes where an IS
-/// in the body of its prototype takes it.
+/// Which fields between braces keep what they are given. A node keeps all. An instance keeps those
+/// that some IS in the body of its prototype takes.
 #[derive(Drop)]
 pub struct Taker<'a> {
-    /// Of an instance.
+    /// The names that are taken, for an instance; None for a node.
     pub taken: Option<Rc<TakenNames<'a>>>,
 }
 
@@ -41,15 +41,16 @@ pub struct Table<'a> {
 /// The prototypes in sight at some place of a text.
 #[derive(Drop)]
 pub struct Scopes<'a> {
-    /// Those of the scope that is open.
+    /// The prototypes of the scope that is open.
     pub here: Table<'a>,
-    /// Those of the scopes around it, the nearest last.
+    /// The prototypes of the scopes around it, the nearest last.
     pub outside: Vec<Table<'a>>,
-    /// What the body that is open takes so far.
+    /// The names that the ISs of the open body have taken so far.
     pub takes: TakenNames<'a>,
 }
 
 impl<'a> TakenNames<'a> {
+    /// Returns an empty set.
     pub fn new(alloc: Global) -> TakenNames<'a>
         ensures { names_of result ≡ no_names }
     {
@@ -58,6 +59,7 @@ impl<'a> TakenNames<'a> {
         }
     }
 
+    /// Reports whether the set has that name.
     #[tactic(auto, unfolding(crate::specs::Held::names_of))]
     pub fn has(&self, name: &Text) -> bool
         ensures { result ≡ names_of self.now name.now }
@@ -65,6 +67,7 @@ impl<'a> TakenNames<'a> {
         self.names.contains(name.as_str())
     }
 
+    /// Adds a name. AllocFailed if memory runs out.
     pub fn take(&mut self, name: &'a Text) -> Result<(), AllocFailed<&'a str>>
         ensures { IfOk result (λ _. names_of self.new ≡ with_name name.now (names_of self.old)) }
     {
@@ -74,7 +77,7 @@ impl<'a> TakenNames<'a> {
 }
 
 impl<'a> Taker<'a> {
-    /// Whether what stands at that field goes anywhere.
+    /// Reports whether the field of that name keeps what it is given.
     pub fn keeps(&self, name: &Text) -> bool
         ensures { result ≡ is_kept (taken_names self.now) name.now }
     {
@@ -86,6 +89,7 @@ impl<'a> Taker<'a> {
 }
 
 impl<'a> Table<'a> {
+    /// Returns an empty table.
     pub fn new(alloc: Global) -> Table<'a>
         ensures { found result ≡ no_entries }
     {
@@ -94,6 +98,7 @@ impl<'a> Table<'a> {
         }
     }
 
+    /// Returns the prototype of that name.
     #[tactic(auto, unfolding(crate::specs::Held::found))]
     pub fn get(&self, name: &Text) -> Option<&KnownProto<'a>>
         ensures { option_map (λ e. e.now) result ≡ found self.now name.now }
@@ -101,6 +106,7 @@ impl<'a> Table<'a> {
         self.prototypes.get(name.as_str())
     }
 
+    /// Adds a prototype under its name. AllocFailed if memory runs out.
     pub fn declare(
         &mut self,
         name: &'a Text,
@@ -114,7 +120,7 @@ impl<'a> Table<'a> {
     }
 }
 
-/// The prototype of that name in these scopes, the nearest last.
+/// Returns the prototype of that name in these scopes, the nearest last.
 fn seen<'a, 'b>(scopes: &'b [Table<'a>], name: &Text) -> Option<&'b KnownProto<'a>>
     ensures { option_map (λ e. e.now) result ≡ seen scopes.now name.now }
 {
@@ -128,7 +134,7 @@ fn seen<'a, 'b>(scopes: &'b [Table<'a>], name: &Text) -> Option<&'b KnownProto<'
 }
 
 impl<'a> Scopes<'a> {
-    /// Before a text.
+    /// Returns the scopes at the start of a text.
     pub fn new(alloc: Global) -> Scopes<'a>
         ensures here { found result.here ≡ no_entries }
         ensures outside { result.outside.items ≡ [] }
@@ -141,7 +147,7 @@ impl<'a> Scopes<'a> {
         }
     }
 
-    /// The prototype of that name that is in sight.
+    /// Returns the nearest prototype of that name that is in sight.
     pub fn get(&self, name: &Text) -> Option<&KnownProto<'a>>
         ensures { option_map (λ e. e.now) result ≡ in_sight self.now name.now }
     {

@@ -16,14 +16,14 @@ use proto_tree::{FieldTree, GivenTree, ItemTree, NodeTree};
 use std::alloc::{AllocError, Global};
 use x3d_lists::{Items, Text};
 
-/// What was resolved, and the first wrong declaration in it, behind which nothing is.
+/// What was resolved, and the first wrong declaration in it, after which nothing follows.
 #[derive(Drop)]
 pub struct Resolved<T> {
     pub tree: T,
     pub wrong: Option<ExpandFault>,
 }
 
-/// A declaration that is wrong stands for itself; any other for nothing.
+/// Returns an item for a wrong declaration; a right declaration leaves none.
 fn wrong_item<'a>(wrong: Option<ExpandFault>) -> Option<ItemTree<'a>>
     ensures { result ≡ option_map (λ e. ItemTree.Wrong e) wrong }
 {
@@ -33,7 +33,7 @@ fn wrong_item<'a>(wrong: Option<ExpandFault>) -> Option<ItemTree<'a>>
     }
 }
 
-/// Appends the tree, if there is one.
+/// Appends the tree, if there is one. AllocError if memory runs out.
 pub fn append<T: Drop>(trees: &mut Items<T>, tree: Option<T>) -> Result<(), AllocError>
     ensures { IfOk result (λ _. trees.new ≡ trees.old ++ one_or_none tree) }
 {
@@ -43,6 +43,8 @@ pub fn append<T: Drop>(trees: &mut Items<T>, tree: Option<T>) -> Result<(), Allo
     }
 }
 
+/// Resolves a node and all that is inside, up to the first wrong declaration. AllocError if memory
+/// runs out.
 #[cycle(resolve)]
 pub fn resolve_node<'a>(
     alloc: Global,
@@ -82,7 +84,7 @@ fn resolve_full<'a>(
     Ok(Resolved { tree, wrong })
 }
 
-/// What stands between braces.
+/// Resolves the items between braces.
 #[cycle(resolve)]
 fn resolve_between<'a>(
     alloc: Global,
@@ -163,7 +165,8 @@ fn resolve_item<'a>(
     }
 }
 
-/// What is kept takes names; what goes nowhere only declares.
+/// Resolves what a field is given. If it is kept, its ISs take names; if not, only its PROTOs are
+/// declared.
 #[cycle(resolve)]
 fn resolve_field<'a>(
     alloc: Global,
@@ -190,7 +193,7 @@ fn resolve_field<'a>(
     }
 }
 
-/// A value that goes nowhere.
+/// Leaves out a value that no IS takes; its PROTOs are declared.
 #[cycle(resolve)]
 fn leave_out<'a>(
     alloc: Global,
@@ -208,6 +211,7 @@ fn leave_out<'a>(
     Ok(Resolved { tree, wrong })
 }
 
+/// Resolves what is given to a field that keeps it. AllocError if memory runs out.
 #[cycle(resolve)]
 pub fn resolve_given<'a>(
     alloc: Global,

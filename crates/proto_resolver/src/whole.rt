@@ -12,7 +12,8 @@ use proto_tree::TextTree;
 use std::alloc::{AllocError, Global};
 use x3d_lists::Items;
 
-/// The tree of a text. A declaration that is wrong stands in it as such.
+/// Returns the tree of a text. A wrong declaration is in it as a fault, and ends the statements.
+/// AllocError if memory runs out.
 pub fn resolve<'a>(alloc: Global, document: &'a Document) -> Result<TextTree<'a>, AllocError>
     ensures { IfOk result (λ text.
         IsResolved document.now.statements text.protos text.statements) }

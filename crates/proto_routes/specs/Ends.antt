@@ -1,4 +1,4 @@
--- What ends stand for.
+-- What ends mean, in the terms of the definition.
 use Rattle.std.specs.Prelude.{nat_lt, if◌then◌else◌, List, [], ◌∷◌, ◌++◌, length, Result, Ok, Err}
 use Rattle.std.specs.List.{fold}
 use Rattle.std.specs.Borrow.{Bor}
@@ -22,10 +22,10 @@ abbrev pub list : Ends → List End
 list (One end) = end ∷ []
 list (Both' p first q second) = list first ++ list second
 
--- those that wait, of which the last comes first
+-- the ends that wait; the last on the stack comes first
 abbrev pub waiting : List (Bor Ends) → List End
 waiting left = fold (λ behind s. list s.now ++ behind) [] left
 
--- as many as a document may have routes, or fewer
+-- TooLarge if there are more than a document may have routes
 abbrev pub few : {X : Type 0} → List X → Result (List X) ExpandFault
 few xs = if nat_lt 65536 (length xs) then Err (fault TooLarge 0) else Ok xs

@@ -1,4 +1,4 @@
--- What ROUTEs between ends that are known mean.
+-- The routes of ROUTEs whose ends are known.
 use Rattle.std.specs.Prelude.{ℕ, List, [], map, Option, Some, None}
 use Rattle.std.specs.List.{flat_map}
 use Rattle.proto_flat.specs.declared.flat.FlatEnd.{FlatEnd}
@@ -10,16 +10,16 @@ use Rattle.proto_routes.specs.declared.ends.Ends.{Ends}
 use Rattle.proto_routes.specs.declared.routes.Wire.{Wire}
 use Rattle.proto_routes.specs.Ends.{end, list}
 
--- the ends at a side
+-- the ends of one side
 abbrev pub ends_at : {A : Type 0} → Option (Rc Ends A) → List FlatEnd
 ends_at None = []
 ends_at (Some shared) = map end (list shared.value)
 
--- all pairs of them
+-- all pairs of its ends
 abbrev pub routes_of_wire : Wire → List FlatRoute
 routes_of_wire w = pairs w.line (ends_at w.source) (ends_at w.target)
 
--- the same by ends as they are kept
+-- the same, from the ends as they are stored
 abbrev pub routes_from : ℕ → List End → End → List FlatRoute
 routes_from line targets source =
     map (λ t. record { line = line; source = end source; target = end t }) targets

@@ -1,4 +1,4 @@
--- ROUTEs one behind the other.
+-- ROUTEs in a row.
 use Rattle.std.specs.Prelude.{◌≡◌, ◌⊎◌, ◌≤◌, List, [], ◌∷◌, ◌++◌, length, Result, Ok, Err}
 use Rattle.std.specs.List.{flat_map, fold}
 use Rattle.std.specs.Borrow.{Bor}
@@ -15,7 +15,7 @@ abbrev pub wires : Wires → List Wire
 wires (One wire) = wire ∷ []
 wires (Both' p first q second) = wires first ++ wires second
 
--- those that wait, of which the last comes first
+-- the ROUTEs that wait; the last on the stack comes first
 abbrev pub wires_waiting : List (Bor Wires) → List Wire
 wires_waiting left = fold (λ behind w. wires w.now ++ behind) [] left
 
@@ -23,7 +23,8 @@ wires_waiting left = fold (λ behind w. wires w.now ++ behind) [] left
 abbrev pub means : List Wire → List FlatRoute
 means wires = flat_map routes_of_wire wires
 
--- of those that waited, some routes were made behind those before, and the others still wait
+-- of the ROUTEs that waited, some were made into routes, after those made before; the others still
+-- wait
 abbrev pub StepsOn : List FlatRoute → List Wire → Result (List FlatRoute) ExpandFault → List Wire
     → Type 0
 StepsOn routes before (Ok made) after =

@@ -1,4 +1,5 @@
-//! Ends of ROUTEs. Those of an instance's field are put together from others without copying these.
+//! Ends of ROUTEs. The ends of an instance's field are put together from others without copying
+//! them.
 
 ghost use Rattle.std.specs.Prelude.{◌≡◌, ◌++◌, ◌∷◌, [], IfOk};
 ghost use Rattle.x3d_lists.specs.Answers.{Gives};
@@ -23,22 +24,22 @@ pub enum End<'a> {
     WrongWay,
 }
 
-/// One end or more: a part that stands in many lists is there once. A drop of it calls itself once
-/// for each level, so whoever makes deep ones keeps each part, and lets go of the last first.
+/// One end or more. A part of several lists is stored once. Dropping an `Ends` recurses once for
+/// each level; so whoever builds deep ones must keep each part, and drop the last first.
 #[derive(Drop)]
 pub enum Ends<'a> {
     One(End<'a>),
     Both(Rc<Ends<'a>>, Rc<Ends<'a>>),
 }
 
-/// An end alone.
+/// Returns an end alone. AllocError if memory runs out.
 pub fn one(alloc: Global, end: End<'_>) -> Result<Rc<Ends<'_>>, AllocError>
     ensures { IfOk result (λ made. list made.value ≡ end.entry ∷ []) }
 {
     Ok(Rc::new(alloc, Ends::One(end))?)
 }
 
-/// The first ends and then the others.
+/// Returns the first ends and then the second. AllocError if memory runs out.
 pub fn both<'a>(
     alloc: Global,
     first: Rc<Ends<'a>>,
@@ -50,7 +51,7 @@ pub fn both<'a>(
     Ok(Rc::new(alloc, Ends::Both(first, second))?)
 }
 
-/// The end with a copy of the field's name.
+/// Returns the end with a copy of the field's name. AllocError if memory runs out.
 pub fn to_flat(alloc: Global, end: End<'_>) -> Result<FlatEnd, AllocError>
     ensures { IfOk result (λ e. e ≡ spec.end end.entry) }
 {
@@ -62,7 +63,7 @@ pub fn to_flat(alloc: Global, end: End<'_>) -> Result<FlatEnd, AllocError>
     }
 }
 
-/// The end is found, or the two parts wait, of which the first is the next.
+/// Adds an end to those found; or pushes both parts onto the stack, the first on top.
 fn open<'a, 'b>(
     next: &'b Ends<'a>,
     found: &mut Items<End<'a>>,
@@ -81,8 +82,8 @@ fn open<'a, 'b>(
     }
 }
 
-/// The ends in their order; TooLarge where there are more than 65,536. It takes as long as there
-/// are ends.
+/// Returns the ends in their order, in time proportional to their number. TooLarge if there are
+/// more than 65,536; Memory if memory runs out.
 pub fn listed<'a>(alloc: Global, ends: &Ends<'a>) -> Result<Items<End<'a>>, ExpandFault>
     ensures { Gives memory (λ es. es) result (few (list ends.now)) }
 {

@@ -1,4 +1,4 @@
-//! Parts that are kept until all is done, so that none lets go of a long row of others.
+//! Parts that are kept until all is done, so that no drop recurses through a long row of others.
 
 ghost use Rattle.std.specs.Prelude.{◌≡◌, ◌++◌, IfOk};
 ghost use Rattle.proto_routes.specs.Ends.{list};
@@ -9,8 +9,9 @@ use crate::wires::{Wires, both_wires};
 use std::alloc::{AllocError, Global};
 use std::rc::Rc;
 
-/// The branches that were made. A drop of a branch drops its parts where nobody else has them,
-/// and these theirs: so each branch is kept here until none is needed, and the last goes first.
+/// The branches that were made. Dropping a branch drops its parts, unless something else holds
+/// them, and so on down. So each branch is kept here until none is needed, and then the last is
+/// dropped first.
 #[derive(Drop)]
 pub struct Branches<'a> {
     pub ends: Vec<Rc<Ends<'a>>>,
@@ -18,6 +19,7 @@ pub struct Branches<'a> {
 }
 
 impl<'a> Branches<'a> {
+    /// Returns an empty store.
     pub fn new(alloc: Global) -> Branches<'a> {
         Branches {
             ends: Vec::new(alloc),
@@ -25,7 +27,8 @@ impl<'a> Branches<'a> {
         }
     }
 
-    /// The first ends and then the others.
+    /// Returns the first ends and then the second, and keeps the branch. AllocError if memory runs
+    /// out.
     pub fn both(
         &mut self,
         alloc: Global,
@@ -40,7 +43,8 @@ impl<'a> Branches<'a> {
         Ok(made)
     }
 
-    /// The first ROUTEs and then the others.
+    /// Returns the first ROUTEs and then the second, and keeps the branch. AllocError if memory
+    /// runs out.
     pub fn both_wires(
         &mut self,
         alloc: Global,
@@ -55,7 +59,7 @@ impl<'a> Branches<'a> {
         Ok(made)
     }
 
-    /// Lets go of all, the last first.
+    /// Drops all branches, the last first.
     pub fn let_go(self) {
         let mut kept = self;
         for _ in 0..u64::MAX {

@@ -12,7 +12,7 @@ use std::alloc::{AllocError, Global};
 use std::rc::Rc;
 use x3d_lists::Items;
 
-/// A ROUTE: all ends at each side, or none.
+/// A ROUTE: the ends at each side. None is a side without ends.
 #[derive(Drop)]
 pub struct Wire<'a> {
     pub line: u32,
@@ -20,7 +20,7 @@ pub struct Wire<'a> {
     pub target: Option<Rc<Ends<'a>>>,
 }
 
-/// The routes from one source.
+/// Adds the routes from one source.
 fn push_from(
     alloc: Global,
     line: u32,
@@ -43,7 +43,7 @@ fn push_from(
     Ok(routes)
 }
 
-/// The routes from each source in turn to each target.
+/// Adds the routes from each source in turn to each target.
 fn push_pairs(
     alloc: Global,
     line: u32,
@@ -60,14 +60,14 @@ fn push_pairs(
     Ok(routes)
 }
 
-/// Whether there is room for so many pairs behind so many routes.
+/// Reports whether there is room for all pairs after that many routes.
 fn has_room(routes: usize, sources: usize, targets: usize) -> bool
     ensures { result ≡ not (nat_lt (65536 - routes) (sources * targets)) }
 {
     MAX_ROUTES.saturating_sub(routes) >= sources.saturating_mul(targets)
 }
 
-/// The routes between so many ends, behind those before, if there is room for them.
+/// Adds the routes between these ends. TooLarge if there is no room for them.
 fn push_between(
     alloc: Global,
     line: u32,
@@ -101,7 +101,8 @@ fn push_ends(
     push_between(alloc, line, sources.as_slice(), targets.as_slice(), routes)
 }
 
-/// The routes that a ROUTE means, behind those before.
+/// Adds the routes of a ROUTE to those before. TooLarge if there are then more than 65,536; Memory
+/// if memory runs out.
 pub fn push_wire(
     alloc: Global,
     wire: &Wire<'_>,

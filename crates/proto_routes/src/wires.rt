@@ -1,4 +1,4 @@
-//! ROUTEs one behind the other, put together from others without copying these.
+//! ROUTEs in a row, put together from others without copying them.
 
 ghost use Rattle.std.specs.Prelude.{◌≡◌, ◌≤◌, ◌++◌, ◌∷◌, [], length, IfOk};
 ghost use Rattle.x3d_lists.specs.Answers.{Gives};
@@ -12,21 +12,21 @@ use std::alloc::{AllocError, Global};
 use std::rc::Rc;
 use x3d_lists::Items;
 
-/// One ROUTE or more. What is said of a drop of `Ends` holds here too.
+/// One ROUTE or more. A drop recurses, as for `Ends`.
 #[derive(Drop)]
 pub enum Wires<'a> {
     One(Wire<'a>),
     Both(Rc<Wires<'a>>, Rc<Wires<'a>>),
 }
 
-/// A ROUTE alone.
+/// Returns a ROUTE alone. AllocError if memory runs out.
 pub fn one_wire<'a>(alloc: Global, wire: Wire<'a>) -> Result<Rc<Wires<'a>>, AllocError>
     ensures { IfOk result (λ made. wires made.value ≡ wire.entry ∷ []) }
 {
     Ok(Rc::new(alloc, Wires::One(wire))?)
 }
 
-/// The first ROUTEs and then the others.
+/// Returns the first ROUTEs and then the second. AllocError if memory runs out.
 pub fn both_wires<'a>(
     alloc: Global,
     first: Rc<Wires<'a>>,
@@ -38,7 +38,8 @@ pub fn both_wires<'a>(
     Ok(Rc::new(alloc, Wires::Both(first, second))?)
 }
 
-/// The first of what waits: its routes are made behind those before, or its two parts wait.
+/// Makes the routes of the next that waits; or pushes its two parts onto the stack, the first on
+/// top.
 fn step<'a, 'b>(
     alloc: Global,
     next: &'b Wires<'a>,
@@ -59,8 +60,9 @@ fn step<'a, 'b>(
     }
 }
 
-/// The routes that ROUTEs mean, in their order; of each all pairs of its ends, sources first. With
-/// more than 65,536 in all the answer is TooLarge. It takes as long as there are ROUTEs and routes.
+/// Returns the routes of the ROUTEs, in their order; for each ROUTE all pairs of its ends, source
+/// by source. Takes time proportional to the number of ROUTEs and routes. TooLarge if there are
+/// more than 65,536 routes; Memory if memory runs out.
 pub fn routes_of(alloc: Global, whole: &Wires<'_>) -> Result<Items<FlatRoute>, ExpandFault>
     ensures { Gives memory (λ rs. rs) result (few (means (wires whole.now))) }
 {

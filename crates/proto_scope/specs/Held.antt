@@ -1,4 +1,5 @@
--- A name scope of the program as proto_meaning has it, and the steps of proto_meaning on a scope.
+-- A name scope of the program, in the terms of proto_meaning, and the steps of proto_meaning that
+-- change a scope.
 use Rattle.std.specs.Prelude.{ℕ, if◌then◌else◌, List, [], ◌++◌, map, Option, Some, None, slice_set}
 use Rattle.std.specs.Borrow.{Bor}
 use Rattle.std.specs.Option.{option_map_or}
@@ -27,7 +28,7 @@ shown s =
       given = given.shown s.given ++ given.shown s.defaults;
     }
 
--- the tables are those of the braces, and of what is given
+-- the tables hold the names of the braces, and what is given
 pub record Sound (s : Scope) : Type 0 where
   pub names : Knows s.names (map braces_of s.braces.items)
   pub defaults : given.IsHeld s.defaults
@@ -35,17 +36,17 @@ pub record Sound (s : Scope) : Type 0 where
 
 -- ---- proto_meaning's steps
 
--- as `begin` has it
+-- as in `begin`
 abbrev pub nothing : meaning.Scope
 nothing =
     record { braces = []; routes = λ all. []; ends = λ all name. []; interface = []; given = [] }
 
--- as `close` does
+-- as in `close`
 abbrev pub closed_at : ℕ → Option Name → meaning.Stands → meaning.Scope → meaning.Scope
 closed_at at name what s =
     record s { braces = slice_set s.braces at (record { name = name; stands = Some what }) }
 
--- as `note_route` does
+-- as in `note_route`
 abbrev pub with_route : RouteText → meaning.Scope → meaning.Scope
 with_route r s =
     record s {
@@ -53,11 +54,11 @@ with_route r s =
           ++ pairs r.line (sources s.braces all r.source) (targets s.braces all r.target);
     }
 
--- as `close_instance` does
+-- as in `close_instance`
 abbrev pub with_routes : List FlatRoute → meaning.Scope → meaning.Scope
 with_routes made s = record s { routes = λ all. s.routes all ++ made }
 
--- as `join` does
+-- as in `join`
 abbrev pub with_join : Name → ℕ → Name → meaning.Scope → meaning.Scope
 with_join outer at field s =
     record s {

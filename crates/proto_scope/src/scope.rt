@@ -35,11 +35,11 @@ pub struct Scope<'t, 'a> {
     pub names: Names<'a>,
     pub joins: Vec<Join<'a>>,
     pub routes: Vec<RoutePart<'a>>,
-    /// Of the prototype whose body this is, once the default values are put in.
+    /// The interface of the prototype whose body this is, once the default values are added.
     pub interface: Option<&'t Interface<'a>>,
     /// What the instance is given.
     pub given: Given<'a>,
-    /// The default values of fields that it gives no value.
+    /// The default values of the fields that the instance gives no value.
     pub defaults: Given<'a>,
 }
 
@@ -56,7 +56,7 @@ fn is_same(one: &Option<Text>, other: &Option<Text>) -> bool
 }
 
 impl<'t, 'a> Scope<'t, 'a> {
-    /// A scope that begins.
+    /// Returns a scope that begins.
     pub fn new(alloc: Global) -> Scope<'t, 'a>
         ensures shown { shown result ≡ spec.nothing }
         ensures sound { Sound result }
@@ -72,7 +72,8 @@ impl<'t, 'a> Scope<'t, 'a> {
         }
     }
 
-    /// Braces open, with the name that DEF gives them. Gives how many of the scope opened before.
+    /// Opens braces, with the name that DEF gives them. Returns the number of braces of the scope
+    /// that opened before. AllocError if memory runs out.
     pub fn open(&mut self, name: &'a Option<Text>) -> Result<usize, AllocError>
         requires { Sound self.old }
         ensures at { IfOk result (λ at. at ≡ length (shown self.old).braces) }
@@ -88,7 +89,7 @@ impl<'t, 'a> Scope<'t, 'a> {
         Ok(at)
     }
 
-    /// Whether the braces behind so many are open, and have that name.
+    /// Reports whether the braces number `at` are open, and have that name.
     fn is_open(&self, name: &Option<Text>, at: usize) -> bool
         ensures { result ≡ true → slice_get (shown self.now).braces at ≡ Some (opened name.now) }
     {
@@ -124,9 +125,9 @@ impl<'t, 'a> Scope<'t, 'a> {
         }
     }
 
-    /// The braces behind so many others, which opened with that name, close, and stand for the node
-    /// of that number, and for an instance if there is one. Where these aren't open, memory is said
-    /// to be refused.
+    /// Closes the braces number `at`, which opened with that name: they stand for the node of that
+    /// number, and for the instance if there is one. AllocError if these braces aren't open, or if
+    /// memory runs out.
     pub fn close(
         &mut self,
         name: &'a Option<Text>,
@@ -147,7 +148,7 @@ impl<'t, 'a> Scope<'t, 'a> {
         Ok(())
     }
 
-    /// The node that USE takes.
+    /// Returns the node that USE takes.
     pub fn used(&self, name: &Text) -> Option<u32>
         requires { Sound self.now }
         ensures { result ≡ meaning.used name.now (shown self.now).braces }
@@ -155,7 +156,7 @@ impl<'t, 'a> Scope<'t, 'a> {
         self.names.used(name)
     }
 
-    /// The end of a ROUTE names the last braces of that name.
+    /// Returns the end of a ROUTE; it names the last braces of that name.
     fn side(&self, place: &'a RouteEnd) -> Side<'a>
         requires { Sound self.now }
         ensures at { result.at ≡ last_from 0 place.now.node (shown self.now).braces }
@@ -167,7 +168,7 @@ impl<'t, 'a> Scope<'t, 'a> {
         }
     }
 
-    /// A ROUTE stands behind the others.
+    /// Adds a ROUTE after the others. AllocError if memory runs out.
     pub fn note_route(&mut self, route: &'a RouteText) -> Result<(), AllocError>
         requires { Sound self.old }
         ensures shown { IfOk result (λ _.
@@ -184,7 +185,7 @@ impl<'t, 'a> Scope<'t, 'a> {
         Ok(())
     }
 
-    /// The ROUTEs of the body of an instance stand behind the others.
+    /// Adds the ROUTEs of the body of an instance after the others. AllocError if memory runs out.
     pub fn add_routes(&mut self, made: Option<Rc<Wires<'a>>>) -> Result<(), AllocError>
         requires { Sound self.old }
         ensures shown { IfOk result (λ _. shown self.new
@@ -198,7 +199,8 @@ impl<'t, 'a> Scope<'t, 'a> {
         Ok(())
     }
 
-    /// An IS joins a field of the braces behind so many others to a field of the interface.
+    /// Records that an IS joins a field of the braces number `at` to a field of the interface.
+    /// AllocError if memory runs out.
     pub fn join(&mut self, outer: &'a Text, at: usize, field: &'a Text) -> Result<(), AllocError>
         requires { Sound self.old }
         ensures shown { IfOk result (λ _. shown self.new
@@ -209,7 +211,7 @@ impl<'t, 'a> Scope<'t, 'a> {
         Ok(())
     }
 
-    /// The field of the interface that an IS names.
+    /// Returns the field of the interface that an IS names.
     pub fn outer(&self, name: &Text) -> Option<KnownField>
         ensures { option_map (field_named name.now) result
             ≡ find (λ (f : Field). bytes_eq f.name name.now) (shown self.now).interface }
@@ -220,7 +222,7 @@ impl<'t, 'a> Scope<'t, 'a> {
         }
     }
 
-    /// What an IS of that name hands on.
+    /// Returns the value that an IS of that name hands on.
     pub fn value(&self, name: &Text) -> Option<&Rc<RawValue<u32>>>
         requires { Sound self.now }
         ensures { option_map (λ v. v.now.value) result ≡ value_of name.now (shown self.now).given }
@@ -231,8 +233,8 @@ impl<'t, 'a> Scope<'t, 'a> {
         }
     }
 
-    /// The default values are put in: ISs find the interface, and what the instance is given, and
-    /// then those.
+    /// Begins the body, after the default values are added: an IS then finds the interface, and
+    /// first what the instance is given, then the defaults.
     pub fn begin_body(
         &mut self,
         interface: &'t Interface<'a>,
@@ -253,7 +255,8 @@ impl<'t, 'a> Scope<'t, 'a> {
         self.defaults = defaults;
     }
 
-    /// The ends of the interface's fields, once all braces are closed.
+    /// Returns the ends of the interface's fields; all braces of the scope are closed. AllocError
+    /// if memory runs out.
     pub fn ends(&self, alloc: Global, kept: &mut Branches<'a>) -> Result<JoinedEnds<'a>, AllocError>
         ensures { IfOk result (λ joined. ends_in joined
             ≡ (shown self.now).ends (shown self.now).braces) }
@@ -261,7 +264,8 @@ impl<'t, 'a> Scope<'t, 'a> {
         joined_ends(alloc, kept, self.braces.as_slice(), self.joins.as_slice())
     }
 
-    /// The ROUTEs of the scope, once all braces are closed.
+    /// Returns the ROUTEs of the scope, whose braces are all closed, or None. AllocError if memory
+    /// runs out.
     pub fn wires(
         &self,
         alloc: Global,

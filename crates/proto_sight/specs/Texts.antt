@@ -1,5 +1,5 @@
--- What the parts of a text declare and take, by the text itself: the steps of proto_meaning, part
--- by part.
+-- What the parts of a text declare and take, by the text itself: the steps of proto_meaning for
+-- each part.
 use Rattle.std.specs.Prelude.{ℕ, Bool, false, not, ◌&&◌, ◌||◌, if◌then◌else◌, List, [], ◌∷◌, ◌++◌, Result, Ok, Err, is_some}
 use Rattle.std.specs.List.{list_any}
 use Rattle.std.specs.Str.{bytes_eq}
@@ -55,7 +55,7 @@ sees_given given.Nothing s = Ok s
 sees_given (given.Value v) s = sees_value v s
 sees_given (given.Is name) s = Ok (record s { taken = with_name name s.taken })
 
--- what is kept takes names; what goes nowhere only declares
+-- a value that is kept takes names; a value that no IS takes only declares
 abbrev pub sees_field : Bool → Given NodeText → Look
 sees_field kept g = if kept then sees_given g else aside (sees_given g)
 
@@ -76,12 +76,13 @@ parts p =
     map-ProtoText BodyItem NodeText Statement ProtoText Item Node Stated Proto
     flat.item flat.node flat.statement flat.proto (out-ProtoText p)
 
--- the prototype of a text under that name, by the prototypes around it and what its ISs take
+-- the prototype of a text under that name, by the prototypes around it and the fields that its ISs
+-- take
 unfoldable pub prototype_of : Name → ProtoText → List Prototype → Names → Prototype
 prototype_of name p outside takes =
     flat.prototype (parts p).line name (parts p).interface (parts p).body outside takes
 
--- behind its closing brace a prototype is declared in the scope around it
+-- after its closing brace a prototype is declared in the scope around it
 abbrev pub closed : ProtoText → Sight → Sight → Sight
 closed p around s =
     record around {
@@ -114,6 +115,6 @@ enters p s =
     and_see (sees_inside (out-ProtoText p).interface (out-ProtoText p).body (opened s)) (λ t.
     Ok (closed p s t))
 
--- first the declaration itself, and then those inside
+-- faults of the declaration itself come first, then those of the declarations inside
 unfoldable pub declares : ProtoText → Look
 declares p s = and_see (checked p s) (λ _. enters p s)

@@ -1,5 +1,5 @@
-//! Parts of the check of a declaration (ISO/IEC 19775-1, 4.4.4, prototypes): whether a node of its
-//! own name stands in it, and whether its body has a node, by the text alone.
+//! Parts of the check of a declaration (ISO/IEC 19775-1, 4.4.4, prototypes): whether it contains a
+//! node of its own name, and whether its body has a node, by the text alone.
 #![tactic(auto)]
 
 mod nodes;

@@ -17,7 +17,7 @@ fn is_node(statement: &Statement) -> bool
     }
 }
 
-/// Whether a statement of the body is a node.
+/// Reports whether a statement of the body is a node.
 pub fn has_node(body: &[Statement]) -> bool
     ensures { result ≡ spec.has_node body.now }
 {

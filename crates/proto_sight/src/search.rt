@@ -10,16 +10,17 @@ ghost use Rattle.proto_sight.specs.Texts as spec;
 use classic_tree::{BodyItem, Declaration, Given, NodeText, ProtoText, RawValue, Statement};
 use x3d_lists::Text;
 
-/// Whether the texts are equal.
+/// Reports whether the texts are equal.
 pub fn same(a: &Text, b: &Text) -> bool
     ensures { result ≡ bytes_eq a.now b.now }
 {
     a.as_bytes() == b.as_bytes()
 }
 
-/// Looks for a node of that type between the brackets and braces of a prototype. `hidden` says
-/// whether a PROTO of that name stands before, in a scope inside of the one that is searched. Gives
-/// the line of the first node that isn't hidden, or whether the name is hidden from there on.
+/// Searches the interface and the body of a prototype for a node with the word `own`. `hidden` says
+/// whether a PROTO of that name was declared before, in a scope inside the one that is searched.
+/// Returns Err with the line of the first node that isn't hidden, or Ok with whether the name is
+/// hidden after the part.
 #[cycle(find)]
 pub fn find_inside(own: &Text, proto: &ProtoText, hidden: bool) -> Result<bool, u32>
     ensures { result

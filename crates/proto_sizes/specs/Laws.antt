@@ -1,5 +1,5 @@
--- What instances come to hangs on the sizes of what they are given; and so a document in which too
--- many stand is TooLarge, whatever comes behind them.
+-- What instances give depends only on the sizes of what they are given; so a document with too many
+-- instances is TooLarge, whatever follows them.
 use Rattle.std.specs.Prelude.{◌≡◌, ◌⊎◌, ℕ, ◌+◌, ◌*◌, ◌<◌, false, List, [], ◌∷◌, ◌++◌, length, map, Option, Some, Ok, Err}
 use Rattle.std.specs.List.{sum_by}
 use Rattle.classic_tree.specs.declared.tree.Document.{Document}
@@ -16,7 +16,7 @@ use Rattle.proto_meaning.specs.Flat.{Walk, through, begin, proto, statement, in_
 use Rattle.proto_sizes.specs.Sizes.{ComeAlike, IsSized, AreSized, Alike}
 use Rattle.proto_sizes.specs.Rows.{bare, MetIn, Known, node_of, stated_of, mets, times, add_node, add_root, AreInARow}
 
--- where prototypes in sight are sized, those that a statement declares are sized as well
+-- if the prototypes in sight are sized, those that a statement declares are sized as well
 abbrev pub PrototypesAreSized : Type 0
 PrototypesAreSized =
     (text : Statement) (s t : Sight) → AreSized s → (statement text).1.sees s ≡ Ok t → AreSized t
@@ -27,20 +27,20 @@ DeclaredPrototypesAreSized =
     (text : ProtoText) (s : Sight) (p : Prototype) → AreSized s
     → (proto text).sees s ≡ Ok (record s { here = s.here ++ p ∷ [] }) → IsSized p
 
--- a statement comes to the same from walks that differ in numbers of nodes alone
+-- a statement ends alike from walks that differ only in the numbers of nodes
 abbrev pub StatementsComeAlike : Type 0
 StatementsComeAlike =
     (text : Statement) (w v : Walk) → Alike w v
     → ComeAlike ((statement text).1.does w) ((statement text).1.does v)
 
--- an instance that is given nothing comes to the same anywhere, whatever its line and its name
+-- an instance that is given nothing ends alike anywhere, whatever its line and its name
 abbrev pub BareInstancesComeAlike : Type 0
 BareInstancesComeAlike =
     (p : Prototype) (line other : ℕ) (name called : Option Name) (w v : Walk) → IsSized p
     → ComeAlike (bare p line name w) (bare p other called v)
 
--- so where one was put in of each, all that stand in a row are: nodes of a value, roots, and
--- statements of a body
+-- so if one instance of each prototype was added, all instances in a row can be: nodes of a value,
+-- roots, and statements of a body
 abbrev pub BareInstancesStandInRows : Type 0
 BareInstancesStandInRows =
     (s : Sight) (known : List (Known s))
@@ -48,7 +48,8 @@ BareInstancesStandInRows =
     × AreInARow add_root s (map stated_of known) (mets known)
     × AreInARow in_body s (map stated_of known) (mets known)
 
--- how much a row comes to is the sum of what each comes to; as many of the same come to a multiple
+-- the size of a row is the sum of the sizes of its instances; for k equal ones it is k times the
+-- size of one
 abbrev pub RowsAreSums : Type 0
 RowsAreSums =
     (amount : Met → ℕ) (s : Sight) (known : List (Known s)) (k : ℕ) (met : List Met)
@@ -61,7 +62,7 @@ IsOver count =
     (65536 < count nodes_met) ⊎ (8388608 < count instances_met) ⊎ (8388608 < count items_met)
     ⊎ (134217728 < count all_met)
 
--- what is met so often behind what was met before is over a limit where the counts are
+-- what is counted k times, after what was counted before, is over a limit if the counts are
 abbrev pub RepeatsPassLimits : Type 0
 RepeatsPassLimits =
     (before met : List Met) (k : ℕ)
@@ -70,13 +71,13 @@ RepeatsPassLimits =
 
 -- ---- of a document
 
--- that and empty braces, by its line and name
+-- the word and empty braces, by line and name
 abbrev pub bare_statement : Name → ℕ × Option Name → Statement
 bare_statement word b = statements.Node (node.Full b.0 b.1 word [])
 
--- statements were put in, and behind them stand bare instances of a prototype that is in sight
--- there. One comes to something anywhere. Where so many are too much for the limits, the document
--- is TooLarge, whatever stands behind them
+-- statements were added, and after them come bare instances of a prototype that is in sight there,
+-- of which one can be added anywhere. If that many are over the limits, the document is TooLarge,
+-- whatever follows them
 abbrev pub FloodsAreTooLarge : Type 0
 FloodsAreTooLarge =
     (d : Document) (first : List Statement) (word : Name) (instances : List (ℕ × Option Name))

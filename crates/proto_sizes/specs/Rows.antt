@@ -1,4 +1,4 @@
--- Instances that are given nothing, one behind the other.
+-- Instances that are given nothing, one after the other.
 use Rattle.std.specs.Prelude.{◌≡◌, ℕ, zero, suc, List, [], ◌∷◌, ◌++◌, Option, Some, Ok}
 use Rattle.classic_tree.specs.declared.tree.BodyItem.TheOpen.{Statement-F}
 use Rattle.proto_meaning.specs.Limits.{Met, behind}
@@ -9,11 +9,11 @@ use Rattle.proto_sizes.specs.Sizes.{IsSized}
 
 -- ---- one
 
--- the prototype's name, DEF and a name before it or not, and empty braces
+-- the prototype's name, with or without DEF and a name before it, and empty braces
 abbrev pub bare : Prototype → ℕ → Option Name → Does ℕ
 bare p line name = full_node line name [] (Some (OfProto p))
 
--- somewhere such an instance was put in, and that was met on the way
+-- somewhere such an instance was added, and `met` was counted on the way
 pub record MetIn (p : Prototype) (met : List Met) : Type 0 where
   pub line : ℕ
   pub name : Option Name
@@ -21,7 +21,7 @@ pub record MetIn (p : Prototype) (met : List Met) : Type 0 where
   pub first : ℕ × Walk
   pub was : bare p line name walk ≡ record { met = met; comes = Ok first }
 
--- a node that is one, where s is in sight, of a prototype of which one was put in
+-- a node that is such an instance where s is in sight, of a prototype of which one was added
 pub record Known (s : Sight) : Type 0 where
   pub node : Node
   pub line : ℕ
@@ -37,29 +37,29 @@ pub record Known (s : Sight) : Type 0 where
 abbrev pub node_of : {s : Sight} → Known s → Node
 node_of k = k.node
 
--- as a statement
+-- the node as a statement
 abbrev pub stated_of : {s : Sight} → Known s → Stated
 stated_of k = statement_step (Statement-F.Node k.node)
 
--- what is met in each of them, in turn
+-- what is counted for each of them, in turn
 abbrev pub mets : {s : Sight} → List (Known s) → List Met
 mets [] = []
 mets (k ∷ known) = k.met ++ mets known
 
--- so often that is met
+-- that, counted k times
 abbrev pub times : ℕ → List Met → List Met
 times zero met = []
 times (suc k) met = met ++ times k met
 
--- a node more in a value, as `put_in` has it, and a root more, as `stand_together` has it
+-- one node more in a value, as in `put_in`, and one root more, as in `stand_together`
 abbrev pub add_node : Node → List ℕ → Does (List ℕ)
 add_node n numbers = n.does >>= λ number. pure (numbers ++ number ∷ [])
 
 abbrev pub add_root : Stated → List ℕ → Does (List ℕ)
 add_root s roots = s.1.does >>= λ numbers. pure (roots ++ numbers)
 
--- where s is in sight, all of these are put in, whatever stands behind them; that is met on the
--- way, and then the rest goes on, with s in sight
+-- where s is in sight, all of these are added, whatever follows them; `met` is counted on the way,
+-- and then the rest goes on, with s in sight
 abbrev pub AreInARow : {A X : Type 0} → (A → X → Does X) → Sight → List A → List Met → Type 0
 AreInARow {A} {X} f s these met =
     (rest : List A) (x : X) (w : Walk) → w.sight ≡ s

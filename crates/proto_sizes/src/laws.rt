@@ -1,4 +1,4 @@
-//! Laws of how much instances come to, each the contract of a function that does nothing.
+//! Laws about the sizes of instances, each the contract of a function that does nothing.
 
 ghost use Rattle.proto_sizes.specs.Laws.{
   BareInstancesComeAlike,
@@ -11,42 +11,42 @@ ghost use Rattle.proto_sizes.specs.Laws.{
   StatementsComeAlike,
 };
 
-/// Prototypes that a statement declares are sized, where those in sight are.
+/// If the prototypes in sight are sized, those that a statement declares are sized.
 pub fn prototypes_are_sized()
     ensures { PrototypesAreSized }
 {}
 
-/// The prototype that a declaration adds to sized ones is sized.
+/// A prototype that a declaration adds to sized ones is sized.
 pub fn declared_prototypes_are_sized()
     ensures { DeclaredPrototypesAreSized }
 {}
 
-/// A statement comes to the same from walks that differ in numbers of nodes alone.
+/// A statement ends alike from walks that differ only in the numbers of nodes.
 pub fn statements_come_alike()
     ensures { StatementsComeAlike }
 {}
 
-/// An instance that is given nothing comes to the same anywhere.
+/// An instance that is given nothing ends alike anywhere.
 pub fn bare_instances_come_alike()
     ensures { BareInstancesComeAlike }
 {}
 
-/// Where one such instance was put in of each prototype, all that stand in a row are.
+/// If one such instance was added of each prototype, all instances in a row can be added.
 pub fn bare_instances_stand_in_rows()
     ensures { BareInstancesStandInRows }
 {}
 
-/// What a row of them comes to is the sum of what each comes to.
+/// The size of a row of instances is the sum of their sizes.
 pub fn rows_are_sums()
     ensures { RowsAreSums }
 {}
 
-/// What is met so often is over a limit where the counts are.
+/// What is counted k times is over a limit if the counts are.
 pub fn repeats_pass_limits()
     ensures { RepeatsPassLimits }
 {}
 
-/// A document with too many of them in a row is TooLarge, whatever stands behind them.
+/// A document with too many such instances in a row is TooLarge, whatever follows them.
 pub fn floods_are_too_large()
     ensures { FloodsAreTooLarge }
 {}

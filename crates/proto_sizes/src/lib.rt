@@ -1,4 +1,4 @@
-//! Laws of how much documents with prototypes come to.
+//! Laws about the sizes of documents with prototypes.
 #![tactic(auto)]
 
 mod laws;

@@ -1,4 +1,4 @@
--- What a field is given in a tree, with names and values of the text.
+-- What a field is given in a tree, with names and values borrowed from the text.
 use Rattle.std.specs.Borrow.{Bor}
 use Rattle.std.specs.Prelude.{ℕ, List}
 use Rattle.classic_tree.specs.declared.tree.NodeText.{NodeText}

@@ -1,4 +1,4 @@
--- Resolved trees stand for what their texts do.
+-- Resolved trees stand for what their texts stand for.
 use Rattle.std.specs.Prelude.{◌≡◌, List, [], ◌∷◌, ◌++◌, Ok, map}
 use Rattle.classic_tree.specs.declared.tree.ProtoText.{out-ProtoText}
 use Rattle.classic_tree.specs.declared.tree.Statement.{Statement}
@@ -11,7 +11,7 @@ use Rattle.proto_tree.specs.declared.tree.ProtoTree.{ProtoTree}
 use Rattle.proto_tree.specs.Meaning.{instance, stand_together}
 use Rattle.proto_tree.specs.Resolved.{Seen, AreStatements, IsProto}
 
--- a text and its resolved tree come to the same
+-- a text and its resolved tree give the same outcome
 abbrev pub TextsStandForTheSame : Type 0
 TextsStandForTheSame =
     (ps : List Prototype) (header : Header) (text : List Statement) (tree : List BodyTree)
@@ -19,7 +19,8 @@ TextsStandForTheSame =
     → AreStatements ps text tree (record { here = []; outside = []; taken = no_names }) r
     → stand_together ps header tree ≡ flat.stand_together header (map flat.statement text)
 
--- an instance of a declared prototype is what its tree says, and its ISs take what they took there
+-- an instance of a declared prototype is what its tree says, and it takes the fields that the ISs
+-- of its text take
 abbrev pub PrototypesAreTheSame : Type 0
 PrototypesAreTheSame =
     (ps : List Prototype) (t : ProtoTree) (s u v : Sight) → IsProto ps t s u

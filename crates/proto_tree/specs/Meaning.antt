@@ -1,5 +1,5 @@
--- What a resolved tree stands for, by the prototypes of the numbers in it: proto_meaning's steps,
--- in which no prototype is looked up by its name, and none is declared.
+-- What a resolved tree stands for, given the prototypes of the numbers in it: the steps of
+-- proto_meaning, in which no prototype is looked up by name, and none is declared.
 use Rattle.std.specs.Prelude.{ℕ, Bool, false, if◌then◌else◌, List, [], ◌∷◌, ◌++◌, length, map, Option, Some, None, option_map, is_none, is_some, Ok, Err, slice_get}
 use Rattle.std.specs.Option.{option_map_or}
 use Rattle.classic_tree.specs.declared.tree.BodyItem.TheOpen.{NodeText-F, Statement-F}
@@ -47,7 +47,7 @@ gives line f twice (Many count ns) i =
 gives line f twice (LeftOut wrong) i =
     value_at line f twice 0 i (left_by wrong >>= λ _. pure (fill line f i None))
 
--- a Script's declaration is one field more, as `declare_field` has it
+-- a Script's declaration adds a field, as in `declare_field`
 abbrev pub declares : Declaration NodeText → GivenTree Node → Inside → Does Inside
 declares d g i =
     if is_script i.owner
@@ -57,7 +57,7 @@ declares d g i =
 
 -- ---- braces
 
--- parts that neither hold nor declare a prototype
+-- parts that declare nothing, and in which a search finds nothing
 abbrev pub quiet : {D : Type 0} → D → flat.Part Look D
 quiet does = part nothing_found (λ s. Ok s) does
 
@@ -107,7 +107,7 @@ module _ (ps : List Prototype) where
   value_in (Many count ns) = given.Value (value.NodeList (map node ns))
   value_in _ = given.Nothing
 
-  -- where the instance gives nothing
+  -- only if the instance gives nothing
   abbrev pub default : DefaultTree → List Filled → Does (List Filled)
   default d filled =
       if is_none (value_of d.declaration.now.name filled)
@@ -115,7 +115,7 @@ module _ (ps : List Prototype) where
       (value_in d.value)
       else pure filled
 
-  -- as `instance_of` has it
+  -- as in `instance_of`
   abbrev pub instance : ProtoTree → List Filled → Put → Outcome Instance
   instance p given put =
       and_then ((through default p.defaults given
@@ -126,6 +126,6 @@ module _ (ps : List Prototype) where
       >>= λ _. through in_body (map statement p.body) []) (begin [] put))
       (λ r. made (out-ProtoText p.text.now).line r.0 r.1)
 
-  -- what the statements come to, without limits
+  -- what the statements give, without limits
   abbrev pub stand_together : Header → List BodyTree → Outcome Flat
   stand_together header statements = flat.stand_together header (map statement statements)

@@ -1,6 +1,7 @@
 -- The resolved tree of a text (ISO/IEC 19775-1, 4.4.4, prototype scoping rules), by what is in
--- sight before a part of the text, and what its `sees` gives: each word before braces by what it
--- means there, what goes nowhere left out, and nothing behind the first wrong declaration.
+-- sight before a part of the text and what its `sees` gives: each word before braces is replaced by
+-- what it means there, values that no IS takes are left out, and nothing follows the first wrong
+-- declaration.
 use Rattle.std.specs.Borrow.{Bor}
 use Rattle.std.specs.Prelude.{◌≡◌, ℕ, Bool, true, false, ◌&&◌, List, [], ◌∷◌, length, Option, Some, None, Result, Ok, Err}
 use Rattle.classic_tree.specs.declared.tree.BodyItem.{BodyItem}
@@ -37,9 +38,9 @@ use Rattle.proto_tree.specs.Meaning.{owner}
 abbrev pub Seen : Type 0
 Seen = Result Sight ExpandFault
 
--- ---- what goes nowhere
+-- ---- values that no IS takes
 
--- what a value declares, and what is taken by an IS that is given
+-- what a value declares, and what an IS that is given takes
 abbrev pub given_sees : Given NodeText → Look
 given_sees g s =
     each (λ n. (flat.node n).sees) (nodes_in g) (record s { taken = sight.taking g s.taken })
@@ -57,7 +58,7 @@ is_plain (value.Node n) = false
 is_plain (value.NodeList ns) = false
 is_plain v = true
 
--- an IS takes a name where its field is kept
+-- an IS takes a name if its field is kept
 abbrev pub taking : Bool → Name → Sight → Sight
 taking true name s = record s { taken = with_name name s.taken }
 taking false name s = s
@@ -82,7 +83,7 @@ mutual
     last_node : (n : NodeText) (t : NodeTree) (ns : List NodeText) (s : Sight) (e : ExpandFault)
         → IsNode ps n t s (Err e) → AreNodes ps (n ∷ ns) (t ∷ []) s (Err e)
 
-  -- kept: what the field is given goes somewhere
+  -- kept: some IS takes the field, or it is a node's
   pub data IsGiven (ps : List Prototype)
       : Bool → Given NodeText → GivenTree NodeTree → Sight → Seen → Type 0 where
     nothing : (kept : Bool) (s : Sight) → IsGiven ps kept given.Nothing tree_given.Nothing s (Ok s)
@@ -113,7 +114,7 @@ mutual
         → (flat.proto p).sees s ≡ Err e
         → IsItem ps taken (text_item.Proto p) (tree_item.Wrong e) s (Err e)
 
-  -- between braces of which those names are taken
+  -- between braces that keep the fields of those names (None: all)
   pub data AreItems (ps : List Prototype)
       : Option Names → List BodyItem → List ItemTree → Sight → Seen → Type 0 where
     no_items : (taken : Option Names) (s : Sight) → AreItems ps taken [] [] s (Ok s)
@@ -152,7 +153,7 @@ pub data AreStatements (ps : List Prototype)
 
 -- ---- prototypes
 
--- default values that some IS takes; all is right in them
+-- default values that some IS takes, without a wrong declaration
 pub data AreDefaults (ps : List Prototype) (takes : Names)
     : List (Declaration NodeText) → List DefaultTree → Sight → Sight → Type 0 where
   no_defaults : (s : Sight) → AreDefaults ps takes [] [] s s
@@ -165,8 +166,8 @@ pub data AreDefaults (ps : List Prototype) (takes : Names)
       (s u v : Sight) → (takes d.name && is_value d.given) ≡ false → given_sees d.given s ≡ Ok u
       → AreDefaults ps takes ds ts u v → AreDefaults ps takes (d ∷ ds) ts s v
 
--- what stands between the brackets and the braces of a prototype that is declared where s is in
--- sight; behind it u is, and its ISs have taken u.taken
+-- the interface and the body of a prototype that is declared where s is in sight; at the end of its
+-- body u is in sight, and its ISs have taken u.taken
 pub record IsProto (ps : List Prototype) (t : ProtoTree) (s u : Sight) : Type 0 where
   pub behind : Sight
   pub defaults : AreDefaults ps u.taken (out-ProtoText t.text.now).interface t.defaults

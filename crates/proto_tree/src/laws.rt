@@ -1,9 +1,9 @@
-//! What resolved trees stand for, each law the contract of a function that does nothing.
+//! What resolved trees stand for; each law is the contract of a function that does nothing.
 
 ghost use Rattle.proto_tree.specs.Laws.{PrototypesAreTheSame, TextsStandForTheSame};
 
-/// The statements of a text and its resolved tree come to the same: nodes, roots, helpers, routes,
-/// what is met on the way, and the fault with its line.
+/// The statements of a text and its resolved tree give the same: nodes, roots, helpers, routes,
+/// what is counted on the way, and the fault with its line.
 pub fn texts_stand_for_the_same()
     ensures { TextsStandForTheSame }
 {}

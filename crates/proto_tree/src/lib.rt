@@ -1,5 +1,6 @@
-//! A text whose words are resolved: what each word before braces means, what goes nowhere left out,
-//! and each prototype by its number (ISO/IEC 19775-1, 4.4.4, prototypes).
+//! A text whose words are resolved: each word before braces is replaced by what it means, values
+//! that no IS takes are left out, and each prototype has a number (ISO/IEC 19775-1, 4.4.4,
+//! prototypes).
 #![tactic(auto)]
 
 mod laws;

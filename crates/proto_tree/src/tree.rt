@@ -11,37 +11,37 @@ pub enum Word {
     Unknown,
     /// The braces of a node of that type.
     Node(NodeType),
-    /// Those of an instance of the prototype of that number.
+    /// The braces of an instance of the prototype of that number.
     Instance(usize),
 }
 
-/// What a field is given; `I` is the name behind IS, `V` a value without nodes, `N` a node.
+/// What a field is given; `I` is the name after IS, `V` a value without nodes, `N` a node.
 #[derive(Drop)]
 pub enum GivenTree<I, V, N> {
     Nothing,
     Is(I),
     Plain(V),
     One(N),
-    /// How many nodes the text has there, and those up to the first with a wrong declaration.
+    /// The number of nodes in the text, and the nodes up to the first with a wrong declaration.
     Many(usize, Items<N>),
-    /// A value that goes nowhere, and the first wrong declaration in it.
+    /// A value that no IS takes, and the first wrong declaration in it.
     LeftOut(Option<ExpandFault>),
 }
 
-/// What a field is given, with names and values of the text.
+/// What a field is given, with names and values borrowed from the text.
 pub type FieldTree<'a> = GivenTree<&'a Text, &'a RawValue<NodeText>, NodeTree<'a>>;
 
-/// A node where it stands.
+/// A node of the text.
 #[cycle(resolved)]
 #[derive(Drop)]
 pub enum NodeTree<'a> {
     Use(u32, &'a Text),
-    /// The line, the name given by DEF, what the word before the braces means, and what stands
-    /// between them, up to the first wrong declaration.
+    /// The line, the name given by DEF, what the word before the braces means, and the items
+    /// between the braces, up to the first wrong declaration.
     Full(u32, &'a Option<Text>, Word, Items<ItemTree<'a>>),
 }
 
-/// What stands between braces. A PROTO is left out, unless it is wrong.
+/// An item between braces. A PROTO is left out, unless it is wrong.
 #[cycle(resolved)]
 #[derive(Drop)]
 pub enum ItemTree<'a> {
@@ -66,7 +66,7 @@ pub struct DefaultTree<'a> {
     pub value: FieldTree<'a>,
 }
 
-/// A prototype. Words in it mean prototypes before it.
+/// A prototype. Words in it can only mean prototypes before it.
 #[derive(Drop)]
 pub struct ProtoTree<'a> {
     pub text: &'a ProtoText,

@@ -1,4 +1,4 @@
--- Where a walk stands, as the definition has it.
+-- The state of a walk, in the terms of the definition.
 use Rattle.std.specs.Prelude.{◌≡◌, ◌⊎◌, [], Result, Ok, Err}
 use Rattle.proto_flat.specs.Fault.{memory}
 use Rattle.proto_flat.specs.declared.fault.ExpandFault.{ExpandFault}
@@ -10,7 +10,7 @@ use Rattle.proto_put.specs.Held as put
 use Rattle.proto_scope.specs.Held as scope
 use Rattle.proto_walker.specs.declared.walker.Walker.{Walker}
 
--- no prototype is looked up by its name: what is in sight stays as it was
+-- no prototype is looked up by name, so what is in sight never changes
 abbrev pub shown : Walker → State
 shown w =
     record {
@@ -22,7 +22,7 @@ shown w =
       };
     }
 
--- the same with another scope
+-- the state with another scope
 abbrev pub in_scope : Scope → State → State
 in_scope scope s = record { room = s.room; walk = record s.walk { scope = scope } }
 

@@ -1,4 +1,4 @@
--- Steps of proto_meaning that stand inside others there.
+-- Steps that proto_meaning has inside larger ones.
 use Rattle.std.specs.Prelude.{ℕ, List, [], ◌∷◌, ◌++◌, length, Option, None}
 use Rattle.std.specs.Option.{option_map_or}
 use Rattle.proto_flat.specs.declared.fault.ExpandFaultKind.TheVariants.{UseWithoutDef}
@@ -13,22 +13,22 @@ abbrev pub named_node : ℕ → Name → Does ℕ
 named_node line name = λ w.
     option_map_or pure (used name w.scope.braces) (refuse UseWithoutDef line) w
 
--- USE, as `node_step` has it
+-- USE, as in `node_step`
 abbrev pub using : ℕ → Name → Does ℕ
 using line name = meet AnItem >>= λ _. named_node line name
 
--- braces open, as `inside` has it
+-- opens braces, as in `inside`
 abbrev pub opening : Option Name → Does ℕ
 opening name =
     λ w. note (length w.scope.braces) (λ s. record s {
       braces = s.braces ++ record { name = name; stands = None } ∷ [];
     }) w
 
--- an IS joins a field, as `join` has it
+-- an IS joins a field, as in `join`
 abbrev pub joining : Name → ℕ → Name → Does (Unit {0})
 joining outer at field = note (tt {0}) (with_join outer at field)
 
--- the body of an instance is done, as `close_instance` has it
+-- the end of the body of an instance, as in `close_instance`
 abbrev pub standing_in : Option Name → ℕ → Stands → List FlatRoute → Does ℕ
 standing_in name at what routes =
     λ w. close name at what (record w.put { nodes = renamed name what.node w.put.nodes })

@@ -1,4 +1,4 @@
-//! Where a walk over a document stands, and its single steps.
+//! The state of a walk over a document, and its single steps.
 #![tactic(auto)]
 
 mod steps;

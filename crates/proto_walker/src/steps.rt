@@ -1,4 +1,4 @@
-//! Steps that put no other nodes in.
+//! Steps that add no nodes but the one given.
 
 ghost use Rattle.std.specs.Prelude.{◌≡◌, []};
 ghost use Rattle.proto_meaning.specs.Flat as flat;
@@ -27,7 +27,7 @@ use std::rc::Rc;
 use x3d_lists::Text;
 
 impl<'t, 'a> Walker<'t, 'a> {
-    /// The first word of a node is met.
+    /// Counts the first word of a node. TooLarge if that passes a limit, as in the other calls.
     pub fn meet_node(&mut self) -> Result<(), ExpandFault>
         requires { Sound self.old }
         ensures { Steps (λ a. a) (doing (meet ANode) (shown self.old)) result self.new }
@@ -35,7 +35,7 @@ impl<'t, 'a> Walker<'t, 'a> {
         self.room.meet_node()
     }
 
-    /// The first word of an instance is met.
+    /// Counts the first word of an instance.
     pub fn meet_instance(&mut self) -> Result<(), ExpandFault>
         requires { Sound self.old }
         ensures { Steps (λ a. a) (doing (meet AnInstance) (shown self.old)) result self.new }
@@ -43,7 +43,7 @@ impl<'t, 'a> Walker<'t, 'a> {
         self.room.meet_instance()
     }
 
-    /// The field of that number of a node is met, whose value has so many items.
+    /// Counts a field of a node: its number among the fields, and the number of items in its value.
     pub fn meet_field(&mut self, number: usize, items: usize) -> Result<(), ExpandFault>
         requires { Sound self.old }
         ensures { Steps (λ a. a) (doing (meet (AField number items)) (shown self.old)) result
@@ -52,7 +52,7 @@ impl<'t, 'a> Walker<'t, 'a> {
         self.room.meet_field(number, items)
     }
 
-    /// A field of an instance is met, a ROUTE or a USE.
+    /// Counts a field of an instance, a ROUTE or a USE.
     pub fn meet_item(&mut self) -> Result<(), ExpandFault>
         requires { Sound self.old }
         ensures { Steps (λ a. a) (doing (meet AnItem) (shown self.old)) result self.new }
@@ -60,7 +60,8 @@ impl<'t, 'a> Walker<'t, 'a> {
         self.room.meet_item()
     }
 
-    /// USE: the node of that name.
+    /// Counts a USE, and returns the node of that name. UseWithoutDef if no closed braces have the
+    /// name.
     pub fn put_use(&mut self, line: u32, name: &Text) -> Result<u32, ExpandFault>
         requires { Sound self.old }
         ensures { Steps (λ n. n) (doing (using line name.now) (shown self.old)) result self.new }
@@ -72,7 +73,7 @@ impl<'t, 'a> Walker<'t, 'a> {
         Ok(number)
     }
 
-    /// A ROUTE stands behind the others.
+    /// Counts a ROUTE, and adds it after the others. Memory if memory runs out.
     pub fn put_route(&mut self, route: &'a RouteText) -> Result<(), ExpandFault>
         requires { Sound self.old }
         ensures { Steps (λ a. a) (doing (flat.note_route route.now) (shown self.old)) result
@@ -83,7 +84,8 @@ impl<'t, 'a> Walker<'t, 'a> {
         Ok(())
     }
 
-    /// Braces open, with the name that DEF gives them.
+    /// Opens braces, with the name that DEF gives them, and returns the number of braces of the
+    /// scope that opened before. Memory if memory runs out.
     pub fn open_braces(&mut self, name: &'a Option<Text>) -> Result<usize, ExpandFault>
         requires { Sound self.old }
         ensures { Steps (λ at. at) (doing (opening name.now) (shown self.old)) result self.new }
@@ -92,7 +94,8 @@ impl<'t, 'a> Walker<'t, 'a> {
         Ok(at)
     }
 
-    /// The braces of a node close: it has the next number, and stands in its place.
+    /// Closes the braces of a node: the node is added, and its number, the next one, is returned.
+    /// The braces stand for that node. Memory if memory runs out.
     pub fn close_node(
         &mut self,
         name: &'a Option<Text>,
@@ -108,7 +111,8 @@ impl<'t, 'a> Walker<'t, 'a> {
         Ok(number)
     }
 
-    /// An IS joins a field of the braces behind so many others to a field of the interface.
+    /// Records that an IS joins a field of the braces number `at` to a field of the interface.
+    /// Memory if memory runs out.
     pub fn join_field(
         &mut self,
         outer: &'a Text,
@@ -123,7 +127,8 @@ impl<'t, 'a> Walker<'t, 'a> {
         Ok(())
     }
 
-    /// No name stands twice in the interface: FieldTwice where one does.
+    /// Checks that no name occurs twice in the interface: FieldTwice if one does, on the line of
+    /// the first field whose name occurs earlier.
     pub fn check_interface(&self, interface: &Interface<'_>) -> Result<(), ExpandFault>
         requires { Sound self.now }
         ensures { Steps (λ a. a) (doing (flat.unless_twice [] interface.now) (shown self.now))
@@ -136,7 +141,7 @@ impl<'t, 'a> Walker<'t, 'a> {
         Err(ExpandFaultKind::FieldTwice.on_line(line))
     }
 
-    /// A scope of its own begins, for the body of an instance. Gives the scope around it.
+    /// Begins a scope for the body of an instance, and returns the scope around it.
     pub fn enter(&mut self, alloc: Global) -> Scope<'t, 'a>
         requires { Sound self.old }
         ensures shown { shown self.new ≡ in_scope nothing (shown self.old) }
@@ -147,7 +152,7 @@ impl<'t, 'a> Walker<'t, 'a> {
         mem::replace(&mut self.scope, Scope::new(alloc))
     }
 
-    /// The scope around goes on.
+    /// Goes back to the scope around, and drops the one that was open.
     pub fn leave(&mut self, around: Scope<'t, 'a>)
         requires { scope.Sound around }
         ensures shown { shown self.new ≡ in_scope (scope.shown around.entry) (shown self.old) }
@@ -156,8 +161,9 @@ impl<'t, 'a> Walker<'t, 'a> {
         drop(mem::replace(&mut self.scope, around));
     }
 
-    /// The braces of an instance stand for the first node of its body, which takes its name; the
-    /// ROUTEs of the body stand behind the others.
+    /// Closes the braces of an instance: they stand for the first node of its body, which gets the
+    /// instance's name, and the ROUTEs of the body follow the others. Returns that node. Memory if
+    /// memory runs out.
     pub fn stand_in(
         &mut self,
         alloc: Global,

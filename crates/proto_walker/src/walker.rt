@@ -1,4 +1,4 @@
-//! Where a walk stands.
+//! The state of a walk.
 
 ghost use Rattle.std.specs.Prelude.{◌≡◌};
 ghost use Rattle.proto_walker.specs.Shown.{Sound, before, shown};
@@ -9,8 +9,8 @@ use proto_routes::Branches;
 use proto_scope::Scope;
 use std::alloc::Global;
 
-/// Where a walk stands: how much more may be met, what was put in, the scope that is open, and the
-/// branches that were made.
+/// The state of a walk: how much more may be counted, what was added, the scope that is open, and
+/// the branches that were made.
 #[derive(Drop)]
 pub struct Walker<'t, 'a> {
     pub room: Room,
@@ -20,7 +20,7 @@ pub struct Walker<'t, 'a> {
 }
 
 impl<'t, 'a> Walker<'t, 'a> {
-    /// Before a document.
+    /// Returns the state before a document.
     pub fn new(alloc: Global) -> Walker<'t, 'a>
         ensures shown { shown result ≡ before }
         ensures sound { Sound result }
