@@ -1,5 +1,5 @@
-/* A shared X3D world inside another program: the library `x3d`. docs/EMBEDDING.md tells how to use
- * it, and scripts/header compares each declaration below with its export in crates/embed_c/src. */
+/* A shared X3D world inside another program: the library `x3d`. docs/EMBEDDING.md explains how to
+ * use it. scripts/header compares each declaration below with its export in crates/embed_c/src. */
 #ifndef X3D_H
 #define X3D_H
 
@@ -11,73 +11,75 @@
 extern "C" {
 #endif
 
-/* What must be kept, which the library cannot test:
- * - A handle begins as null: `struct x3d_world world = X3D_NONE;`. Do not read, write or copy what
- *   is in it.
- * - One call at a time on a handle. (Calls on different handles share nothing.)
- * - Each pointer points to as much as its type or the length behind it says, and what a call writes
- *   overlaps nothing else that it is given. A pointer to no bytes is not null either.
- * - Who opens closes. Closing twice is allowed, and every other call on a closed handle answers
- *   X3D_CLOSED.
+/* Rules that the caller must keep, because the library cannot check them:
+ * - A handle begins as null: `struct x3d_world world = X3D_NONE;`. Do not read, write or copy its
+ *   contents.
+ * - Make one call at a time on a handle. (Calls on different handles share nothing.)
+ * - Each pointer points to as much memory as its type or the length after it says. Memory that a
+ *   call writes overlaps nothing else that the call is given. A pointer to no bytes is not null
+ *   either.
+ * - Close every handle that you open. Closing twice is allowed. Every other call on a closed handle
+ *   returns X3D_CLOSED.
  */
 
-/* A world on the heap, or none; the host of a shared world; a viewer of it. */
+/* Handles: a world on the heap, the host of a shared world, and a viewer of it; or nothing. */
 struct x3d_world { void *at; };
 struct x3d_host { void *at; };
 struct x3d_viewer { void *at; };
 #define X3D_NONE {0}
 
-/* What every call answers. After anything but X3D_DONE nothing has changed but what is said
- * here. */
+/* The status that every call returns. After any status but X3D_DONE nothing has changed, except
+ * where the status or the call says so. */
 enum x3d_status {
-  X3D_DONE = 0,
-  X3D_SCENE = 1,           /* the scene or its scripts are refused: the line says why */
-  X3D_MEMORY = 5,          /* memory was refused; at an input or a load this spoils the world */
-  X3D_CLOSED = 10,         /* the handle has nothing */
+  X3D_DONE = 0,            /* the call succeeded */
+  X3D_SCENE = 1,           /* the scene or its scripts are refused; the refusal's line says why */
+  X3D_MEMORY = 5,          /* memory ran out; at an input or a load this spoils the world */
+  X3D_CLOSED = 10,         /* the handle holds nothing */
   X3D_RANGE = 11,          /* a number is out of its range */
-  X3D_ROOM = 12,           /* no room for all: nothing was copied, `wanted` tells how much */
-  X3D_SPOILED = 20,        /* memory was refused before: only a snapshot brings a world back */
+  X3D_ROOM = 12,           /* not enough room: nothing was copied, `wanted` is the size needed */
+  X3D_SPOILED = 20,        /* memory ran out before: only a snapshot brings the world back */
   X3D_NOT_NEXT = 21,       /* the input's number is not the next one */
   X3D_TIME_NOT_LATER = 22, /* the input's time is not above that of the last one */
-  X3D_NO_SUCH_NODE = 23,   /* there is no node of that number */
-  X3D_NO_SUCH_FIELD = 24,  /* the node has no field of that number or name, or it has no value */
-  X3D_NO_PACKET = 25,      /* there is no such datagram: of an input, an offer, a piece */
-  X3D_NO_SUCH_SCRIPT = 26, /* there is no script of that number */
+  X3D_NO_SUCH_NODE = 23,   /* there is no node with that number */
+  X3D_NO_SUCH_FIELD = 24,  /* the node has no field with that number or name, or it has no value */
+  X3D_NO_PACKET = 25,      /* there is no such datagram: no such input, offer or piece */
+  X3D_NO_SUCH_SCRIPT = 26, /* there is no script with that number */
   X3D_KIND_DIFFERS = 27,   /* the script is of another kind */
-  X3D_SHORT = 30,          /* a snapshot: fewer than 85 bytes */
-  X3D_BAD_MAGIC = 31,      /* it is none */
-  X3D_BAD_VERSION = 32,    /* its version is not 1 or 2; that of a datagram is not 1 */
-  X3D_WRONG_SCENE = 33,    /* it is of another scene; so may a datagram be */
-  X3D_BAD_DIGEST = 34,     /* it was altered */
-  X3D_NOT_CANONICAL = 35,  /* it is of no world of the scene */
-  X3D_BOOT_NOT_NEW = 36,   /* the boot is not above that of the snapshot */
+  X3D_SHORT = 30,          /* the snapshot has fewer than 85 bytes */
+  X3D_BAD_MAGIC = 31,      /* not a snapshot */
+  X3D_BAD_VERSION = 32,    /* a snapshot's version is not 1 or 2; a datagram's version is not 1 */
+  X3D_WRONG_SCENE = 33,    /* the snapshot or the datagram is of another scene */
+  X3D_BAD_DIGEST = 34,     /* the snapshot was altered */
+  X3D_NOT_CANONICAL = 35,  /* the snapshot is not of a world of this scene */
+  X3D_BOOT_NOT_NEW = 36,   /* the boot is not above the snapshot's, or the viewer's own */
   X3D_SCRIPT_STATE = 37,   /* the state of a script does not fit */
-  X3D_BAD_PACKET = 40,     /* a datagram: too short, of another magic, or of another length */
-  X3D_BAD_TAG = 41,        /* its tag is unknown */
-  X3D_BAD_RANGE = 42,      /* a field is out of its range */
-  X3D_ZERO_RAY = 43,       /* a direction is 0 0 0 */
+  X3D_BAD_PACKET = 40,     /* not a datagram: too short, wrong magic, or wrong length */
+  X3D_BAD_TAG = 41,        /* the datagram's tag is unknown */
+  X3D_BAD_RANGE = 42,      /* a field of the datagram is out of its range */
+  X3D_ZERO_RAY = 43,       /* the direction is 0 0 0 */
   X3D_BAD_VIEWER = 44,     /* the host has no such viewer */
-  X3D_WORLD_FULL = 45,     /* 2^20 inputs are numbered */
+  X3D_WORLD_FULL = 45,     /* the host has numbered 2^20 inputs */
   X3D_TIME_RANGE = 46,     /* the time is above 10^18 microseconds */
-  X3D_FLOOR_BACK = 47,     /* the floor is above that */
-  X3D_FLOOR_AHEAD = 48,    /* there are no inputs up to that */
+  X3D_FLOOR_BACK = 47,     /* the floor may not move back */
+  X3D_FLOOR_AHEAD = 48,    /* the floor may not be above the number of the next input */
   X3D_NOT_FOR_ME = 50,     /* the datagram is for another node */
-  X3D_POINT_RANGE = 51,    /* a coordinate of a size above 10^15 millionths */
-  X3D_OFFER_FULL = 52,     /* 64 offers wait */
+  X3D_POINT_RANGE = 51,    /* a coordinate is above 10^15 millionths in size */
+  X3D_OFFER_FULL = 52,     /* 64 offers wait already */
   X3D_OFFERS_SPENT = 53,   /* 2^32 - 1 offers were made in this boot */
-  X3D_NOT_PIECE = 54,      /* the datagram is no piece of a snapshot */
+  X3D_NOT_PIECE = 54,      /* the datagram is not a piece of a snapshot */
   X3D_NOT_WHOLE = 55       /* pieces of the snapshot are missing */
 };
 
-/* What an input gave rise to: how many outputs sent, routes were followed and scripts settled. */
+/* What an input led to: the number of outputs that sent, of routes that were followed, and of
+ * scripts that settled. */
 struct x3d_work {
   size_t sends;
   size_t deliveries;
   size_t settles;
 };
 
-/* What a viewer points with, in millionths of a unit: coordinates of a size up to 10^15, and a
- * direction other than 0 0 0. */
+/* The ray that a viewer points with, in millionths of a unit: coordinates and direction of at most
+ * 10^15 in size, the direction not 0 0 0. */
 struct x3d_aim {
   int64_t origin_x;
   int64_t origin_y;
@@ -87,28 +89,28 @@ struct x3d_aim {
   int64_t direction_z;
 };
 
-/* Where a ray would enter what it hits first: at n / m of the way along its direction. Where it
- * hits nothing, m is 0. */
+/* Where a ray would enter what it hits first: at n / m of the way along its direction. If it hits
+ * nothing, m is 0. */
 struct x3d_met {
   uint64_t n;
   uint64_t m;
 };
 
-/* Of which boot a snapshot was, and how many inputs its world had applied. */
+/* The boot that a snapshot was taken as, and the number of inputs that its world had applied. */
 struct x3d_saved {
   uint32_t boot;
   uint32_t applied;
 };
 
-/* What a host made of a datagram: at X3D_REPLY_ASKED send the datagrams of the `count` inputs, at
- * most 64, from `number` on, and at X3D_REPLY_BELOW that of the floor. */
+/* What a host did with a datagram. At X3D_REPLY_ASKED send the datagrams of the `count` inputs from
+ * `number` on, at most 64. At X3D_REPLY_BELOW send the datagram of the floor. */
 enum x3d_replied {
-  X3D_REPLY_ASKED = 0,        /* inputs were asked for, `count` of them from `number` on */
-  X3D_REPLY_NUMBERED = 1,     /* the offer is the input `number` */
-  X3D_REPLY_REPEAT = 2,       /* it has been numbered before */
-  X3D_REPLY_AHEAD = 3,        /* an offer before it has not come yet */
-  X3D_REPLY_OLD_BOOT = 4,     /* it is of a boot that is over */
-  X3D_REPLY_BELOW = 5,        /* inputs below the floor `number` were asked for */
+  X3D_REPLY_ASKED = 0,        /* a viewer asked for `count` inputs from `number` on */
+  X3D_REPLY_NUMBERED = 1,     /* the offer is now input `number` */
+  X3D_REPLY_REPEAT = 2,       /* the offer has been numbered before */
+  X3D_REPLY_AHEAD = 3,        /* an earlier offer of that viewer has not come yet */
+  X3D_REPLY_OLD_BOOT = 4,     /* the offer is of an earlier boot of that viewer */
+  X3D_REPLY_BELOW = 5,        /* a viewer asked for inputs below the floor `number` */
   X3D_REPLY_NOTHING_TO_DO = 6
 };
 struct x3d_reply {
@@ -117,22 +119,23 @@ struct x3d_reply {
   uint32_t count;
 };
 
-/* What a viewer made of a datagram. */
+/* What a viewer did with a datagram. */
 enum x3d_took {
   X3D_TOOK_OLD = 0,     /* the input has been applied before */
-  X3D_TOOK_BEYOND = 1,  /* it is more than 64 ahead */
-  X3D_TOOK_KEPT = 2,    /* it is kept until those before it have come */
+  X3D_TOOK_BEYOND = 1,  /* the input is more than 64 ahead and is not kept */
+  X3D_TOOK_KEPT = 2,    /* the input is kept until the ones before it have come */
   X3D_TOOK_APPLIED = 3, /* `count` inputs were applied */
-  X3D_TOOK_NOTED = 4,   /* what the host tells of offers, or of its floor */
-  X3D_TOOK_BEHIND = 5   /* the host has the next input no more: only a snapshot helps */
+  X3D_TOOK_NOTED = 4,   /* a report on the viewer's offers, or the host's floor, was noted */
+  X3D_TOOK_BEHIND = 5   /* the host no longer has the next input: only a snapshot helps */
 };
 struct x3d_taken {
   uint32_t kind;
   uint32_t count;
 };
 
-/* What a viewer made of a piece of a snapshot: the last is whole; another is of another snapshot
- * than was begun. */
+/* What a viewer did with a piece of a snapshot. X3D_GATHERED_NEW: kept, others are missing.
+ * X3D_GATHERED_AGAIN: it had come before. X3D_GATHERED_WHOLE: kept, none is missing now.
+ * X3D_GATHERED_OTHER: it is of another snapshot than the one that was begun, and is not kept. */
 enum x3d_gathered {
   X3D_GATHERED_NEW = 0,
   X3D_GATHERED_AGAIN = 1,
@@ -150,181 +153,221 @@ enum x3d_kind {
   X3D_METER = 5
 };
 
-/* The most bytes of a datagram: a buffer of so many has always room. */
+/* The most bytes that a datagram has: a buffer of this size always has room for one. */
 #define X3D_PACKET 256
 
 /* ---- a world */
 
-/* Opens the world of a scene's text (Classic encoding), in place of one that the handle had. Where
- * it is refused the handle has none, and the line `refused NAME line N` is copied to `refusal`,
- * which has at most 64 bytes. */
+/* Opens the world of a scene's text (Classic encoding), in place of the one that the handle had. On
+ * X3D_SCENE and X3D_MEMORY the handle is empty, and the line `refused NAME line N`, of at most 64
+ * bytes, is copied to `refusal` if `room` bytes are enough. Its length is written to `wanted`. */
 uint8_t x3d_world_open(struct x3d_world *world, const uint8_t *text, size_t length,
                        uint8_t *refusal, size_t room, size_t *wanted);
-/* Frees the world. Without one it does nothing. */
+/* Frees the world. Does nothing if the handle holds none. */
 void x3d_world_close(struct x3d_world *world);
-/* How many inputs were applied: the next one has the number behind it. */
+/* Writes the number of inputs that were applied. The next input has that number plus 1. */
 uint8_t x3d_world_applied(struct x3d_world *world, uint32_t *count);
 
-/* ---- inputs, numbered 1 to 2^20, at times of 1 to 10^18 microseconds, each above the last */
+/* ---- inputs, numbered from 1 to 2^20, at times of 1 to 10^18 microseconds, each above the last
+ *
+ * A call that applies an input returns X3D_RANGE if the number, the time or the pointer is out of
+ * its range; X3D_SPOILED; X3D_NOT_NEXT; X3D_TIME_NOT_LATER; or X3D_MEMORY, which spoils the
+ * world. */
 
-/* Applies a clock. */
+/* Applies a clock at `time` microseconds, and writes what it led to. */
 uint8_t x3d_world_clock(struct x3d_world *world, uint32_t number, int64_t time,
                         struct x3d_work *work);
-/* Applies the pointer of a viewer, 0 to 63, whose button is down or not. */
+/* Applies the pointer of viewer `viewer`, 0 to 63, whose button is down or not, at `time`
+ * microseconds, and writes what it led to. */
 uint8_t x3d_world_point(struct x3d_world *world, uint32_t number, int64_t time, uint8_t viewer,
                         bool down, const struct x3d_aim *aim, struct x3d_work *work);
-/* Tells what a ray would hit, and lists the sensors that this concerns; the world stays as it
- * is. */
+/* Writes where a ray would enter what it hits first, and lists the sensors that the hit concerns:
+ * the enabled pointing sensors in the lowest list along the hit's path that has one. The world is
+ * unchanged. X3D_RANGE if the ray is out of its range, X3D_SPOILED, or X3D_MEMORY. */
 uint8_t x3d_world_meet(struct x3d_world *world, const struct x3d_aim *aim, struct x3d_met *met);
 
-/* ---- texts: one is made, and then copied with x3d_world_copy_text */
+/* ---- texts: a call makes a text, then x3d_world_copy_text copies it
+ *
+ * A call that makes a text drops the one before. If it fails, the text is empty and the world is
+ * unchanged. X3D_MEMORY if memory ran out. X3D_SPOILED for the calls that read the world's state:
+ * all but x3d_world_make_type, x3d_world_make_label and x3d_world_make_field_name. */
 
-/* The lines of the trace that are of inputs from a number on, `<input> <seconds> <label>.<field>
- * <value>` each; from 0 on it is the whole trace. */
+/* Makes the lines of the trace of inputs from number `first` on: `<input> <seconds> <label>.<field>
+ * <value>`. From 0 on it is the whole trace. */
 uint8_t x3d_world_make_trace(struct x3d_world *world, uint32_t first);
-/* The same lines by numbers, `<input> <seconds> <node> <field> <value>` each. */
+/* Makes the same lines with numbers: `<input> <seconds> <node> <field> <value>`. */
 uint8_t x3d_world_make_changes(struct x3d_world *world, uint32_t first);
-/* The scene as it is now, in the Classic encoding. */
+/* Makes the current scene, in the Classic encoding. */
 uint8_t x3d_world_make_scene(struct x3d_world *world);
-/* The word for a node's type, as `Transform`. */
+/* Makes the word for a node's type, such as `Transform`. X3D_NO_SUCH_NODE if there is no such
+ * node. */
 uint8_t x3d_world_make_type(struct x3d_world *world, uint32_t node);
-/* The name of a node that no other node has: its DEF name, where it is alone, or else `N` and its
- * number. */
+/* Makes the label of a node, which no other node has: its DEF name if that is unique, or else `N`
+ * and its number. X3D_NO_SUCH_NODE if there is no such node. */
 uint8_t x3d_world_make_label(struct x3d_world *world, uint32_t node);
-/* The name of a field of a node, as `translation`. */
+/* Makes the name of a field of a node, such as `translation`. X3D_NO_SUCH_FIELD if there is no such
+ * node or field. */
 uint8_t x3d_world_make_field_name(struct x3d_world *world, uint32_t node, uint16_t field);
-/* The text of the value that a field has now, as `0 1.5 0`; nodes have none. */
+/* Makes the text of the current value of a field, such as `0 1.5 0`. The text of a node is empty.
+ * X3D_NO_SUCH_FIELD if there is no such field, or it holds no value. */
 uint8_t x3d_world_make_value(struct x3d_world *world, uint32_t node, uint16_t field);
-/* The snapshot of the world, taken as a boot. */
+/* Makes the snapshot of the world, taken as boot `boot`. */
 uint8_t x3d_world_make_snapshot(struct x3d_world *world, uint32_t boot);
-/* Copies the text or the snapshot that was made last, where there is room, and tells how many
- * bytes it has. */
+/* Copies the text or the snapshot that was made last, and writes its number of bytes to `wanted`.
+ * X3D_ROOM if `room` bytes are not enough; nothing is copied then. */
 uint8_t x3d_world_copy_text(struct x3d_world *world, uint8_t *out, size_t room, size_t *wanted);
 
-/* ---- numbers: they are listed, and then copied with x3d_world_copy_numbers */
+/* ---- numbers: a call lists them, then x3d_world_copy_numbers copies them
+ *
+ * A call that lists numbers drops the ones before. If it fails, the list is empty and the world is
+ * unchanged. X3D_MEMORY if memory ran out. */
 
-/* How many nodes the scene has, which are numbered from 0. */
+/* Writes the number of nodes in the scene. They are numbered from 0. */
 uint8_t x3d_world_node_count(struct x3d_world *world, size_t *count);
-/* How many fields a node has, which are numbered from 0; 0 where there is no such node. */
+/* Writes the number of fields of a node. They are numbered from 0. 0 if there is no such node. */
 uint8_t x3d_world_field_count(struct x3d_world *world, uint32_t node, uint32_t *count);
-/* The number of the field of that name of a node, as `translation`: of its type, or one that a
- * Script declares. By it the calls below and above find its value. X3D_NO_SUCH_FIELD where there
- * is none. */
+/* Writes the number of the field of a node with this name, such as `translation`: a field of its
+ * type, or one that a Script declares. Other calls take a field by this number. X3D_NO_SUCH_FIELD
+ * if there is no such node or field. */
 uint8_t x3d_world_field_named(struct x3d_world *world, uint32_t node, const uint8_t *name,
                               size_t length, uint16_t *field);
-/* The roots of the scene. */
+/* Lists the roots of the scene by their numbers. */
 uint8_t x3d_world_list_roots(struct x3d_world *world);
-/* The nodes in the field `children` of a node; none where it has no such field. */
+/* Lists the nodes in the field `children` of a node, none if it has no such field.
+ * X3D_NO_SUCH_NODE if there is no such node. */
 uint8_t x3d_world_list_children(struct x3d_world *world, uint32_t node);
-/* The numbers of the value that a field has now: truths as 1 and 0, integers, millionths and
- * microseconds as they are, vectors and colors part by part, nodes as their numbers; a text has
- * none. */
+/* Lists the numbers of the current value of a field: truths as 1 and 0, integers, millionths and
+ * microseconds unchanged, vectors and colors part by part, nodes as their numbers. A text has none.
+ * X3D_SPOILED, or X3D_NO_SUCH_FIELD if there is no such field, or it holds no value. */
 uint8_t x3d_world_list_value(struct x3d_world *world, uint32_t node, uint16_t field);
-/* Copies the numbers that were listed last, where there is room, and tells how many there are. */
+/* Copies the numbers that were listed last, and writes how many there are to `wanted`. X3D_ROOM if
+ * there is no room for `wanted` numbers; nothing is copied then. */
 uint8_t x3d_world_copy_numbers(struct x3d_world *world, int64_t *out, size_t room, size_t *wanted);
 
 /* ---- snapshots */
 
-/* Puts the world of a snapshot in place of what there was, a spoiled one too: a snapshot of this
- * scene, of a boot below `boot`. */
+/* Replaces the world, even a spoiled one, with that of a snapshot of this scene that was taken as a
+ * boot below `boot`, and writes its boot and its number of applied inputs. On refusal, the first of
+ * these that holds: X3D_SHORT, X3D_BAD_MAGIC, X3D_BAD_VERSION, X3D_WRONG_SCENE, X3D_BAD_DIGEST,
+ * X3D_NOT_CANONICAL, X3D_BOOT_NOT_NEW, X3D_SCRIPT_STATE. X3D_MEMORY spoils the world. */
 uint8_t x3d_world_load(struct x3d_world *world, uint32_t boot, const uint8_t *bytes, size_t length,
                        struct x3d_saved *saved);
 
 /* ---- scripts of a world */
 
-/* How many scripts the scene runs, which are numbered from 0. */
+/* Writes the number of scripts that the scene runs. They are numbered from 0. */
 uint8_t x3d_world_script_count(struct x3d_world *world, size_t *count);
-/* Puts a new box of a kind (an x3d_kind) in the place of the k-th script, which goes on in its
- * state: the world stays as it is, whatever is answered. */
+/* Replaces the k-th script with a new box of kind `kind` (an x3d_kind), which goes on in its state.
+ * The world is unchanged whatever is returned. X3D_RANGE for an unknown kind, X3D_SPOILED,
+ * X3D_NO_SUCH_SCRIPT, X3D_KIND_DIFFERS, or X3D_MEMORY. */
 uint8_t x3d_world_replace_script(struct x3d_world *world, size_t k, uint8_t kind);
 
-/* ---- the host of a shared world: it numbers what happens, and hands it out. A host and its
- * viewers exchange datagrams of at most 256 bytes, which the program carries: they may be lost,
- * repeated and come in any order, but come unaltered, and only those of this run. The calls that
- * copy a datagram answer X3D_NO_PACKET where there is none. */
+/* ---- the host of a shared world: it numbers what happens, and gives it to the viewers. A host and
+ * its viewers exchange datagrams of at most 256 bytes, which the program carries. They may be lost,
+ * repeated and come in any order, but must arrive unaltered, and only those of this run. A call
+ * that copies a datagram writes its length to `wanted`. It returns X3D_NO_PACKET if there is no
+ * such datagram, and X3D_ROOM if `room` bytes are not enough. */
 
-/* Opens the host of a scene's text for 1 to 64 viewers, numbered from 0, in place of one that the
- * handle had. It keeps the mark of the text alone, and does not look at the scene. Where memory is
- * refused the handle has none. */
+/* Opens the host of a scene's text for 1 to 64 viewers, numbered from 0, in place of the one that
+ * the handle had. The host keeps only the mark of the text, and does not look at the scene.
+ * X3D_RANGE for another number of viewers. On X3D_MEMORY the handle is empty. */
 uint8_t x3d_host_open(struct x3d_host *host, const uint8_t *text, size_t length, uint8_t viewers);
-/* Frees the host. Without one it does nothing. */
+/* Frees the host. Does nothing if the handle holds none. */
 void x3d_host_close(struct x3d_host *host);
-/* Numbers a clock at a time of 1 to 10^18 microseconds, above that of the last input, and tells
- * its number. */
+/* Numbers a clock at a time of 1 to 10^18 microseconds, above that of the last input, and writes
+ * its number. X3D_WORLD_FULL, X3D_TIME_NOT_LATER, X3D_TIME_RANGE, or X3D_MEMORY. */
 uint8_t x3d_host_clock(struct x3d_host *host, int64_t time, uint32_t *number);
-/* Takes a datagram of a viewer, and tells what was made of it. */
+/* Takes a datagram of a viewer, and writes what the host did with it. If the bytes are not a
+ * datagram: X3D_BAD_PACKET, X3D_BAD_VERSION, X3D_BAD_TAG, X3D_BAD_RANGE or X3D_ZERO_RAY.
+ * X3D_WRONG_SCENE. X3D_BAD_VIEWER if there is no such viewer. If an offer cannot be numbered: the
+ * statuses of x3d_host_clock. */
 uint8_t x3d_host_take(struct x3d_host *host, const uint8_t *bytes, size_t length,
                       struct x3d_reply *reply);
-/* The datagram of the input of a number, from the floor on. */
+/* Copies the datagram of input `number`. X3D_NO_PACKET below the floor, or if that input is not
+ * numbered yet. */
 uint8_t x3d_host_packet(struct x3d_host *host, uint32_t number, uint8_t *out, size_t room,
                         size_t *wanted);
-/* The datagram that tells viewer `who` how many of its offers are numbered. X3D_RANGE: there is no
- * such viewer. */
+/* Copies the datagram that says how many offers of viewer `who` are numbered. X3D_RANGE if there is
+ * no such viewer. */
 uint8_t x3d_host_ack(struct x3d_host *host, uint8_t who, uint8_t *out, size_t room, size_t *wanted);
-/* The number from which on there are datagrams of inputs: 1 at first. */
+/* Writes the floor: inputs below it have no datagrams. It is 1 at first. */
 uint8_t x3d_host_floor(struct x3d_host *host, uint32_t *number);
-/* The datagram that tells it. */
+/* Copies the datagram that says the floor. */
 uint8_t x3d_host_floor_packet(struct x3d_host *host, uint8_t *out, size_t room, size_t *wanted);
-/* Drops the inputs below a number: their memory is used again or freed. */
+/* Drops the inputs below `number`, which becomes the floor; their memory is used again or freed.
+ * X3D_FLOOR_BACK if `number` is below the floor, X3D_FLOOR_AHEAD if it is above the number of the
+ * next input. */
 uint8_t x3d_host_drop_below(struct x3d_host *host, uint32_t number);
-/* How many inputs are numbered. */
+/* Writes the number of inputs that are numbered. */
 uint8_t x3d_host_count(struct x3d_host *host, uint32_t *count);
-/* How many viewers there are. */
+/* Writes the number of viewers. */
 uint8_t x3d_host_viewers(struct x3d_host *host, uint32_t *count);
 
 /* ---- a viewer of a shared world: it holds the world, offers what it points at, and applies the
- * host's inputs in turn */
+ * host's inputs in order. Calls that copy a datagram return as those of a host. */
 
-/* Opens the viewer of a scene's text, as a boot, 1 to 2^32 - 1, of viewer `who`, 0 to 63, in place
- * of one that the handle had. Where it is refused the handle has none, and the line `refused NAME
- * line N` is copied to `refusal`, which has at most 64 bytes; at X3D_RANGE it has what it had. */
+/* Opens the viewer of a scene's text as boot `boot`, 1 to 2^32 - 1, of viewer `who`, 0 to 63, in
+ * place of the one that the handle had. On X3D_SCENE and X3D_MEMORY the handle is empty, and the
+ * line `refused NAME line N`, of at most 64 bytes, is copied to `refusal` if `room` bytes are
+ * enough. Its length is written to `wanted`. X3D_RANGE for another `who` or `boot`: the handle
+ * keeps what it had. */
 uint8_t x3d_viewer_open(struct x3d_viewer *viewer, const uint8_t *text, size_t length, uint8_t who,
                         uint32_t boot, uint8_t *refusal, size_t room, size_t *wanted);
-/* Frees the viewer. Without one it does nothing. */
+/* Frees the viewer. Does nothing if the handle holds none. */
 void x3d_viewer_close(struct x3d_viewer *viewer);
-/* How many inputs were applied, or had been when memory was refused. */
+/* Writes the number of inputs that were applied, or that had been when memory ran out. */
 uint8_t x3d_viewer_applied(struct x3d_viewer *viewer, uint32_t *count);
-/* Its boot. */
+/* Writes the viewer's boot. */
 uint8_t x3d_viewer_boot(struct x3d_viewer *viewer, uint32_t *boot);
-/* How many offers wait: at most 64. */
+/* Writes the number of offers that wait: at most 64. */
 uint8_t x3d_viewer_waiting(struct x3d_viewer *viewer, uint32_t *count);
-/* Takes a datagram of the host, and tells what was made of it. At X3D_TIME_NOT_LATER that input is
- * dropped, at X3D_MEMORY the viewer is spoiled: then only x3d_viewer_rewind and x3d_viewer_join
+/* Takes a datagram of the host, and writes what the viewer did with it. X3D_SPOILED. If the bytes
+ * are not a datagram: as for x3d_host_take. X3D_WRONG_SCENE. X3D_NOT_FOR_ME for an offer, an ask, a
+ * piece, or a report for another viewer. X3D_TIME_NOT_LATER: the input is dropped; inputs before it
+ * stay applied. X3D_MEMORY: the viewer is spoiled, and only x3d_viewer_rewind and x3d_viewer_join
  * bring it back. */
 uint8_t x3d_viewer_take(struct x3d_viewer *viewer, const uint8_t *bytes, size_t length,
                         struct x3d_taken *taken);
-/* Offers what is pointed at, with the button down or not, and tells the offer's number in this
- * boot. */
+/* Offers what the viewer points at, with the button down or not, and writes the offer's number in
+ * this boot, from 1. X3D_SPOILED, X3D_ZERO_RAY, X3D_POINT_RANGE, X3D_OFFER_FULL, or
+ * X3D_OFFERS_SPENT. */
 uint8_t x3d_viewer_offer(struct x3d_viewer *viewer, bool down, const struct x3d_aim *aim,
                          uint32_t *number);
-/* The datagram of the offer that waits at a place, from 0. */
+/* Copies the datagram of the offer that waits at place `place`, from 0. */
 uint8_t x3d_viewer_resend(struct x3d_viewer *viewer, uint32_t place, uint8_t *out, size_t room,
                           size_t *wanted);
-/* The datagram that asks for the inputs from the first that it lacks. */
+/* Copies the datagram that asks for the inputs from the first that the viewer lacks. */
 uint8_t x3d_viewer_ask(struct x3d_viewer *viewer, uint8_t *out, size_t room, size_t *wanted);
-/* Makes the snapshot of its world, as its boot: it is copied with x3d_viewer_copy_text. */
+/* Makes the snapshot of the viewer's world, taken as its boot. x3d_viewer_copy_text copies it.
+ * X3D_SPOILED or X3D_MEMORY. */
 uint8_t x3d_viewer_make_snapshot(struct x3d_viewer *viewer);
-/* Begins again in the world of a snapshot, as another boot, above its own and the snapshot's, and
- * tells how many inputs that has had. No offer waits then, and offers are numbered from 1. */
+/* Begins again in the world of a snapshot, as another boot, even if the viewer is spoiled, and
+ * writes the number of inputs that the world has had. Then no offer waits, and offers are numbered
+ * from 1. X3D_BOOT_NOT_NEW if `boot` is not above the viewer's; then the statuses of
+ * x3d_world_load. X3D_MEMORY spoils the viewer. */
 uint8_t x3d_viewer_rewind(struct x3d_viewer *viewer, uint32_t boot, const uint8_t *bytes,
                           size_t length, uint32_t *applied);
-/* How many pieces the bytes of a snapshot have: 0 where they do not begin as one, or are more than
- * 2^26. */
+/* Writes the number of pieces that the bytes of a snapshot have: 0 if they do not begin as a
+ * snapshot, or are more than 2^26 bytes. */
 uint8_t x3d_viewer_piece_count(struct x3d_viewer *viewer, const uint8_t *bytes, size_t length,
                                uint32_t *count);
-/* The datagram of the piece of a number, from 0, for another viewer of the scene. */
+/* Copies the datagram of piece `index`, from 0, for another viewer of the scene. */
 uint8_t x3d_viewer_piece(struct x3d_viewer *viewer, const uint8_t *bytes, size_t length,
                          uint32_t index, uint8_t *out, size_t room, size_t *wanted);
-/* Gathers a datagram that is a piece, and tells what was made of it (an x3d_gathered). */
+/* Gathers a datagram that is a piece, even if the viewer is spoiled, and writes what was done with
+ * it (an x3d_gathered). If the bytes are not a datagram: as for x3d_host_take. X3D_WRONG_SCENE,
+ * X3D_NOT_PIECE, or X3D_MEMORY (at the first piece only). */
 uint8_t x3d_viewer_gather(struct x3d_viewer *viewer, const uint8_t *bytes, size_t length,
                           uint32_t *gathered);
-/* Begins again in the world of the snapshot that was gathered, as x3d_viewer_rewind does. What was
- * gathered is kept where that is refused. */
+/* Begins again in the world of the snapshot that was gathered, as x3d_viewer_rewind does. Then no
+ * piece is kept. X3D_NOT_WHOLE if pieces are missing; then as x3d_viewer_rewind. On a refusal the
+ * gathered pieces are kept. */
 uint8_t x3d_viewer_join(struct x3d_viewer *viewer, uint32_t boot, uint32_t *applied);
-/* Lets go what was gathered. */
+/* Drops what was gathered. */
 uint8_t x3d_viewer_forget(struct x3d_viewer *viewer);
 
-/* What is read of its world, as of an x3d_world. */
+/* Reads the viewer's world: these calls do what those of an x3d_world do, and return the same
+ * statuses. */
 uint8_t x3d_viewer_make_trace(struct x3d_viewer *viewer, uint32_t first);
 uint8_t x3d_viewer_make_changes(struct x3d_viewer *viewer, uint32_t first);
 uint8_t x3d_viewer_make_scene(struct x3d_viewer *viewer);

@@ -1,4 +1,4 @@
--- The numbers that C sees for the answers of hosts and viewers, and what is told of these.
+-- The numbers that C sees for the answers of hosts and viewers, and what is returned of them.
 use Rattle.std.specs.Prelude.{ℕ, Result, Ok, Err}
 use Rattle.share_law.specs.declared.fault.FloorFault.{FloorFault}
 use Rattle.share_law.specs.declared.fault.FloorFault.TheVariants as floor
@@ -84,7 +84,7 @@ abbrev pub status_by : {A E : Type 0} → (E → ℕ) → Result A E → ℕ
 status_by of_fault (Ok a) = 0
 status_by of_fault (Err fault) = of_fault fault
 
--- the number that was answered, in the place of the old one
+-- the number that was answered; on a fault, the old one
 abbrev pub number_by : {E : Type 0} → (old : ℕ) → Result ℕ E → ℕ
 number_by old (Ok n) = n
 number_by old (Err fault) = old
@@ -98,7 +98,7 @@ reply_as reply.OldBoot = record { kind = 4; number = 0; count = 0 }
 reply_as (reply.Below n) = record { kind = 5; number = n; count = 0 }
 reply_as reply.NothingToDo = record { kind = 6; number = 0; count = 0 }
 
--- what a host made of a datagram, in the place of what stood there
+-- what a host did with a datagram; on a fault, the old value
 abbrev pub replied : ReplyAs → Result HostReply HostFault → ReplyAs
 replied old (Ok reply) = reply_as reply
 replied old (Err fault) = old
@@ -111,7 +111,7 @@ taken_as (taken.Applied n) = record { kind = 3; count = n }
 taken_as taken.Noted = record { kind = 4; count = 0 }
 taken_as taken.Behind = record { kind = 5; count = 0 }
 
--- what a viewer made of one
+-- what a viewer did with a datagram; on a fault, the old value
 abbrev pub taken_by : TakenAs → Result Taken TakeFault → TakenAs
 taken_by old (Ok taken) = taken_as taken
 taken_by old (Err fault) = old
@@ -122,7 +122,7 @@ gathered_as gathered.Again = 1
 gathered_as gathered.Whole = 2
 gathered_as gathered.Other = 3
 
--- what it made of a piece
+-- what a viewer did with a piece; on a fault, the old value
 abbrev pub gathered_by : ℕ → Result Gathered GatherFault → ℕ
 gathered_by old (Ok gathered) = gathered_as gathered
 gathered_by old (Err fault) = old

@@ -1,4 +1,4 @@
--- The numbers that C sees for answers, and what an export says of a handle.
+-- The numbers that C sees for answers, and what an export does with a handle.
 use Rattle.std.specs.Prelude.{◌≡◌, ◌++◌, ℕ, List, Option, Some, None, Result, Ok, Err, drop, length, nat_lt, if◌then◌else◌}
 use Rattle.snapshot_core.specs.declared.fault.SaveFault.{SaveFault}
 use Rattle.snapshot_core.specs.declared.fault.SaveFault.TheVariants as save
@@ -13,7 +13,7 @@ use Rattle.embed_world.specs.declared.fault.LookFault.TheVariants as look
 
 -- ---- statuses
 
--- the handle has nothing
+-- the handle is empty
 abbrev pub closed : ℕ
 closed = 10
 
@@ -29,7 +29,7 @@ no_such_field = 24
 abbrev pub no_packet : ℕ
 no_packet = 25
 
--- there is no room for all
+-- there is no room for everything
 abbrev pub no_room : ℕ
 no_room = 12
 
@@ -71,7 +71,8 @@ status_of_snap snap.Memory = 5
 
 -- ---- what is copied out
 
--- all of it, where there is room, and then the rest is as it was; how many there are is told
+-- everything is copied if there is room, and the rest of the buffer is unchanged; how many there
+-- are is returned
 abbrev pub IsCopied : {A : Type 0} → (all old : List A) → (status wanted : ℕ) → (new : List A)
     → Type 0
 IsCopied all old status wanted new =
@@ -81,8 +82,8 @@ IsCopied all old status wanted new =
 
 -- ---- calls
 
--- what a handle has is called, and the handle has what the call leaves; without it nothing is
--- called
+-- what the handle holds is called, and the handle then holds what the call leaves; an empty handle
+-- is not called
 abbrev pub Calls : {H A : Type 0} → (H → A → H → Type 0) → (A → ℕ) → Option H → ℕ → Option H
     → Type 0
 Calls {H} {A} does status_of None status after = (status ≡ closed) × (after ≡ None)
@@ -90,7 +91,7 @@ Calls {H} {A} does status_of (Some w) status after =
     (answer : A) × (next : H)
     × does w answer next × (status ≡ status_of answer) × (after ≡ Some next)
 
--- the same, and what the answer tells is written in the place of what stood there
+-- like Calls, and the answer's result is written over the old value
 abbrev pub CallsOut : {H A O : Type 0} → (H → A → H → Type 0) → (A → ℕ) → (O → A → O) → Option H
     → ℕ → Option H → (old new : O) → Type 0
 CallsOut {H} {A} does status_of told None status after old new =
@@ -100,22 +101,22 @@ CallsOut {H} {A} does status_of told (Some w) status after old new =
     × does w answer next × (status ≡ status_of answer) × (after ≡ Some next)
     × (new ≡ told old answer)
 
--- something is asked of what a handle has, which stays as it is
+-- something is read of what the handle holds, which is unchanged
 abbrev pub Asks : {H A : Type 0} → (H → A) → Option H → ℕ → (old new : A) → Type 0
 Asks asked None status old new = (status ≡ closed) × (new ≡ old)
 Asks asked (Some w) status old new = (status ≡ 0) × (new ≡ asked w)
 
--- the number of a field is told, if there is one
+-- the number of a field is written, if there is one
 abbrev pub IsFound : Option ℕ → (old status new : ℕ) → Type 0
 IsFound None old status new = (status ≡ no_such_field) × (new ≡ old)
 IsFound (Some field) old status new = (status ≡ 0) × (new ≡ field)
 
--- a field is looked for in what a handle has, which stays as it is
+-- a field is looked up in what the handle holds, which is unchanged
 abbrev pub Finds : {H : Type 0} → (H → Option ℕ) → Option H → ℕ → (old new : ℕ) → Type 0
 Finds found None status old new = (status ≡ closed) × (new ≡ old)
 Finds found (Some h) status old new = IsFound (found h) old status new
 
--- bytes or numbers of what a handle has are copied
+-- bytes or numbers of what the handle holds are copied
 abbrev pub Copies : {H A : Type 0} → (H → List A) → Option H → ℕ → (old : List A)
     → (wanted_old wanted : ℕ) → (new : List A) → Type 0
 Copies all None status old wanted_old wanted new =
@@ -124,7 +125,7 @@ Copies all (Some w) status old wanted_old wanted new = IsCopied (all w) old stat
 
 -- ---- datagrams
 
--- a datagram is copied; where there is none nothing is
+-- a datagram is copied; if there is none, nothing is
 abbrev pub IsHandedOut : (none : ℕ) → Option (List ℕ) → (old : List ℕ) → (status : ℕ)
     → (wanted_old wanted : ℕ) → (new : List ℕ) → Type 0
 IsHandedOut none None old status wanted_old wanted new =
@@ -132,7 +133,7 @@ IsHandedOut none None old status wanted_old wanted new =
 IsHandedOut none (Some bytes) old status wanted_old wanted new =
     IsCopied bytes old status wanted new
 
--- a datagram of what a handle has is copied
+-- a datagram of what the handle holds is copied
 abbrev pub HandsOut : {H : Type 0} → (none : ℕ) → (H → Option (List ℕ)) → Option H → ℕ
     → (old : List ℕ) → (wanted_old wanted : ℕ) → (new : List ℕ) → Type 0
 HandsOut none made None status old wanted_old wanted new =

@@ -1,5 +1,5 @@
-//! What C sees of answers: `status` and `node_status` have their numbers, `tell` what else is told,
-//! and `room` what is copied out.
+//! What C sees of answers: their numbers in `status` and `node_status`, what else is returned in
+//! `tell`, and what is copied out in `room`.
 #![tactic(auto)]
 
 mod node_status;

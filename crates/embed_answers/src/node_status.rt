@@ -42,7 +42,7 @@ const NOT_PIECE: u8 = 54;
 
 const NOT_WHOLE: u8 = 55;
 
-/// Why bytes are no datagram.
+/// The number for why bytes are not a datagram.
 pub fn status_of_wire(fault: WireFault) -> u8
     ensures { result ≡ spec.status_of_wire fault }
 {
@@ -55,7 +55,7 @@ pub fn status_of_wire(fault: WireFault) -> u8
     }
 }
 
-/// Why no input was numbered.
+/// The number for why no input was numbered.
 pub fn status_of_number(fault: NumberFault) -> u8
     ensures { result ≡ spec.status_of_number fault }
 {
@@ -67,7 +67,7 @@ pub fn status_of_number(fault: NumberFault) -> u8
     }
 }
 
-/// Why a host took no datagram.
+/// The number for why a host did not take a datagram.
 pub fn status_of_host(fault: HostFault) -> u8
     ensures { result ≡ spec.status_of_host fault }
 {
@@ -79,7 +79,7 @@ pub fn status_of_host(fault: HostFault) -> u8
     }
 }
 
-/// Whether inputs were dropped.
+/// The number for whether inputs were dropped, or why not.
 pub fn status_of_floor(answer: Result<u32, FloorFault>) -> u8
     ensures { result ≡ spec.status_of_floor answer }
 {
@@ -90,7 +90,7 @@ pub fn status_of_floor(answer: Result<u32, FloorFault>) -> u8
     }
 }
 
-/// Why a viewer took no datagram.
+/// The number for why a viewer did not take a datagram.
 pub fn status_of_take(fault: TakeFault) -> u8
     ensures { result ≡ spec.status_of_take fault }
 {
@@ -104,7 +104,7 @@ pub fn status_of_take(fault: TakeFault) -> u8
     }
 }
 
-/// Why a viewer offered no point.
+/// The number for why a viewer did not offer a point.
 pub fn status_of_offer(fault: OfferFault) -> u8
     ensures { result ≡ spec.status_of_offer fault }
 {
@@ -117,7 +117,7 @@ pub fn status_of_offer(fault: OfferFault) -> u8
     }
 }
 
-/// Why a viewer gathered no piece.
+/// The number for why a viewer did not gather a piece.
 pub fn status_of_gather(fault: GatherFault) -> u8
     ensures { result ≡ spec.status_of_gather fault }
 {
@@ -129,7 +129,7 @@ pub fn status_of_gather(fault: GatherFault) -> u8
     }
 }
 
-/// Why a viewer did not begin again by what it gathered.
+/// The number for why a viewer did not begin again in the snapshot that it gathered.
 pub fn status_of_join(fault: JoinFault) -> u8
     ensures { result ≡ spec.status_of_join fault }
 {

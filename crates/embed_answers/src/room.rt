@@ -1,4 +1,4 @@
-//! What is copied out, where there is room for it.
+//! Copies results out, if there is room for them.
 
 ghost use Rattle.std.specs.Option.{option_map};
 ghost use Rattle.embed_answers.specs.Status.{IsCopied, IsHandedOut};
@@ -6,7 +6,8 @@ ghost use Rattle.embed_answers.specs.Status.{IsCopied, IsHandedOut};
 use crate::status::{DONE, ROOM};
 use share_wire::Packet;
 
-/// Copies the bytes, where `out` has room for all of them, and tells how many there are.
+/// Copies the bytes if `out` has room for all of them, and writes their number to `wanted`. Returns
+/// `DONE` or `ROOM`.
 pub fn copy_text(out: &mut [u8], text: &[u8], wanted: &mut usize) -> u8
     ensures { IsCopied text.now out.old result wanted.new out.new }
 {
@@ -18,7 +19,8 @@ pub fn copy_text(out: &mut [u8], text: &[u8], wanted: &mut usize) -> u8
     DONE
 }
 
-/// Copies the numbers, where `out` has room for all of them, and tells how many there are.
+/// Copies the numbers if `out` has room for all of them, and writes how many there are to `wanted`.
+/// Returns `DONE` or `ROOM`.
 pub fn copy_numbers(out: &mut [i64], numbers: &[i64], wanted: &mut usize) -> u8
     ensures { IsCopied numbers.now out.old result wanted.new out.new }
 {
@@ -30,8 +32,8 @@ pub fn copy_numbers(out: &mut [i64], numbers: &[i64], wanted: &mut usize) -> u8
     DONE
 }
 
-/// Copies a datagram, where there is one and `out` has room for it, and tells how many bytes it
-/// has; `none` is answered where there is none.
+/// Copies a datagram if there is one and `out` has room for it, and writes its number of bytes to
+/// `wanted`. Returns `DONE`, `ROOM`, or `none` if there is no datagram.
 pub fn hand_out(packet: Option<Packet>, none: u8, out: &mut [u8], wanted: &mut usize) -> u8
     ensures { IsHandedOut none (option_map (λ p. p.items) packet) out.old result wanted.old
         wanted.new out.new }

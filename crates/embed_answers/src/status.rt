@@ -1,4 +1,4 @@
-//! The numbers that C sees for what is answered.
+//! The numbers that C sees for answers.
 
 ghost use Rattle.std.specs.Prelude.{◌≡◌};
 ghost use Rattle.embed_answers.specs.Status.{status_of_apply, status_of_look, status_of_place, status_of_save, status_of_snap};
@@ -7,22 +7,22 @@ use cascade_core::{ApplyFault, PlaceFault};
 use embed_world::LookFault;
 use snapshot_core::{SaveFault, SnapFault};
 
-/// Done.
+/// The call succeeded.
 pub const DONE: u8 = 0;
 
-/// Memory was refused.
+/// Memory ran out.
 pub const MEMORY: u8 = 5;
 
-/// The handle has nothing.
+/// The handle is empty.
 pub const CLOSED: u8 = 10;
 
 /// A number is out of its range; nothing was done.
 pub const RANGE: u8 = 11;
 
-/// Not all bytes or numbers had room.
+/// There was no room for all bytes or numbers; none were copied.
 pub const ROOM: u8 = 12;
 
-/// Memory was refused at an earlier input.
+/// Memory ran out at an earlier input.
 pub const SPOILED: u8 = 20;
 
 const NOT_NEXT: u8 = 21;
@@ -53,7 +53,7 @@ const BOOT_NOT_NEW: u8 = 36;
 
 const SCRIPT_STATE: u8 = 37;
 
-/// Why an input was not applied.
+/// The number for why an input was not applied.
 pub fn status_of_apply(fault: ApplyFault) -> u8
     ensures { result ≡ status_of_apply fault }
 {
@@ -65,7 +65,7 @@ pub fn status_of_apply(fault: ApplyFault) -> u8
     }
 }
 
-/// Why nothing was read.
+/// The number for whether something was read, or why not.
 pub fn status_of_look(answer: Result<(), LookFault>) -> u8
     ensures { result ≡ status_of_look answer }
 {
@@ -78,7 +78,7 @@ pub fn status_of_look(answer: Result<(), LookFault>) -> u8
     }
 }
 
-/// Why a script was not replaced.
+/// The number for whether a script was replaced, or why not.
 pub fn status_of_place(answer: Result<(), PlaceFault>) -> u8
     ensures { result ≡ status_of_place answer }
 {
@@ -91,7 +91,7 @@ pub fn status_of_place(answer: Result<(), PlaceFault>) -> u8
     }
 }
 
-/// Why no snapshot was made.
+/// The number for whether a snapshot was made, or why not.
 pub fn status_of_save(answer: Result<(), SaveFault>) -> u8
     ensures { result ≡ status_of_save answer }
 {
@@ -102,7 +102,7 @@ pub fn status_of_save(answer: Result<(), SaveFault>) -> u8
     }
 }
 
-/// Why no world was made of a snapshot.
+/// The number for why no world was made from a snapshot.
 pub fn status_of_snap(fault: SnapFault) -> u8
     ensures { result ≡ status_of_snap fault }
 {

@@ -1,4 +1,4 @@
-//! What is told of an answer, beside its status.
+//! What is returned of an answer, besides its status.
 
 ghost use Rattle.std.specs.Prelude.{◌≡◌};
 ghost use Rattle.embed_answers.specs.Status as answers;
@@ -16,9 +16,9 @@ use share_law::{
 };
 use snapshot_core::SnapFault;
 
-/// What a host made of a datagram: `count` inputs from `number` on were asked for (kind 0), the
-/// offer is input `number` (1), a repeat (2), ahead (3), of an old boot (4), below the floor
-/// `number` (5), or there is nothing to do (6).
+/// What a host did with a datagram: it asks for `count` inputs from `number` on (kind 0), the offer
+/// is input `number` (1), a repeat (2), ahead (3), of an old boot (4), it asks for inputs below the
+/// floor `number` (5), or there is nothing to do (6).
 #[derive(Clone, Copy)]
 #[repr(C)]
 pub struct ReplyAs {
@@ -27,8 +27,9 @@ pub struct ReplyAs {
     pub count: u32,
 }
 
-/// What a viewer made of a datagram: an old input (kind 0), one beyond (1), kept (2), `count`
-/// inputs applied (3), noted (4), behind (5).
+/// What a viewer did with a datagram: the input is old (kind 0), beyond the window (1) or kept (2),
+/// `count` inputs were applied (3), an ack or floor was noted (4), or the viewer is behind the
+/// floor (5).
 #[derive(Clone, Copy)]
 #[repr(C)]
 pub struct TakenAs {
@@ -36,7 +37,7 @@ pub struct TakenAs {
     pub count: u32,
 }
 
-/// A reply by a kind and numbers.
+/// Returns a reply with this kind and these numbers.
 fn plain_reply(kind: u32, number: u32, count: u32) -> ReplyAs
     ensures { result ≡ record { kind = kind; number = number; count = count } }
 {
@@ -91,7 +92,7 @@ fn gathered_as(gathered: Gathered) -> u32
     }
 }
 
-/// What a host made of a datagram.
+/// Writes what a host did with a datagram to `told`, and returns the status.
 pub fn tell_reply(answer: Result<HostReply, HostFault>, told: &mut ReplyAs) -> u8
     ensures status { result ≡ spec.status_by spec.status_of_host answer }
     ensures told { told.new ≡ spec.replied told.old answer }
@@ -105,7 +106,7 @@ pub fn tell_reply(answer: Result<HostReply, HostFault>, told: &mut ReplyAs) -> u
     }
 }
 
-/// What a viewer made of a datagram.
+/// Writes what a viewer did with a datagram to `told`, and returns the status.
 pub fn tell_taken(answer: Result<Taken, TakeFault>, told: &mut TakenAs) -> u8
     ensures status { result ≡ spec.status_by spec.status_of_take answer }
     ensures told { told.new ≡ spec.taken_by told.old answer }
@@ -119,7 +120,7 @@ pub fn tell_taken(answer: Result<Taken, TakeFault>, told: &mut TakenAs) -> u8
     }
 }
 
-/// What a viewer made of a piece.
+/// Writes what a viewer did with a piece to `told`, and returns the status.
 pub fn tell_gathered(answer: Result<Gathered, GatherFault>, told: &mut u32) -> u8
     ensures status { result ≡ spec.status_by spec.status_of_gather answer }
     ensures told { told.new ≡ spec.gathered_by told.old answer }
@@ -133,7 +134,7 @@ pub fn tell_gathered(answer: Result<Gathered, GatherFault>, told: &mut u32) -> u
     }
 }
 
-/// The number of an input.
+/// Writes the number of an input to `told`, and returns the status.
 pub fn tell_number(answer: Result<u32, NumberFault>, told: &mut u32) -> u8
     ensures status { result ≡ spec.status_by spec.status_of_number answer }
     ensures told { told.new ≡ spec.number_by told.old answer }
@@ -147,7 +148,7 @@ pub fn tell_number(answer: Result<u32, NumberFault>, told: &mut u32) -> u8
     }
 }
 
-/// The number of an offer.
+/// Writes the number of an offer to `told`, and returns the status.
 pub fn tell_offer(answer: Result<u32, OfferFault>, told: &mut u32) -> u8
     ensures status { result ≡ spec.status_by spec.status_of_offer answer }
     ensures told { told.new ≡ spec.number_by told.old answer }
@@ -161,7 +162,7 @@ pub fn tell_offer(answer: Result<u32, OfferFault>, told: &mut u32) -> u8
     }
 }
 
-/// The number of a field, where there is one.
+/// Writes the number of a field, if there is one, to `told`, and returns the status.
 pub fn tell_field(found: Option<u16>, told: &mut u16) -> u8
     ensures { IsFound found told.old result told.new }
 {
@@ -172,7 +173,7 @@ pub fn tell_field(found: Option<u16>, told: &mut u16) -> u8
     DONE
 }
 
-/// How many inputs the world of a snapshot has had.
+/// Writes how many inputs the world of a snapshot has had to `told`, and returns the status.
 pub fn tell_rewound(answer: Result<u32, SnapFault>, told: &mut u32) -> u8
     ensures status { result ≡ spec.status_by answers.status_of_snap answer }
     ensures told { told.new ≡ spec.number_by told.old answer }
@@ -186,7 +187,8 @@ pub fn tell_rewound(answer: Result<u32, SnapFault>, told: &mut u32) -> u8
     }
 }
 
-/// How many inputs the world of what was gathered has had.
+/// Writes how many inputs the world of the gathered snapshot has had to `told`, and returns the
+/// status.
 pub fn tell_joined(answer: Result<u32, JoinFault>, told: &mut u32) -> u8
     ensures status { result ≡ spec.status_by spec.status_of_join answer }
     ensures told { told.new ≡ spec.number_by told.old answer }

@@ -1,4 +1,4 @@
--- The numbers that C sees for the answers of a world, and what an export says of a handle.
+-- The numbers that C sees for the answers of a world, and what an export does with a handle.
 use Rattle.std.specs.Prelude.{◌≡◌, ℕ, List, [], Option, Some, None, Result, Ok, Err}
 use Rattle.std.specs.Result.{result_ok}
 use Rattle.share_jobs.specs.declared.fault.JobFault.{JobFault}
@@ -21,19 +21,19 @@ use Rattle.embed_c.specs.declared.inputs.WorkCount.{WorkCount}
 use Rattle.embed_c.specs.declared.lists.Met.{Met}
 use Rattle.embed_c.specs.declared.shots.SavedAs.{SavedAs}
 
--- 1 for a scene that is refused or its scripts, 5 for memory, as the program ends
+-- 1 if the scene or its scripts are refused, 5 if memory ran out, like the program's exit status
 abbrev pub status_of_open : Result EmbeddedWorld JobFault → ℕ
 status_of_open (Ok _) = 0
 status_of_open (Err fault) = status (Job fault)
 
 -- ---- calls
 
--- the line for a refusal, as the program prints it; none where a world is opened
+-- the line of a refusal, as the program prints it; none if a world is opened
 abbrev pub refusal_line : Result EmbeddedWorld JobFault → List ℕ
 refusal_line (Ok _) = []
 refusal_line (Err fault) = refusal_text (Job fault)
 
--- the handle has the world of the text, or none, with the status and the line of the refusal
+-- the handle has the world of the text, or is empty, with the status and the line of the refusal
 abbrev pub Opens : List ℕ → ℕ → Option EmbeddedWorld → (old : List ℕ) → ℕ → (new : List ℕ) → Type 0
 Opens text status after old wanted new =
     (answer : Result EmbeddedWorld JobFault) × (copied : ℕ)
@@ -51,7 +51,7 @@ abbrev pub status_of_work : Result Work ApplyFault → ℕ
 status_of_work (Ok _) = 0
 status_of_work (Err fault) = status_of_apply fault
 
--- an input is applied to the world of a handle, and its work counted
+-- an input is applied to the world of a handle, and its work is counted
 abbrev pub AppliesAt : StampedView → Option EmbeddedWorld → ℕ → Option EmbeddedWorld
     → (old new : WorkCount) → Type 0
 AppliesAt input None status after old new = (status ≡ closed) × (after ≡ None) × (new ≡ old)
@@ -60,7 +60,7 @@ AppliesAt input (Some w) status after old new =
     × Applies w input answer next × (status ≡ status_of_work answer) × (after ≡ Some next)
     × (new ≡ counted old answer)
 
--- the same of an input whose numbers may be out of range
+-- like AppliesAt, for an input whose numbers may be out of range
 abbrev pub InputIsApplied : Option StampedView → Option EmbeddedWorld → ℕ → Option EmbeddedWorld
     → (old new : WorkCount) → Type 0
 InputIsApplied None before status after old new =
@@ -78,7 +78,7 @@ abbrev pub status_of_load : Result Saved SnapFault → ℕ
 status_of_load (Ok _) = 0
 status_of_load (Err fault) = status_of_snap fault
 
--- a snapshot is put into the world of a handle, and what it was is told
+-- a snapshot is loaded into the world of a handle, and its boot and inputs are returned
 abbrev pub LoadsAt : (boot : ℕ) → (bytes : List ℕ) → Option EmbeddedWorld → ℕ
     → Option EmbeddedWorld → (old new : SavedAs) → Type 0
 LoadsAt boot bytes None status after old new = (status ≡ closed) × (after ≡ None) × (new ≡ old)
@@ -101,7 +101,7 @@ abbrev pub status_of_meet : Result (Option ListEntry) LookFault → ℕ
 status_of_meet (Ok _) = 0
 status_of_meet (Err fault) = status_of_look (Err fault)
 
--- what a ray meets is asked of the world of a handle
+-- the world of a handle is asked what a ray meets
 abbrev pub MeetsAt : RayView → Option EmbeddedWorld → ℕ → Option EmbeddedWorld → (old new : Met)
     → Type 0
 MeetsAt ray None status after old new = (status ≡ closed) × (after ≡ None) × (new ≡ old)
@@ -110,7 +110,7 @@ MeetsAt ray (Some w) status after old new =
     × Meets (meeting_in w.stage ray) w answer next × (status ≡ status_of_meet answer)
     × (after ≡ Some next) × (new ≡ told old answer)
 
--- the same of a ray whose numbers may be out of range
+-- like MeetsAt, for a ray whose numbers may be out of range
 abbrev pub Meeting : Option RayView → Option EmbeddedWorld → ℕ → Option EmbeddedWorld
     → (old new : Met) → Type 0
 Meeting None before status after old new =
@@ -119,8 +119,8 @@ Meeting (Some ray) before status after old new = MeetsAt ray before status after
 
 -- ---- scripts
 
--- a box of a kind is put in the place of script k of the world of a handle; a kind that there isn't
--- is out of range
+-- script k of the world of a handle is replaced by a box of a kind; a kind that does not exist is
+-- out of range
 abbrev pub IsReplacing : (k : ℕ) → Option Kind → Option EmbeddedWorld → ℕ → Option EmbeddedWorld
     → Type 0
 IsReplacing k None before status after = (status ≡ out_of_range) × (after ≡ before)

@@ -1,4 +1,4 @@
--- What the exports say of the handles of hosts and viewers.
+-- What the exports do with the handles of hosts and viewers.
 use Rattle.std.specs.Prelude.{◌≡◌, ◌⊎◌, ℕ, Bool, true, false, List, [], Option, Some, None, Result, Ok, Err}
 use Rattle.std.specs.Result.{result_ok}
 use Rattle.share_jobs.specs.declared.fault.JobFault.{JobFault}
@@ -16,8 +16,7 @@ use Rattle.embed_c.specs.declared.lists.Met.{Met}
 
 -- ---- opening
 
--- the handle has this host, or none where memory was refused; a host that there can't be isn't
--- asked for
+-- the handle has this host, or is empty if memory ran out; a host that cannot exist is out of range
 abbrev pub HostOpens : Option EmbeddedHost → Option EmbeddedHost → ℕ → Option EmbeddedHost → Type 0
 HostOpens None before status after = (status ≡ out_of_range) × (after ≡ before)
 HostOpens (Some h) before status after =
@@ -27,12 +26,12 @@ abbrev pub status_of_start : Result EmbeddedViewer JobFault → ℕ
 status_of_start (Ok _) = 0
 status_of_start (Err fault) = status (Job fault)
 
--- the line for a refusal, as the program prints it; none where a viewer is opened
+-- the line of a refusal, as the program prints it; none if a viewer is opened
 abbrev pub start_line : Result EmbeddedViewer JobFault → List ℕ
 start_line (Ok _) = []
 start_line (Err fault) = refusal_text (Job fault)
 
--- the handle has the viewer of the text, or none, with the status and the line of the refusal
+-- the handle has the viewer of the text, or is empty, with the status and the line of the refusal
 abbrev pub ViewerOpens : List ℕ → (who boot : ℕ) → ℕ → Option EmbeddedViewer → (old : List ℕ) → ℕ
     → (new : List ℕ) → Type 0
 ViewerOpens text who boot status after old wanted new =
@@ -40,7 +39,7 @@ ViewerOpens text who boot status after old wanted new =
     × IsStarted text who boot answer × (status ≡ status_of_start answer)
     × (after ≡ result_ok answer) × IsCopied (start_line answer) old copied wanted new
 
--- nothing is opened, since a number is out of its range
+-- nothing is opened, because a number is out of its range
 abbrev pub OpensNone : Option EmbeddedViewer → ℕ → Option EmbeddedViewer → (old : List ℕ)
     → (wanted_old wanted : ℕ) → (new : List ℕ) → Type 0
 OpensNone before status after old wanted_old wanted new =
@@ -67,7 +66,7 @@ forgets v _ next = next ≡ forgetting v
 
 -- ---- rays
 
--- what a ray meets is asked of the viewer of a handle; a ray whose numbers are out of range isn't
+-- the viewer of a handle is asked what a ray meets, unless the ray's numbers are out of range
 abbrev pub ViewerMeets : Option RayView → Option EmbeddedViewer → ℕ → Option EmbeddedViewer
     → (old new : Met) → Type 0
 ViewerMeets None before status after old new =

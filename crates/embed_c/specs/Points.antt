@@ -1,4 +1,4 @@
--- The input of a pointer, and the kind of a script, by the numbers that C hands in.
+-- The input of a pointer, and the kind of a script, by the numbers that C passes.
 use Rattle.std.specs.Prelude.{ℕ, ℤ, Bool, ◌==◌, if◌then◌else◌, Option, Some, None}
 use Rattle.x3d_values.specs.Pointing.{PointerView, RayView}
 use Rattle.x3d_values.specs.Stamp.{StampedView}
@@ -16,7 +16,7 @@ origin_of aim = record { x = aim.origin_x; y = aim.origin_y; z = aim.origin_z }
 abbrev pub direction_of : Aim → Vec3
 direction_of aim = record { x = aim.direction_x; y = aim.direction_y; z = aim.direction_z }
 
--- the ray that is pointed with
+-- the ray that a viewer points with
 abbrev pub aimed : Aim → Option RayView
 aimed aim = ray_of (origin_of aim) (direction_of aim)
 
@@ -24,12 +24,12 @@ abbrev pub stamped_pointer : ℕ → ℤ → Option PointerView → Option Stamp
 stamped_pointer number time None = None
 stamped_pointer number time (Some pointer) = stamped number time (Pointer pointer)
 
--- the pointer of a viewer with this ray, as the input of a number at a time
+-- the pointer of a viewer with this ray, as the input with a number at a time
 abbrev pub pointed : ℕ → ℤ → ℕ → Bool → Aim → Option StampedView
 pointed number time who down aim =
     stamped_pointer number time (pointer_of who down (ray_of (origin_of aim) (direction_of aim)))
 
--- the kind of a script by its number
+-- the kind of a script with this number
 abbrev pub kind_of : ℕ → Option Kind
 kind_of number =
     if number == 0 then Some kinds.Counter
@@ -40,6 +40,6 @@ kind_of number =
     else if number == 5 then Some kinds.Meter
     else None
 
--- what is pointed at, with the button down or not
+-- what a viewer points at, with the button down or not
 abbrev pub point_of : Bool → Aim → Point
 point_of down aim = record { down = down; origin = origin_of aim; dir = direction_of aim }

@@ -23,14 +23,15 @@ fn empty(alloc: Global, handle: &mut HostHandle)
     drop(take(handle, alloc));
 }
 
-/// A host on the heap.
+/// Returns a host on the heap, or `None` if memory runs out.
 fn boxed(alloc: Global, host: EmbeddedHost) -> Option<Box<EmbeddedHost>>
     ensures { IfSome result (λ b. b.value ≡ host) }
 {
     Box::new(alloc, host).ok()
 }
 
-/// Puts a host into a handle, in place of one that it had. Where memory is refused it has none.
+/// Puts a host into a handle, in place of the one that it had. Leaves the handle empty if memory
+/// runs out.
 fn hold(alloc: Global, handle: &mut HostHandle, host: EmbeddedHost) -> u8
     ensures { HostOpens (Some host) handle.old.host result handle.new.host }
 {
@@ -42,8 +43,7 @@ fn hold(alloc: Global, handle: &mut HostHandle, host: EmbeddedHost) -> u8
     DONE
 }
 
-/// Opens the host of a scene's text for so many viewers, 1 to 64, in place of one that the handle
-/// had.
+/// Opens the host of a scene's text for 1 to 64 viewers, in place of the one that the handle had.
 #[unsafe(no_mangle)]
 pub extern "C" fn x3d_host_open(
     alloc: Global,
@@ -59,7 +59,7 @@ pub extern "C" fn x3d_host_open(
     hold(alloc, handle, host)
 }
 
-/// Frees the host. Without one it does nothing.
+/// Frees the host. Does nothing if there is none.
 #[unsafe(no_mangle)]
 pub extern "C" fn x3d_host_close(alloc: Global, handle: &mut HostHandle)
     ensures { handle.new.host ≡ None }
@@ -67,7 +67,7 @@ pub extern "C" fn x3d_host_close(alloc: Global, handle: &mut HostHandle)
     empty(alloc, handle);
 }
 
-/// Numbers a clock at this time in microseconds, and tells its number.
+/// Numbers a clock at this time in microseconds, and writes its number to `number`.
 #[unsafe(no_mangle)]
 pub extern "C" fn x3d_host_clock(
     alloc: Global,
@@ -86,7 +86,7 @@ pub extern "C" fn x3d_host_clock(
     tell_number(answer, number)
 }
 
-/// Takes the bytes of a datagram, and tells what was made of it.
+/// Takes the bytes of a datagram, and writes what the host did with it to `reply`.
 #[unsafe(no_mangle)]
 pub extern "C" fn x3d_host_take(
     alloc: Global,
@@ -105,7 +105,7 @@ pub extern "C" fn x3d_host_take(
     tell_reply(answer, reply)
 }
 
-/// Copies the datagram of the input of this number.
+/// Copies the datagram of the input with this number.
 #[unsafe(no_mangle)]
 pub extern "C" fn x3d_host_packet(
     alloc: Global,
@@ -126,7 +126,7 @@ pub extern "C" fn x3d_host_packet(
     hand_out(packet, NO_PACKET, out, wanted)
 }
 
-/// Copies the datagram that tells viewer `who` how many of its offers are numbered.
+/// Copies the datagram that says how many offers of viewer `who` are numbered.
 #[unsafe(no_mangle)]
 pub extern "C" fn x3d_host_ack(
     alloc: Global,
@@ -147,7 +147,7 @@ pub extern "C" fn x3d_host_ack(
     hand_out(packet, RANGE, out, wanted)
 }
 
-/// Tells from which number on there are datagrams of inputs.
+/// Writes the floor to `number`: inputs below it have no datagrams.
 #[unsafe(no_mangle)]
 pub extern "C" fn x3d_host_floor(alloc: Global, handle: &mut HostHandle, number: &mut u32) -> u8
     ensures kept { handle.new.host ≡ handle.old.host }
@@ -162,7 +162,7 @@ pub extern "C" fn x3d_host_floor(alloc: Global, handle: &mut HostHandle, number:
     DONE
 }
 
-/// Copies the datagram that tells the floor.
+/// Copies the datagram that says the floor.
 #[unsafe(no_mangle)]
 pub extern "C" fn x3d_host_floor_packet(
     alloc: Global,
@@ -196,7 +196,7 @@ pub extern "C" fn x3d_host_drop_below(alloc: Global, handle: &mut HostHandle, nu
     status_of_floor(answer)
 }
 
-/// Tells how many inputs are numbered.
+/// Writes how many inputs are numbered to `count`.
 #[unsafe(no_mangle)]
 pub extern "C" fn x3d_host_count(alloc: Global, handle: &mut HostHandle, count: &mut u32) -> u8
     ensures kept { handle.new.host ≡ handle.old.host }
@@ -211,7 +211,7 @@ pub extern "C" fn x3d_host_count(alloc: Global, handle: &mut HostHandle, count: 
     DONE
 }
 
-/// Tells how many viewers there are.
+/// Writes how many viewers there are to `count`.
 #[unsafe(no_mangle)]
 pub extern "C" fn x3d_host_viewers(alloc: Global, handle: &mut HostHandle, count: &mut u32) -> u8
     ensures kept { handle.new.host ≡ handle.old.host }

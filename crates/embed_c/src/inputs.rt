@@ -1,4 +1,4 @@
-//! InputIsApplied to a world.
+//! Applies inputs to a world.
 
 ghost use Rattle.std.specs.Prelude.{◌≡◌, Some, None};
 ghost use Rattle.x3d_values.specs.declared.stamped.Cause.TheVariants.{Clock};
@@ -13,7 +13,8 @@ use embed_world::{pointer_of, ray_of, stamped};
 use std::alloc::Global;
 use x3d_values::{Cause, Ray, Stamped, Vec3};
 
-/// What an input gave rise to: how many outputs sent, routes were followed and scripts settled.
+/// What an input led to: how many outputs sent, how many routes were followed and how many scripts
+/// settled.
 #[derive(Clone, Copy)]
 #[repr(C)]
 pub struct WorkCount {
@@ -54,7 +55,7 @@ fn apply(alloc: Global, handle: &mut WorldHandle, input: &Stamped, work: &mut Wo
     }
 }
 
-/// Applies a clock of this number, at this time in microseconds.
+/// Applies a clock with this number, at this time in microseconds.
 #[unsafe(no_mangle)]
 pub extern "C" fn x3d_world_clock(
     alloc: Global,
@@ -72,7 +73,7 @@ pub extern "C" fn x3d_world_clock(
     apply(alloc, handle, &input, work)
 }
 
-/// Where a ray begins.
+/// Returns where the ray begins.
 pub(crate) fn origin_of(aim: &Aim) -> Vec3
     ensures { result ≡ origin_of aim.now }
 {
@@ -83,7 +84,7 @@ pub(crate) fn origin_of(aim: &Aim) -> Vec3
     }
 }
 
-/// Where a ray goes.
+/// Returns the direction of the ray.
 pub(crate) fn direction_of(aim: &Aim) -> Vec3
     ensures { result ≡ direction_of aim.now }
 {
@@ -94,14 +95,14 @@ pub(crate) fn direction_of(aim: &Aim) -> Vec3
     }
 }
 
-/// The ray that is pointed with.
+/// Returns the ray that a viewer points with. `None` if it is out of range.
 pub(crate) fn aimed(aim: &Aim) -> Option<Ray>
     ensures { result ≡ aimed aim.now }
 {
     ray_of(origin_of(aim), direction_of(aim))
 }
 
-/// The input of a pointer of this viewer.
+/// Returns the pointer input of viewer `who`. `None` if a number is out of range.
 fn pointed(number: u32, time: i64, who: u8, down: bool, aim: &Aim) -> Option<Stamped>
     ensures { result ≡ pointed number time who down aim.now }
 {

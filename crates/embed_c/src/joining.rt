@@ -14,7 +14,7 @@ use embed_handles::ViewerHandle;
 use embed_handles::viewer_handle::{put, take};
 use std::alloc::Global;
 
-/// Makes the snapshot of its world, as its boot: it is copied as a text is.
+/// Makes the snapshot of the viewer's world, taken as its boot. It is copied like a text.
 #[unsafe(no_mangle)]
 pub extern "C" fn x3d_viewer_make_snapshot(alloc: Global, handle: &mut ViewerHandle) -> u8
     ensures { Calls (λ (v : Embedded). viewers.Saves v) status_of_save handle.old.viewer result
@@ -28,8 +28,8 @@ pub extern "C" fn x3d_viewer_make_snapshot(alloc: Global, handle: &mut ViewerHan
     status_of_save(answer)
 }
 
-/// Begins again in the world of a snapshot, as another boot, and tells how many inputs that has
-/// had.
+/// Begins again in the world of a snapshot, as another boot, and writes how many inputs that world
+/// has had to `applied`.
 #[unsafe(no_mangle)]
 pub extern "C" fn x3d_viewer_rewind(
     alloc: Global,
@@ -50,8 +50,8 @@ pub extern "C" fn x3d_viewer_rewind(
     tell_rewound(answer, applied)
 }
 
-/// Tells how many pieces the bytes of a snapshot have; none where they begin as none, or are too
-/// many.
+/// Writes how many pieces the bytes of a snapshot have to `count`: 0 if they do not begin as a
+/// snapshot or are too many.
 #[unsafe(no_mangle)]
 pub extern "C" fn x3d_viewer_piece_count(
     alloc: Global,
@@ -71,7 +71,7 @@ pub extern "C" fn x3d_viewer_piece_count(
     DONE
 }
 
-/// Copies the datagram of the piece of this number, from 0, of a snapshot's bytes.
+/// Copies the datagram of the piece with this number, from 0, of a snapshot's bytes.
 #[unsafe(no_mangle)]
 pub extern "C" fn x3d_viewer_piece(
     alloc: Global,
@@ -93,8 +93,9 @@ pub extern "C" fn x3d_viewer_piece(
     hand_out(packet, NO_PACKET, out, wanted)
 }
 
-/// Gathers the bytes of a datagram, a piece of a snapshot, and tells what was made of it: it is new
-/// (0), has come before (1), is the last (2), or is of another snapshot (3).
+/// Gathers the bytes of a datagram, a piece of a snapshot, and writes what was done with it to
+/// `gathered`: the piece is new (0), has come before (1), is the last (2), or is of another
+/// snapshot (3).
 #[unsafe(no_mangle)]
 pub extern "C" fn x3d_viewer_gather(
     alloc: Global,
@@ -113,8 +114,8 @@ pub extern "C" fn x3d_viewer_gather(
     tell_gathered(answer, gathered)
 }
 
-/// Begins again in the world of the snapshot that was gathered, as another boot, and tells how many
-/// inputs that has had.
+/// Begins again in the world of the gathered snapshot, as another boot, and writes how many inputs
+/// that world has had to `applied`.
 #[unsafe(no_mangle)]
 pub extern "C" fn x3d_viewer_join(
     alloc: Global,
@@ -133,7 +134,7 @@ pub extern "C" fn x3d_viewer_join(
     tell_joined(answer, applied)
 }
 
-/// Lets go what was gathered.
+/// Drops what was gathered.
 #[unsafe(no_mangle)]
 pub extern "C" fn x3d_viewer_forget(alloc: Global, handle: &mut ViewerHandle) -> u8
     ensures { Calls forgets status_of_nothing handle.old.viewer result handle.new.viewer }

@@ -1,8 +1,8 @@
 //! Worlds, hosts and viewers for C: an opaque handle for each, and a function for each thing to do
 //! with it. include/x3d.h declares them.
 //!
-//! Functions of a world stand in `open`, `inputs`, `scripts`, `shots`, `texts` and `lists`, those
-//! of a host in `host`, those of a viewer in `viewer`, `joining`, `viewer_texts` and
+//! The functions of a world are in `open`, `inputs`, `scripts`, `shots`, `texts` and `lists`. Those
+//! of a host are in `host`, and those of a viewer in `viewer`, `joining`, `viewer_texts` and
 //! `viewer_lists`.
 #![tactic(auto)]
 

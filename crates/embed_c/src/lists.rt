@@ -1,4 +1,4 @@
-//! Numbers of a world: they are listed, and then copied out.
+//! Numbers of a world: they are listed, then copied out.
 
 ghost use Rattle.std.specs.Prelude.{◌≡◌, length};
 ghost use Rattle.cascade_core.specs.Held.{applied_of};
@@ -47,7 +47,7 @@ pub extern "C" fn x3d_world_list_children(alloc: Global, handle: &mut WorldHandl
     status_of_look(answer)
 }
 
-/// Lists the numbers of the value that a field has now.
+/// Lists the numbers of a field's current value.
 #[unsafe(no_mangle)]
 pub extern "C" fn x3d_world_list_value(
     alloc: Global,
@@ -66,7 +66,7 @@ pub extern "C" fn x3d_world_list_value(
     status_of_look(answer)
 }
 
-/// Tells how many inputs were applied, or had been when memory was refused.
+/// Writes the number of inputs that were applied, or that had been when memory ran out, to `count`.
 #[unsafe(no_mangle)]
 pub extern "C" fn x3d_world_applied(alloc: Global, handle: &mut WorldHandle, count: &mut u32) -> u8
     ensures kept { handle.new.world ≡ handle.old.world }
@@ -81,7 +81,7 @@ pub extern "C" fn x3d_world_applied(alloc: Global, handle: &mut WorldHandle, cou
     DONE
 }
 
-/// Tells how many nodes the scene has.
+/// Writes the number of nodes in the scene to `count`.
 #[unsafe(no_mangle)]
 pub extern "C" fn x3d_world_node_count(
     alloc: Global,
@@ -100,7 +100,7 @@ pub extern "C" fn x3d_world_node_count(
     DONE
 }
 
-/// Tells how many fields a node has.
+/// Writes the number of fields of a node to `count`.
 #[unsafe(no_mangle)]
 pub extern "C" fn x3d_world_field_count(
     alloc: Global,
@@ -120,7 +120,7 @@ pub extern "C" fn x3d_world_field_count(
     DONE
 }
 
-/// Tells the number of the field of that name of a node.
+/// Writes the number of a node's field with this name to `field`.
 #[unsafe(no_mangle)]
 pub extern "C" fn x3d_world_field_named(
     alloc: Global,
@@ -141,8 +141,8 @@ pub extern "C" fn x3d_world_field_named(
     tell_field(found, field)
 }
 
-/// Copies the numbers that were listed last, where `out` has room for them, and tells how many
-/// there are.
+/// Copies the numbers that were listed last, if `out` has room for them, and writes how many there
+/// are to `wanted`.
 #[unsafe(no_mangle)]
 pub extern "C" fn x3d_world_copy_numbers(
     alloc: Global,
@@ -162,8 +162,8 @@ pub extern "C" fn x3d_world_copy_numbers(
     status
 }
 
-/// Where a ray would enter what it hits first: at `n / m` of the way along its direction. Where it
-/// hits nothing, m is 0.
+/// Where a ray would enter what it hits first: at `n / m` of the way along its direction. `m` is 0
+/// if it hits nothing.
 #[derive(Clone, Copy)]
 #[repr(C)]
 pub struct Met {
@@ -184,7 +184,7 @@ fn write_met(entry: Option<ListEntry>, met: &mut Met)
     met.m = entry.m;
 }
 
-/// Where a ray enters, if it was asked.
+/// Writes where a ray enters, if it was computed, and returns the status.
 pub(crate) fn tell_met(answer: Result<Option<ListEntry>, LookFault>, met: &mut Met) -> u8
     ensures status { result ≡ status_of_meet answer }
     ensures told { met.new ≡ told met.old answer }
@@ -198,7 +198,8 @@ pub(crate) fn tell_met(answer: Result<Option<ListEntry>, LookFault>, met: &mut M
     }
 }
 
-/// Tells what a ray would hit, and lists the sensors that this concerns: the world stays as it is.
+/// Writes where a ray would hit to `met`, and lists the sensors that the hit concerns. The world is
+/// unchanged.
 #[unsafe(no_mangle)]
 pub extern "C" fn x3d_world_meet(
     alloc: Global,

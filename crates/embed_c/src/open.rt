@@ -1,4 +1,4 @@
-//! A world is opened and closed.
+//! Opens and closes a world.
 
 ghost use Rattle.std.specs.Prelude.{◌≡◌, ℕ, None};
 ghost use Rattle.std.specs.Result.{result_map_both};
@@ -16,7 +16,7 @@ use share_jobs::JobFault;
 use share_program::{Failure, refusal_line, status_of};
 use std::alloc::Global;
 
-/// A world on the heap.
+/// Returns a world on the heap.
 fn boxed(alloc: Global, text: &[u8]) -> Result<Box<EmbeddedWorld>, JobFault>
     ensures { IsWorldOpened text.now
         (result_map_both (λ b. b.value) (λ fault. fault) result) }
@@ -28,7 +28,7 @@ fn boxed(alloc: Global, text: &[u8]) -> Result<Box<EmbeddedWorld>, JobFault>
     }
 }
 
-/// Copies the line of a refusal, and tells its status.
+/// Copies the line of a refusal, and returns its status.
 pub(crate) fn refuse(fault: JobFault, refusal: &mut [u8], wanted: &mut usize) -> u8
     ensures status { result ≡ status (Job fault) }
     ensures line { (copied : ℕ)
@@ -47,8 +47,8 @@ fn empty(alloc: Global, handle: &mut WorldHandle)
     drop(take(handle, alloc));
 }
 
-/// Opens the world of a scene's text, in place of one that the handle had. Where it is refused the
-/// handle has none, and the line of the refusal is copied.
+/// Opens the world of a scene's text, in place of the one that the handle had. On a refusal the
+/// handle is empty, and the line of the refusal is copied.
 #[unsafe(no_mangle)]
 pub extern "C" fn x3d_world_open(
     alloc: Global,
@@ -70,7 +70,7 @@ pub extern "C" fn x3d_world_open(
     }
 }
 
-/// Frees the world. Without one it does nothing.
+/// Frees the world. Does nothing if there is none.
 #[unsafe(no_mangle)]
 pub extern "C" fn x3d_world_close(alloc: Global, handle: &mut WorldHandle)
     ensures { handle.new.world ≡ None }

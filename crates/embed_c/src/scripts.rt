@@ -1,4 +1,4 @@
-//! Scripts of a world.
+//! The scripts of a world.
 
 ghost use Rattle.std.specs.Prelude.{◌≡◌, Option, Some, None, length};
 ghost use Rattle.cascade_core.specs.Scripts.{kinds_in};
@@ -13,7 +13,7 @@ use embed_handles::world_handle::{put, take};
 use std::alloc::Global;
 use x3d_values::Kind;
 
-/// The kind of a script by its number: 0 Counter, 1 Gate, 2 Adder, 3 Batch, 4 Mover, 5 Meter.
+/// Returns the kind with this number: 0 Counter, 1 Gate, 2 Adder, 3 Batch, 4 Mover, 5 Meter.
 fn kind_of(number: u8) -> Option<Kind>
     ensures { result ≡ kind_of number }
 {
@@ -38,7 +38,7 @@ fn kind_of(number: u8) -> Option<Kind>
     None
 }
 
-/// Tells how many scripts the scene runs.
+/// Writes the number of scripts that the scene runs to `count`.
 #[unsafe(no_mangle)]
 pub extern "C" fn x3d_world_script_count(
     alloc: Global,
@@ -57,7 +57,7 @@ pub extern "C" fn x3d_world_script_count(
     DONE
 }
 
-/// Puts a box of a kind in the place of the k-th script of a handle's world.
+/// Replaces the k-th script of a handle's world with a box of this kind.
 fn replace(alloc: Global, handle: &mut WorldHandle, k: usize, kind: Kind) -> u8
     ensures { IsReplacing k (Some kind) handle.old.world result handle.new.world }
 {
@@ -69,8 +69,8 @@ fn replace(alloc: Global, handle: &mut WorldHandle, k: usize, kind: Kind) -> u8
     status_of_place(answer)
 }
 
-/// Puts a new box of this kind in the place of the k-th script, which goes on in its state: the
-/// world stays as it is.
+/// Replaces the k-th script with a new box of this kind, which goes on in its state. The world is
+/// unchanged.
 #[unsafe(no_mangle)]
 pub extern "C" fn x3d_world_replace_script(
     alloc: Global,

@@ -10,7 +10,7 @@ use embed_handles::WorldHandle;
 use embed_handles::world_handle::{put, take};
 use std::alloc::Global;
 
-/// Of which boot a snapshot was, and how many inputs its world had applied.
+/// The boot that a snapshot was taken as, and how many inputs its world had applied.
 #[derive(Clone, Copy)]
 #[repr(C)]
 pub struct SavedAs {
@@ -18,7 +18,7 @@ pub struct SavedAs {
     pub applied: u32,
 }
 
-/// Makes the snapshot of the world, as a boot: it is copied as a text is.
+/// Makes the snapshot of the world, taken as this boot. It is copied like a text.
 #[unsafe(no_mangle)]
 pub extern "C" fn x3d_world_make_snapshot(alloc: Global, handle: &mut WorldHandle, boot: u32) -> u8
     ensures { Calls (λ (w : Embedded). Saves w boot) status_of_save handle.old.world result
@@ -32,8 +32,7 @@ pub extern "C" fn x3d_world_make_snapshot(alloc: Global, handle: &mut WorldHandl
     status_of_save(answer)
 }
 
-/// Puts the world of a snapshot in place of what there was: one of this scene, of a boot below
-/// `boot`.
+/// Replaces the world with that of a snapshot of this scene, taken as a boot below `boot`.
 #[unsafe(no_mangle)]
 pub extern "C" fn x3d_world_load(
     alloc: Global,

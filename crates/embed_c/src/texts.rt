@@ -1,4 +1,4 @@
-//! Texts of a world: one is made, and then copied out.
+//! Texts of a world: one is made, then copied out.
 
 ghost use Rattle.std.specs.Prelude.{◌≡◌};
 ghost use Rattle.embed_world.specs.Calls.{Makes};
@@ -11,7 +11,7 @@ use embed_handles::WorldHandle;
 use embed_handles::world_handle::{put, take};
 use std::alloc::Global;
 
-/// Makes the lines of the trace that are of inputs from a number on.
+/// Makes the lines of the trace of inputs from a number on.
 #[unsafe(no_mangle)]
 pub extern "C" fn x3d_world_make_trace(alloc: Global, handle: &mut WorldHandle, first: u32) -> u8
     ensures { Calls (λ (w : Embedded). Makes (look.trace_from w.stage first) w) status_of_look
@@ -25,7 +25,7 @@ pub extern "C" fn x3d_world_make_trace(alloc: Global, handle: &mut WorldHandle, 
     status_of_look(answer)
 }
 
-/// Makes the same lines by the numbers of nodes and fields.
+/// Makes the same lines with the numbers of nodes and fields.
 #[unsafe(no_mangle)]
 pub extern "C" fn x3d_world_make_changes(alloc: Global, handle: &mut WorldHandle, first: u32) -> u8
     ensures { Calls (λ (w : Embedded). Makes (look.changes_from w.stage first) w) status_of_look
@@ -39,7 +39,7 @@ pub extern "C" fn x3d_world_make_changes(alloc: Global, handle: &mut WorldHandle
     status_of_look(answer)
 }
 
-/// Makes the text of the scene as it is now.
+/// Makes the text of the current scene.
 #[unsafe(no_mangle)]
 pub extern "C" fn x3d_world_make_scene(alloc: Global, handle: &mut WorldHandle) -> u8
     ensures { Calls (λ (w : Embedded). Makes (look.scene_now w.stage) w) status_of_look
@@ -67,7 +67,7 @@ pub extern "C" fn x3d_world_make_type(alloc: Global, handle: &mut WorldHandle, n
     status_of_look(answer)
 }
 
-/// Makes the name of a node that no other node has.
+/// Makes the label of a node, which no other node has.
 #[unsafe(no_mangle)]
 pub extern "C" fn x3d_world_make_label(alloc: Global, handle: &mut WorldHandle, node: u32) -> u8
     ensures { Calls (λ (w : Embedded). Makes (look.label_in w.stage.scene node) w) status_of_look
@@ -100,7 +100,7 @@ pub extern "C" fn x3d_world_make_field_name(
     status_of_look(answer)
 }
 
-/// Makes the text of the value that a field has now.
+/// Makes the text of a field's current value.
 #[unsafe(no_mangle)]
 pub extern "C" fn x3d_world_make_value(
     alloc: Global,
@@ -119,8 +119,8 @@ pub extern "C" fn x3d_world_make_value(
     status_of_look(answer)
 }
 
-/// Copies the text or the snapshot that was made last, where `out` has room for it, and tells how
-/// many bytes it has.
+/// Copies the text or the snapshot that was made last, if `out` has room for it, and writes its
+/// number of bytes to `wanted`.
 #[unsafe(no_mangle)]
 pub extern "C" fn x3d_world_copy_text(
     alloc: Global,

@@ -26,7 +26,7 @@ use share_wire::{is_ordinal, is_viewer};
 use std::alloc::Global;
 use x3d_values::Point;
 
-/// A viewer on the heap.
+/// Returns a viewer on the heap.
 fn boxed(alloc: Global, text: &[u8], who: u8, boot: u32) -> Result<Box<EmbeddedViewer>, JobFault>
     requires who { IsTrue (is_viewer who) }
     requires boot { IsTrue (is_ordinal boot) }
@@ -47,7 +47,7 @@ fn empty(alloc: Global, handle: &mut ViewerHandle)
     drop(take(handle, alloc));
 }
 
-/// Opens the viewer of a scene's text, in place of one that the handle had.
+/// Opens the viewer of a scene's text, in place of the one that the handle had.
 fn open(
     alloc: Global,
     handle: &mut ViewerHandle,
@@ -74,7 +74,7 @@ fn open(
 }
 
 /// Opens the viewer of a scene's text as this boot, 1 to 2^32 - 1, of viewer `who`, 0 to 63, in
-/// place of one that the handle had. Where it is refused the handle has none, and the line of the
+/// place of the one that the handle had. On a refusal the handle is empty, and the line of the
 /// refusal is copied.
 #[unsafe(no_mangle)]
 pub extern "C" fn x3d_viewer_open(
@@ -98,7 +98,7 @@ pub extern "C" fn x3d_viewer_open(
     open(alloc, handle, text, who, boot, refusal, wanted)
 }
 
-/// Frees the viewer. Without one it does nothing.
+/// Frees the viewer. Does nothing if there is none.
 #[unsafe(no_mangle)]
 pub extern "C" fn x3d_viewer_close(alloc: Global, handle: &mut ViewerHandle)
     ensures { handle.new.viewer ≡ None }
@@ -106,7 +106,7 @@ pub extern "C" fn x3d_viewer_close(alloc: Global, handle: &mut ViewerHandle)
     empty(alloc, handle);
 }
 
-/// Tells how many inputs were applied, or had been when memory was refused.
+/// Writes the number of inputs that were applied, or that had been when memory ran out, to `count`.
 #[unsafe(no_mangle)]
 pub extern "C" fn x3d_viewer_applied(
     alloc: Global,
@@ -125,7 +125,7 @@ pub extern "C" fn x3d_viewer_applied(
     DONE
 }
 
-/// Tells its boot.
+/// Writes the viewer's boot to `boot`.
 #[unsafe(no_mangle)]
 pub extern "C" fn x3d_viewer_boot(alloc: Global, handle: &mut ViewerHandle, boot: &mut u32) -> u8
     ensures kept { handle.new.viewer ≡ handle.old.viewer }
@@ -140,7 +140,7 @@ pub extern "C" fn x3d_viewer_boot(alloc: Global, handle: &mut ViewerHandle, boot
     DONE
 }
 
-/// Tells how many offers wait.
+/// Writes the number of offers that wait to `count`.
 #[unsafe(no_mangle)]
 pub extern "C" fn x3d_viewer_waiting(
     alloc: Global,
@@ -159,7 +159,7 @@ pub extern "C" fn x3d_viewer_waiting(
     DONE
 }
 
-/// Takes the bytes of a datagram, and tells what was made of it.
+/// Takes the bytes of a datagram, and writes what the viewer did with it to `taken`.
 #[unsafe(no_mangle)]
 pub extern "C" fn x3d_viewer_take(
     alloc: Global,
@@ -178,7 +178,7 @@ pub extern "C" fn x3d_viewer_take(
     tell_taken(answer, taken)
 }
 
-/// What is pointed at.
+/// Returns the point that the viewer points at.
 fn point_of(down: bool, aim: &Aim) -> Point
     ensures { result ≡ point_of down aim.now }
 {
@@ -189,7 +189,7 @@ fn point_of(down: bool, aim: &Aim) -> Point
     }
 }
 
-/// Offers a point, and tells the offer's number.
+/// Offers a point, and writes the offer's number to `number`.
 fn offer(alloc: Global, handle: &mut ViewerHandle, point: Point, number: &mut u32) -> u8
     ensures { CallsOut (λ (v : Embedded). viewers.Offers v point) (status_by status_of_offer)
         number_by handle.old.viewer result handle.new.viewer number.old number.new }
@@ -202,7 +202,8 @@ fn offer(alloc: Global, handle: &mut ViewerHandle, point: Point, number: &mut u3
     tell_offer(answer, number)
 }
 
-/// Offers what is pointed at, with the button down or not, and tells the offer's number.
+/// Offers what the viewer points at, with the button down or not, and writes the offer's number to
+/// `number`.
 #[unsafe(no_mangle)]
 pub extern "C" fn x3d_viewer_offer(
     alloc: Global,

@@ -1,4 +1,4 @@
-//! Numbers of a viewer's world: they are listed, and then copied out.
+//! Numbers of a viewer's world: they are listed, then copied out.
 
 ghost use Rattle.std.specs.Prelude.{◌≡◌, length};
 ghost use Rattle.scene_core.specs.Scene.{rows_at};
@@ -52,7 +52,7 @@ pub extern "C" fn x3d_viewer_list_children(
     status_of_look(answer)
 }
 
-/// Lists the numbers of the value that a field has now.
+/// Lists the numbers of a field's current value.
 #[unsafe(no_mangle)]
 pub extern "C" fn x3d_viewer_list_value(
     alloc: Global,
@@ -71,7 +71,7 @@ pub extern "C" fn x3d_viewer_list_value(
     status_of_look(answer)
 }
 
-/// Tells how many nodes the scene has.
+/// Writes the number of nodes in the scene to `count`.
 #[unsafe(no_mangle)]
 pub extern "C" fn x3d_viewer_node_count(
     alloc: Global,
@@ -90,7 +90,7 @@ pub extern "C" fn x3d_viewer_node_count(
     DONE
 }
 
-/// Tells how many fields a node has.
+/// Writes the number of fields of a node to `count`.
 #[unsafe(no_mangle)]
 pub extern "C" fn x3d_viewer_field_count(
     alloc: Global,
@@ -110,7 +110,7 @@ pub extern "C" fn x3d_viewer_field_count(
     DONE
 }
 
-/// Tells the number of the field of that name of a node.
+/// Writes the number of a node's field with this name to `field`.
 #[unsafe(no_mangle)]
 pub extern "C" fn x3d_viewer_field_named(
     alloc: Global,
@@ -131,8 +131,8 @@ pub extern "C" fn x3d_viewer_field_named(
     tell_field(found, field)
 }
 
-/// Copies the numbers that were listed last, where `out` has room for them, and tells how many
-/// there are.
+/// Copies the numbers that were listed last, if `out` has room for them, and writes how many there
+/// are to `wanted`.
 #[unsafe(no_mangle)]
 pub extern "C" fn x3d_viewer_copy_numbers(
     alloc: Global,
@@ -152,7 +152,7 @@ pub extern "C" fn x3d_viewer_copy_numbers(
     status
 }
 
-/// Tells what a ray hits in the world of a handle's viewer.
+/// Writes where a ray hits, in the world of a handle's viewer, to `met`.
 fn meet(alloc: Global, handle: &mut ViewerHandle, ray: Ray, met: &mut Met) -> u8
     ensures { CallsOut (λ (v : Embedded). Meets (look.meeting_in (stage_in v.viewer) ray) v)
         status_of_meet told handle.old.viewer result handle.new.viewer met.old met.new }
@@ -165,7 +165,8 @@ fn meet(alloc: Global, handle: &mut ViewerHandle, ray: Ray, met: &mut Met) -> u8
     tell_met(answer, met)
 }
 
-/// Tells what a ray would hit, and lists the sensors that this concerns: the world stays as it is.
+/// Writes where a ray would hit to `met`, and lists the sensors that the hit concerns. The world is
+/// unchanged.
 #[unsafe(no_mangle)]
 pub extern "C" fn x3d_viewer_meet(
     alloc: Global,

@@ -1,4 +1,4 @@
-//! Texts of a viewer's world: one is made, and then copied out.
+//! Texts of a viewer's world: one is made, then copied out.
 
 ghost use Rattle.std.specs.Prelude.{◌≡◌};
 ghost use Rattle.embed_nodes.specs.Viewers.{Makes};
@@ -12,7 +12,7 @@ use embed_handles::ViewerHandle;
 use embed_handles::viewer_handle::{put, take};
 use std::alloc::Global;
 
-/// Makes the lines of the trace that are of inputs from a number on.
+/// Makes the lines of the trace of inputs from a number on.
 #[unsafe(no_mangle)]
 pub extern "C" fn x3d_viewer_make_trace(alloc: Global, handle: &mut ViewerHandle, first: u32) -> u8
     ensures { Calls (λ (v : Embedded). Makes (look.trace_from (stage_in v.viewer) first) v)
@@ -26,7 +26,7 @@ pub extern "C" fn x3d_viewer_make_trace(alloc: Global, handle: &mut ViewerHandle
     status_of_look(answer)
 }
 
-/// Makes the same lines by the numbers of nodes and fields.
+/// Makes the same lines with the numbers of nodes and fields.
 #[unsafe(no_mangle)]
 pub extern "C" fn x3d_viewer_make_changes(
     alloc: Global,
@@ -44,7 +44,7 @@ pub extern "C" fn x3d_viewer_make_changes(
     status_of_look(answer)
 }
 
-/// Makes the text of the scene as it is now.
+/// Makes the text of the current scene.
 #[unsafe(no_mangle)]
 pub extern "C" fn x3d_viewer_make_scene(alloc: Global, handle: &mut ViewerHandle) -> u8
     ensures { Calls (λ (v : Embedded). Makes (look.scene_now (stage_in v.viewer)) v) status_of_look
@@ -72,7 +72,7 @@ pub extern "C" fn x3d_viewer_make_type(alloc: Global, handle: &mut ViewerHandle,
     status_of_look(answer)
 }
 
-/// Makes the name of a node that no other node has.
+/// Makes the label of a node, which no other node has.
 #[unsafe(no_mangle)]
 pub extern "C" fn x3d_viewer_make_label(alloc: Global, handle: &mut ViewerHandle, node: u32) -> u8
     ensures { Calls (λ (v : Embedded). Makes (look.label_in v.viewer.scene node) v) status_of_look
@@ -105,7 +105,7 @@ pub extern "C" fn x3d_viewer_make_field_name(
     status_of_look(answer)
 }
 
-/// Makes the text of the value that a field has now.
+/// Makes the text of a field's current value.
 #[unsafe(no_mangle)]
 pub extern "C" fn x3d_viewer_make_value(
     alloc: Global,
@@ -124,8 +124,8 @@ pub extern "C" fn x3d_viewer_make_value(
     status_of_look(answer)
 }
 
-/// Copies the text or the snapshot that was made last, where `out` has room for it, and tells how
-/// many bytes it has.
+/// Copies the text or the snapshot that was made last, if `out` has room for it, and writes its
+/// number of bytes to `wanted`.
 #[unsafe(no_mangle)]
 pub extern "C" fn x3d_viewer_copy_text(
     alloc: Global,

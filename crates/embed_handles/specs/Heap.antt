@@ -1,6 +1,6 @@
 -- The heap that a handle's block lies on.
 use Rattle.std.specs.declared.alloc.Global.{Global}
 
--- the heap, of which there is one
+-- the heap; there is only one
 abbrev pub heap : Global
 heap = record { memory = record { seal = tt } }

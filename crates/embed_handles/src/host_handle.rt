@@ -10,7 +10,7 @@ use std::alloc::Global;
 use std::marker::Model;
 use std::{mem, ptr};
 
-/// A host on the heap, or nothing. C sees a struct of one pointer, which is null where there is
+/// A host on the heap, or nothing. C sees a struct of one pointer, which is null if there is
 /// nothing.
 #[repr(C)]
 pub struct HostHandle {
@@ -22,11 +22,11 @@ impl Model for HostHandle {
     ghost also_owns = { λ h. held h.at h.host };
 }
 
-// Its host may go to another thread, and so may the right to free its block.
+// The host may move to another thread, and so may the right to free its block.
 unsafe impl Send for HostHandle {}
 
 impl HostHandle {
-    /// No host.
+    /// Returns an empty handle.
     pub fn none() -> HostHandle
         ensures { result.host ≡ None }
     {
@@ -35,7 +35,7 @@ impl HostHandle {
         }
     }
 
-    /// The handle of a host.
+    /// Returns the handle of a host.
     pub fn of(host: Loose<EmbeddedHost, Global>) -> HostHandle
         ensures { result.host ≡ Some host.value }
     {
@@ -43,7 +43,7 @@ impl HostHandle {
         HostHandle { at: at as *mut u8 }
     }
 
-    /// The host, taken out.
+    /// Takes the host out of the handle, if it holds one.
     pub fn into_loose(self, alloc: Global) -> Option<Loose<EmbeddedHost, Global>>
         ensures { option_map (λ l. l.value) result ≡ self.host }
     {
@@ -59,7 +59,7 @@ impl HostHandle {
     }
 }
 
-/// The host of a handle, which has none from then on.
+/// Takes the host out of the handle, if it holds one, and leaves the handle empty.
 pub fn take(handle: &mut HostHandle, alloc: Global) -> Option<Box<EmbeddedHost>>
     ensures taken { option_map (λ b. b.value) result ≡ handle.old.host }
     ensures left { handle.new.host ≡ None }
@@ -70,7 +70,7 @@ pub fn take(handle: &mut HostHandle, alloc: Global) -> Option<Box<EmbeddedHost>>
     }
 }
 
-/// Puts a host into a handle. One that was there is dropped.
+/// Puts a host into the handle, and drops the one that it held, if any.
 pub fn put(handle: &mut HostHandle, alloc: Global, host: Box<EmbeddedHost>)
     ensures { handle.new.host ≡ Some host.value }
 {

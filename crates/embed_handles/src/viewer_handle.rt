@@ -10,7 +10,7 @@ use std::alloc::Global;
 use std::marker::Model;
 use std::{mem, ptr};
 
-/// A viewer on the heap, or nothing. C sees a struct of one pointer, which is null where there is
+/// A viewer on the heap, or nothing. C sees a struct of one pointer, which is null if there is
 /// nothing.
 #[repr(C)]
 pub struct ViewerHandle {
@@ -22,11 +22,11 @@ impl Model for ViewerHandle {
     ghost also_owns = { λ h. held h.at h.viewer };
 }
 
-// Its viewer may go to another thread, and so may the right to free its block.
+// The viewer may move to another thread, and so may the right to free its block.
 unsafe impl Send for ViewerHandle {}
 
 impl ViewerHandle {
-    /// No viewer.
+    /// Returns an empty handle.
     pub fn none() -> ViewerHandle
         ensures { result.viewer ≡ None }
     {
@@ -35,7 +35,7 @@ impl ViewerHandle {
         }
     }
 
-    /// The handle of a viewer.
+    /// Returns the handle of a viewer.
     pub fn of(viewer: Loose<EmbeddedViewer, Global>) -> ViewerHandle
         ensures { result.viewer ≡ Some viewer.value }
     {
@@ -43,7 +43,7 @@ impl ViewerHandle {
         ViewerHandle { at: at as *mut u8 }
     }
 
-    /// The viewer, taken out.
+    /// Takes the viewer out of the handle, if it holds one.
     pub fn into_loose(self, alloc: Global) -> Option<Loose<EmbeddedViewer, Global>>
         ensures { option_map (λ l. l.value) result ≡ self.viewer }
     {
@@ -59,7 +59,7 @@ impl ViewerHandle {
     }
 }
 
-/// The viewer of a handle, which has none from then on.
+/// Takes the viewer out of the handle, if it holds one, and leaves the handle empty.
 pub fn take(handle: &mut ViewerHandle, alloc: Global) -> Option<Box<EmbeddedViewer>>
     ensures taken { option_map (λ b. b.value) result ≡ handle.old.viewer }
     ensures left { handle.new.viewer ≡ None }
@@ -70,7 +70,7 @@ pub fn take(handle: &mut ViewerHandle, alloc: Global) -> Option<Box<EmbeddedView
     }
 }
 
-/// Puts a viewer into a handle. One that was there is dropped.
+/// Puts a viewer into the handle, and drops the one that it held, if any.
 pub fn put(handle: &mut ViewerHandle, alloc: Global, viewer: Box<EmbeddedViewer>)
     ensures { handle.new.viewer ≡ Some viewer.value }
 {

@@ -10,7 +10,7 @@ use std::alloc::Global;
 use std::marker::Model;
 use std::{mem, ptr};
 
-/// A world on the heap, or nothing. C sees a struct of one pointer, which is null where there is
+/// A world on the heap, or nothing. C sees a struct of one pointer, which is null if there is
 /// nothing.
 #[repr(C)]
 pub struct WorldHandle {
@@ -22,11 +22,11 @@ impl Model for WorldHandle {
     ghost also_owns = { λ h. held h.at h.world };
 }
 
-// Its world may go to another thread, and so may the right to free its block.
+// The world may move to another thread, and so may the right to free its block.
 unsafe impl Send for WorldHandle {}
 
 impl WorldHandle {
-    /// No world.
+    /// Returns an empty handle.
     pub fn none() -> WorldHandle
         ensures { result.world ≡ None }
     {
@@ -35,7 +35,7 @@ impl WorldHandle {
         }
     }
 
-    /// The handle of a world.
+    /// Returns the handle of a world.
     pub fn of(world: Loose<EmbeddedWorld, Global>) -> WorldHandle
         ensures { result.world ≡ Some world.value }
     {
@@ -43,7 +43,7 @@ impl WorldHandle {
         WorldHandle { at: at as *mut u8 }
     }
 
-    /// The world, taken out.
+    /// Takes the world out of the handle, if it holds one.
     pub fn into_loose(self, alloc: Global) -> Option<Loose<EmbeddedWorld, Global>>
         ensures { option_map (λ l. l.value) result ≡ self.world }
     {
@@ -59,7 +59,7 @@ impl WorldHandle {
     }
 }
 
-/// The world of a handle, which has none from then on.
+/// Takes the world out of the handle, if it holds one, and leaves the handle empty.
 pub fn take(handle: &mut WorldHandle, alloc: Global) -> Option<Box<EmbeddedWorld>>
     ensures taken { option_map (λ b. b.value) result ≡ handle.old.world }
     ensures left { handle.new.world ≡ None }
@@ -70,7 +70,7 @@ pub fn take(handle: &mut WorldHandle, alloc: Global) -> Option<Box<EmbeddedWorld
     }
 }
 
-/// Puts a world into a handle. One that was there is dropped.
+/// Puts a world into the handle, and drops the one that it held, if any.
 pub fn put(handle: &mut WorldHandle, alloc: Global, world: Box<EmbeddedWorld>)
     ensures { handle.new.world ≡ Some world.value }
 {

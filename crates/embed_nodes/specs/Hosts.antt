@@ -16,7 +16,7 @@ use Rattle.share_law.specs.declared.kept.SeatCount.{SeatCount}
 use Rattle.share_law.specs.declared.reply.HostReply.{HostReply}
 use Rattle.embed_nodes.specs.declared.host.EmbeddedHost.{EmbeddedHost}
 
--- the host of a scene's text, for so many viewers
+-- the host of a scene's text, for this number of viewers
 abbrev pub started : List ℕ → ℕ → Option EmbeddedHost
 started text viewers =
     if nat_lt viewers 1 then None
@@ -26,12 +26,12 @@ started text viewers =
 abbrev pub with_part : EmbeddedHost → HostPart → EmbeddedHost
 with_part h part = record { host = record { mark = h.host.mark; part = part } }
 
--- a clock is numbered, or refused, as share_core's host does it
+-- a clock is numbered, or refused, as share_core's host does
 abbrev pub Clocks : EmbeddedHost → ℤ → Result ℕ NumberFault → EmbeddedHost → Type 0
 Clocks old time result new =
     IsPartClocked old.host.part time result new.host.part × (new ≡ with_part old new.host.part)
 
--- bytes are taken, or refused, as share_core's host does it
+-- bytes are taken, or refused, as share_core's host does
 abbrev pub HostTakes : EmbeddedHost → List ℕ → Result HostReply HostFault → EmbeddedHost → Type 0
 HostTakes old bytes result new =
     IsPartTakeOf old.host.mark old.host.part (decoded bytes) result new.host.part
@@ -40,17 +40,17 @@ HostTakes old bytes result new =
 abbrev pub host_datagram : EmbeddedHost → Body → List ℕ
 host_datagram h body = datagram (record { mark = h.host.mark; body = body })
 
--- the datagram of the input of a number
+-- the datagram of the input with a number
 abbrev pub input_bytes : EmbeddedHost → ℕ → Option (List ℕ)
 input_bytes h number = option_map (host_datagram h) (part_packet h.host.part number)
 
--- the datagram that tells a viewer how many of its offers are numbered
+-- the datagram that says how many offers of a viewer are numbered
 abbrev pub ack_bytes : EmbeddedHost → ℕ → Option (List ℕ)
 ack_bytes h who =
     option_map (λ (kept : SeatCount). host_datagram h (ack_of who kept))
     (slice_get h.host.part.kept who)
 
--- the datagram that tells the floor
+-- the datagram that says the floor
 abbrev pub floor_bytes : EmbeddedHost → List ℕ
 floor_bytes h = host_datagram h (part_floor_packet h.host.part)
 
@@ -62,6 +62,6 @@ with_floor h step = (step.0, with_part h step.1)
 abbrev pub dropped_below : EmbeddedHost → ℕ → Result ℕ FloorFault × EmbeddedHost
 dropped_below h floor = with_floor h (part_drop_below h.host.part floor)
 
--- inputs are dropped, or kept, as share_core's host does it
+-- inputs are dropped, or kept, as share_core's host does
 abbrev pub Drops : EmbeddedHost → ℕ → Result ℕ FloorFault → EmbeddedHost → Type 0
 Drops old floor result new = dropped_below old floor ≡ (result, new)

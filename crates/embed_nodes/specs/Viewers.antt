@@ -35,7 +35,7 @@ use Rattle.embed_world.specs.declared.lists.ListEntry.{ListEntry}
 use Rattle.share_stages.specs.Stages.{opened_stage}
 use Rattle.embed_nodes.specs.declared.viewer.EmbeddedViewer.{EmbeddedViewer}
 
--- a viewer that begins with a stage of a scene with this mark
+-- a viewer that begins with a stage of the scene with this mark
 abbrev pub viewer_from : List ℕ → (who boot : ℕ) → StageView → ViewerView
 viewer_from mark who boot stage =
     record {
@@ -55,7 +55,7 @@ IsStarted text who boot result =
     × IfOk result (λ v. v.text.items ≡ [])
     × IfOk result (λ v. v.numbers.items ≡ [])
 
--- ---- what it is called for
+-- -- calls
 
 abbrev pub in_state : EmbeddedViewer → ViewerState Scripted → EmbeddedViewer
 in_state v state = record v { viewer = with_state v.viewer state }
@@ -63,37 +63,37 @@ in_state v state = record v { viewer = with_state v.viewer state }
 abbrev pub gathering : EmbeddedViewer → Option Gathering → EmbeddedViewer
 gathering v held = record v { viewer = with_gathering v.viewer held }
 
--- without what it gathered
+-- the viewer without what it gathered
 abbrev pub forgetting : EmbeddedViewer → EmbeddedViewer
 forgetting v = gathering v None
 
--- bytes are taken, or refused, as share_core's viewer does it
+-- bytes are taken, or refused, as share_core's viewer does
 abbrev pub Takes : EmbeddedViewer → List ℕ → Result Taken TakeFault → EmbeddedViewer → Type 0
 Takes old bytes result new =
     IsTakeOf (machine_of old.viewer) old.viewer.mark old.viewer.who old.viewer.state
     old.viewer.state.view (decoded bytes) result new.viewer.state
     × (new ≡ in_state old new.viewer.state)
 
--- a point is offered, or refused, as share_core's viewer does it
+-- a point is offered, or refused, as share_core's viewer does
 abbrev pub Offers : EmbeddedViewer → Point → Result ℕ OfferFault → EmbeddedViewer → Type 0
 Offers old point result new =
     (viewer_offer old.viewer.state point ≡ (result, new.viewer.state))
     × (new ≡ in_state old new.viewer.state)
 
--- it begins again by the bytes of a snapshot, or not, as share_core's viewer does it
+-- the viewer begins again in a snapshot's world, or not, as share_core's viewer does
 abbrev pub Rewinds : EmbeddedViewer → (boot : ℕ) → List ℕ → Result ℕ SnapFault → EmbeddedViewer
     → Type 0
 Rewinds old boot bytes result new =
     IsRewound old.viewer boot bytes result new.viewer.state
     × (new ≡ in_state old new.viewer.state)
 
--- bytes are gathered, or refused, as share_core's viewer does it
+-- bytes are gathered, or refused, as share_core's viewer does
 abbrev pub Gathers : EmbeddedViewer → List ℕ → Result Gathered GatherFault → EmbeddedViewer → Type 0
 Gathers old bytes result new =
     IsGatherOf old.viewer.mark old.viewer.gathering (decoded bytes) result new.viewer.gathering
     × (new ≡ gathering old new.viewer.gathering)
 
--- it begins again by what it gathered, or not, as share_core's viewer does it
+-- the viewer begins again in the world that it gathered, or not, as share_core's viewer does
 abbrev pub Joins : EmbeddedViewer → (boot : ℕ) → Result ℕ JoinFault → EmbeddedViewer → Type 0
 Joins old boot result new =
     IsJoined old.viewer (whole_of old.viewer.gathering) boot result new.viewer.state
@@ -110,11 +110,11 @@ abbrev pub offer_bytes : EmbeddedViewer → ℕ → Option (List ℕ)
 offer_bytes v place =
     option_map (viewer_datagram v) (viewer_resend v.viewer.who v.viewer.state place)
 
--- the datagram that asks for the inputs that it lacks
+-- the datagram that asks for the inputs that the viewer lacks
 abbrev pub ask_bytes : EmbeddedViewer → List ℕ
 ask_bytes v = viewer_datagram v (viewer_ask (machine_of v.viewer) v.viewer.who v.viewer.state)
 
--- how many pieces the bytes of a snapshot have
+-- the number of pieces that the bytes of a snapshot have
 abbrev pub pieces_in : List ℕ → ℕ
 pieces_in bytes = unwrap_or (count_of bytes) 0
 
@@ -122,9 +122,9 @@ pieces_in bytes = unwrap_or (count_of bytes) 0
 abbrev pub piece_bytes : EmbeddedViewer → List ℕ → ℕ → Option (List ℕ)
 piece_bytes v bytes index = option_map (viewer_datagram v) (piece_of bytes index)
 
--- ---- what is read of its world
+-- -- what is read of the viewer's world
 
--- this text was made of the world, which is as it was
+-- the text was made of the world, which is unchanged
 abbrev pub Makes : Result (List ℕ) LookFault → EmbeddedViewer → Result (Unit {0}) LookFault
     → EmbeddedViewer → Type 0
 Makes text old result new =
@@ -132,7 +132,7 @@ Makes text old result new =
     × OnErr result (new.text.items ≡ [])
     × (new ≡ record old { text = new.text })
 
--- these numbers were listed of the world, which is as it was
+-- the numbers were listed of the world, which is unchanged
 abbrev pub Lists : Result (List ℤ) LookFault → EmbeddedViewer → Result (Unit {0}) LookFault
     → EmbeddedViewer → Type 0
 Lists numbers old result new =
@@ -140,7 +140,7 @@ Lists numbers old result new =
     × OnErr result (new.numbers.items ≡ [])
     × (new ≡ record old { numbers = new.numbers })
 
--- where a ray enters was told, and the sensors were listed, of the world, which is as it was
+-- where a ray enters was returned, and the sensors were listed, of the world, which is unchanged
 abbrev pub Meets : Result (Option ListEntry × List ℤ) LookFault → EmbeddedViewer
     → Result (Option ListEntry) LookFault → EmbeddedViewer → Type 0
 Meets met old result new =
@@ -148,7 +148,7 @@ Meets met old result new =
     × OnErr result (new.numbers.items ≡ [])
     × (new ≡ record old { numbers = new.numbers })
 
--- the snapshot of the world, as its boot, was made, and the viewer is as it was
+-- the snapshot of the world, taken as the viewer's boot, was made, and the viewer is unchanged
 abbrev pub Saves : EmbeddedViewer → Result (Unit {0}) SaveFault → EmbeddedViewer → Type 0
 Saves old result new =
     Gives save.Memory (λ _. new.text.items) result

@@ -1,6 +1,6 @@
-//! The nodes of a shared world for a program that embeds them: `host` is the host of a scene, and
-//! `viewer` a viewer with scripts of the stock, and what was read of it last, as `texts` and as
-//! `lists` of numbers; `pieces` cuts a snapshot.
+//! The nodes of a shared world for a program that embeds them. `host` is the host of a scene.
+//! `viewer` is a viewer with the stock scripts, and what was last read of it, as `texts` and as
+//! `lists` of numbers. `pieces` cuts a snapshot.
 #![tactic(auto)]
 
 mod host;

@@ -9,8 +9,8 @@ impl EmbeddedViewer {
     ghost use Rattle.std.specs.Option.{option_map};
     ghost use Rattle.embed_nodes.specs.Viewers as spec;
 
-    /// How many pieces the bytes of a snapshot have: `piece_count` of share_core. None where it
-    /// gives none.
+    /// Returns the number of pieces that the bytes of a snapshot have, like `piece_count` of
+    /// share_core. 0 if it gives `None`.
     pub fn piece_count(&self, bytes: &[u8]) -> u32
         ensures { result ≡ spec.pieces_in bytes.now }
     {
@@ -20,8 +20,9 @@ impl EmbeddedViewer {
         }
     }
 
-    /// The datagram of the piece of this number, from 0, of a snapshot's bytes, for other viewers
-    /// of the scene, if there is such a piece: `piece_packet` of share_core.
+    /// Returns the datagram of the piece with this number, from 0, of a snapshot's bytes, for other
+    /// viewers of the scene, as `piece_packet` of share_core does. `None` if there is no such
+    /// piece.
     pub fn piece(&self, bytes: &[u8], index: u32) -> Option<Packet>
         ensures { option_map (λ p. p.items) result ≡ spec.piece_bytes self.now bytes.now index }
     {

@@ -1,4 +1,4 @@
-//! A viewer of a shared world, with what was read of it last.
+//! A viewer of a shared world, with what was last read of it.
 
 ghost use Rattle.std.specs.Prelude.{◌≡◌, IsTrue};
 
@@ -13,7 +13,7 @@ use snapshot_core::{SnapFault, scene_mark};
 use std::alloc::Global;
 use x3d_values::Point;
 
-/// A viewer whose scripts are of the stock, and the text and the numbers that were read of it last.
+/// A viewer with the stock scripts, and the text and the numbers that were last read of it.
 #[derive(Drop)]
 pub struct EmbeddedViewer {
     pub(crate) viewer: Viewer<StockScript>,
@@ -33,8 +33,8 @@ impl EmbeddedViewer {
     ghost use Rattle.embed_nodes.specs.Viewers as spec;
     ghost use Rattle.embed_nodes.specs.Viewers.{Gathers, IsStarted, Joins, Offers, Rewinds, Takes};
 
-    /// The viewer of a scene's text with scripts of the stock, as this boot of viewer number `who`,
-    /// before any input. `is_viewer` and `is_ordinal` are the tests.
+    /// Returns the viewer of a scene's text with the stock scripts, before any input, as boot
+    /// `boot` of viewer number `who`. Check `who` with `is_viewer` and `boot` with `is_ordinal`.
     pub fn start(alloc: Global, text: &[u8], who: u8, boot: u32) -> Result<EmbeddedViewer, JobFault>
         requires who { IsTrue (is_viewer who) }
         requires boot { IsTrue (is_ordinal boot) }
@@ -48,114 +48,118 @@ impl EmbeddedViewer {
         })
     }
 
-    /// How many inputs were applied, or had been when memory was refused.
+    /// Returns the number of inputs that were applied, or that had been when memory ran out.
     pub fn applied(&self) -> u32
         ensures { result ≡ applied_in (machine_of self.now.viewer) self.now.viewer.state.view }
     {
         self.viewer.applied()
     }
 
-    /// Its boot.
+    /// Returns the viewer's boot.
     pub fn boot(&self) -> u32
         ensures { result ≡ self.now.viewer.state.boot }
     {
         self.viewer.boot()
     }
 
-    /// How many offers wait.
+    /// Returns the number of offers that wait.
     pub fn waiting(&self) -> u32
         ensures { result ≡ length self.now.viewer.state.waiting }
     {
         self.viewer.waiting()
     }
 
-    /// Takes the bytes of a datagram: `Viewer::take` of share_core.
+    /// Takes the bytes of a datagram, as `Viewer::take` of share_core does.
     pub fn take(&mut self, bytes: &[u8]) -> Result<Taken, TakeFault>
         ensures { Takes self.old bytes.now result self.new }
     {
         self.viewer.take(bytes)
     }
 
-    /// Offers a point, and gives the offer's number: `Viewer::offer` of share_core.
+    /// Offers a point and returns the offer's number, as `Viewer::offer` of share_core does.
     pub fn offer(&mut self, point: Point) -> Result<u32, OfferFault>
         ensures { Offers self.old point result self.new }
     {
         self.viewer.offer(point)
     }
 
-    /// The datagram of the waiting offer at a place from 0, if there is one: `Viewer::resend` of
-    /// share_core.
+    /// Returns the datagram of the waiting offer at a place, from 0, if there is one, as
+    /// `Viewer::resend` of share_core does.
     pub fn resend(&self, place: u32) -> Option<Packet>
         ensures { option_map (λ p. p.items) result ≡ spec.offer_bytes self.now place }
     {
         self.viewer.resend(place)
     }
 
-    /// The datagram that asks for the inputs that it lacks: `Viewer::ask` of share_core.
+    /// Returns the datagram that asks for the inputs that the viewer lacks, as `Viewer::ask` of
+    /// share_core does.
     pub fn ask(&self) -> Option<Packet>
         ensures { option_map (λ p. p.items) result ≡ Some (spec.ask_bytes self.now) }
     {
         Some(self.viewer.ask())
     }
 
-    /// Begins again in the world of a snapshot, as another boot: `Viewer::rewind` of share_core.
+    /// Begins again in the world of a snapshot, as another boot, as `Viewer::rewind` of share_core
+    /// does.
     pub fn rewind(&mut self, boot: u32, bytes: &[u8]) -> Result<u32, SnapFault>
         ensures { Rewinds self.old boot bytes.now result self.new }
     {
         self.viewer.rewind(bytes, boot)
     }
 
-    /// Gathers the bytes of a datagram, a piece of a snapshot: `Viewer::gather` of share_core.
+    /// Gathers the bytes of a datagram, a piece of a snapshot, as `Viewer::gather` of share_core
+    /// does.
     pub fn gather(&mut self, bytes: &[u8]) -> Result<Gathered, GatherFault>
         ensures { Gathers self.old bytes.now result self.new }
     {
         self.viewer.gather(bytes)
     }
 
-    /// Begins again in the world of the snapshot that was gathered, as another boot: `Viewer::join`
-    /// of share_core.
+    /// Begins again in the world of the snapshot that was gathered, as another boot, as
+    /// `Viewer::join` of share_core does.
     pub fn join(&mut self, boot: u32) -> Result<u32, JoinFault>
         ensures { Joins self.old boot result self.new }
     {
         self.viewer.join(boot)
     }
 
-    /// Lets go what was gathered.
+    /// Drops what was gathered.
     pub fn forget(&mut self)
         ensures { self.new ≡ spec.forgetting self.old }
     {
         self.viewer.forget();
     }
 
-    /// How many nodes the scene has, which are numbered from 0.
+    /// Returns the number of nodes in the scene. They are numbered from 0.
     pub fn node_count(&self) -> usize
         ensures { result ≡ length self.now.viewer.scene.nodes }
     {
         self.viewer.stage().scene().node_count()
     }
 
-    /// How many fields a node has, which are numbered from 0; 0 where there is no such node.
+    /// Returns the number of fields of a node. They are numbered from 0. 0 if there is no such
+    /// node.
     pub fn field_count(&self, node: u32) -> u32
         ensures { result ≡ length (rows_at self.now.viewer.scene node) }
     {
         self.viewer.stage().scene().field_count(node)
     }
 
-    /// The number of the field of that name of a node, as in a world.
+    /// Returns the number of a node's field with this name, as for a world.
     pub fn field_named(&self, node: u32, name: &[u8]) -> Option<u16>
         ensures { result ≡ number_named self.now.viewer.scene node name.now }
     {
         number_named(self.viewer.stage().scene(), node, name)
     }
 
-    /// The text that was made last.
+    /// Returns the text that was made last.
     pub fn text(&self) -> &[u8]
         ensures { result.now ≡ self.now.text.items }
     {
         self.text.as_slice()
     }
 
-    /// The numbers that were listed last.
+    /// Returns the numbers that were listed last.
     pub fn numbers(&self) -> &[i64]
         ensures { result.now ≡ self.now.numbers.items }
     {

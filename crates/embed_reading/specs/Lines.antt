@@ -1,4 +1,4 @@
--- The lines of a trace from an input on, by labels as the trace's text has them, or by numbers (our
+-- The lines of a trace from an input on, by labels as in the trace's text, or by numbers (our
 -- choice).
 use Rattle.std.specs.Prelude.{ℕ, List, [], ◌∷◌, ◌++◌, decimal, nat_lt, if◌then◌else◌}
 use Rattle.scene_core.specs.declared.scene.End.{End}
@@ -6,7 +6,7 @@ use Rattle.cascade_trace.specs.LineText.{stamp_text}
 use Rattle.cascade_trace.specs.declared.trace.TraceLine.{TraceLine}
 use Rattle.x3d_values.specs.ValueText.{value_text}
 
--- the text of a line of an input from this number on, and nothing of an earlier one
+-- the text of a line of an input with this number or a higher one, and nothing for earlier inputs
 abbrev pub from_on : (TraceLine → List ℕ) → ℕ → TraceLine → List ℕ
 from_on text first line = if nat_lt line.input first then [] else text line
 

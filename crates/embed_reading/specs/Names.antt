@@ -6,8 +6,8 @@ use Rattle.scene_core.specs.Scene.{SceneView, rows_at}
 use Rattle.x3d_values.specs.Tables.{row_named}
 use Rattle.x3d_values.specs.declared.table.FieldRow.{FieldRow}
 
--- the number of the field of that name of a node, of its type or declared by it; bytes that are not
--- UTF-8 are the name of none
+-- the number of a node's field with this name, of its type or declared by it; bytes that are not
+-- UTF-8 name no field
 abbrev pub number_named : SceneView → ℕ → List ℕ → Option ℕ
 number_named scene node name =
     if is_utf8 name

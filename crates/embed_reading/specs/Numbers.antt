@@ -1,5 +1,5 @@
--- The numbers of a value: truths as 1 and 0, integers, millionths and microseconds as they are,
--- vectors and colors part by part, nodes as their numbers; a text has none (our choice).
+-- The numbers of a value: truths as 1 and 0, integers, millionths and microseconds unchanged,
+-- vectors and colors part by part, nodes as their numbers. A text has none (our choice).
 use Rattle.std.specs.Prelude.{ℕ, ℤ, pos, Bool, true, false, List, [], ◌∷◌, Some, None}
 use Rattle.std.specs.List.{flat_map}
 use Rattle.x3d_values.specs.declared.value.Value.{Value}

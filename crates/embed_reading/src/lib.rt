@@ -1,5 +1,6 @@
-//! What a program that embeds a world reads of it: the `lines` of its trace from an input on, which
-//! field is `named` so, the `value` of a field now and its `numbers`, and what a ray would `meet`.
+//! What a program that embeds a world reads of it: the `lines` of its trace from an input on, the
+//! number of a `named` field, the current `value` of a field and its `numbers`, and what a ray
+//! would `meet`.
 #![tactic(auto)]
 
 mod lines;

@@ -15,7 +15,7 @@ use std::alloc::AllocError;
 use x3d_numerals::push_number;
 use x3d_values::{Value, show_value};
 
-/// Appends the number and the time of an input; on a refusal perhaps a part of it.
+/// Appends the number and the time of an input. On an error, part of it may be appended.
 #[tactic(auto, unfolding(cascade_trace::specs::LineText::stamp_text))]
 fn push_stamp(head: LineHead, out: &mut Vec<u8>) -> Result<(), AllocError>
     ensures ok { OnOk result (out.new.items ≡ out.old.items ++ stamp_text head.input head.time) }
@@ -29,7 +29,7 @@ fn push_stamp(head: LineHead, out: &mut Vec<u8>) -> Result<(), AllocError>
     Ok(())
 }
 
-/// Appends the number of a node and that of its field; on a refusal perhaps a part of them.
+/// Appends the number of a node and that of its field. On an error, part of them may be appended.
 #[tactic(auto, unfolding(crate::specs::Lines::place_text))]
 fn push_place(source: End, out: &mut Vec<u8>) -> Result<(), AllocError>
     ensures ok { OnOk result (out.new.items ≡ out.old.items ++ place_text source) }
@@ -42,7 +42,7 @@ fn push_place(source: End, out: &mut Vec<u8>) -> Result<(), AllocError>
     out.extend_from_slice(field.format(source.field).as_bytes())
 }
 
-/// Appends a space, a value and a line feed; on a refusal perhaps a part of them.
+/// Appends a space, a value and a line feed. On an error, part of them may be appended.
 fn push_end(value: &Value, out: &mut Vec<u8>) -> Result<(), AllocError>
     ensures ok { OnOk result (out.new.items
         ≡ out.old.items ++ 32 ∷ value_text value.now ++ 10 ∷ []) }
@@ -54,7 +54,7 @@ fn push_end(value: &Value, out: &mut Vec<u8>) -> Result<(), AllocError>
     Ok(())
 }
 
-/// Appends the line of an event; on a refusal perhaps a part of it.
+/// Appends the line of an event. On an error, part of it may be appended.
 #[tactic(auto, unfolding(cascade_trace::specs::LineText::line_text))]
 fn push_line(
     scene: &Scene,
@@ -72,7 +72,7 @@ fn push_line(
     push_end(value, out)
 }
 
-/// Appends the line of an event by numbers; on a refusal perhaps a part of it.
+/// Appends the line of an event by numbers. On an error, part of it may be appended.
 #[tactic(auto, unfolding(crate::specs::Lines::change_text))]
 fn push_change(head: LineHead, value: &Value, out: &mut Vec<u8>) -> Result<(), AllocError>
     ensures ok { OnOk result (out.new.items
@@ -84,7 +84,7 @@ fn push_change(head: LineHead, value: &Value, out: &mut Vec<u8>) -> Result<(), A
     push_end(value, out)
 }
 
-/// Writes lines as the trace of a world has them.
+/// Writes lines in the form of a world's trace.
 #[derive(Drop)]
 struct LinesFrom<'a> {
     scene: &'a Scene,
@@ -107,7 +107,7 @@ impl<'a> WritesLines for LinesFrom<'a> {
     }
 }
 
-/// Writes lines by the numbers of nodes and fields.
+/// Writes lines with the numbers of nodes and fields.
 #[derive(Drop)]
 struct ChangesFrom {
     first: u32,
@@ -129,8 +129,9 @@ impl WritesLines for ChangesFrom {
     }
 }
 
-/// Appends the lines of a trace that are of inputs from a number on, as the trace's text has them:
-/// `<input> <seconds> <label>.<field> <value>`. On a refusal the buffer is as it was.
+/// Appends the lines of a trace of inputs from the number `first` on, in the form of the trace's
+/// text: `<input> <seconds> <label>.<field> <value>`. Fails only if memory runs out; the buffer is
+/// then unchanged.
 pub fn push_lines(
     scene: &Scene,
     trace: &Trace,
@@ -145,8 +146,8 @@ pub fn push_lines(
     trace.write_from(first, &mut lines, out)
 }
 
-/// Appends the same lines by numbers: `<input> <seconds> <node> <field> <value>`. On a refusal the
-/// buffer is as it was.
+/// Appends the lines of inputs from the number `first` on, by numbers: `<input> <seconds> <node>
+/// <field> <value>`. Fails only if memory runs out; the buffer is then unchanged.
 pub fn push_changes(trace: &Trace, first: u32, out: &mut Vec<u8>) -> Result<(), AllocError>
     ensures ok { OnOk result (out.new.items
         ≡ out.old.items ++ flat_map (from_on change_text first) trace.now) }

@@ -10,15 +10,15 @@ use pick_core::{Hit, pick, sensors_of};
 use scene_core::Scene;
 use x3d_values::{MAX_SENSORS, Fields, Ray};
 
-/// The box that a ray hits first, and the sensors that concern it, by their numbers.
+/// The box that a ray hits first, and the sensors that the hit concerns, by their numbers.
 #[derive(Drop)]
 pub struct Meeting {
     pub hit: Hit,
     pub sensors: ArrayVec<u32, MAX_SENSORS>,
 }
 
-/// What a ray meets, where `state` has what each node of the scene keeps; none where it hits no
-/// box. It takes no memory.
+/// Returns what a ray meets, if `state` holds what each node of the scene keeps. `None` if the ray
+/// hits no box. Needs no memory.
 pub fn met_by(scene: &Scene, state: &[Fields], ray: Ray) -> Option<Meeting>
     ensures hit { option_map (λ m. m.hit) result ≡ hit_by scene.now state.now ray }
     ensures sensors { IfSome result (λ m. m.sensors.items

@@ -8,11 +8,11 @@ ghost use Rattle.embed_reading.specs.Numbers as spec;
 use std::alloc::AllocError;
 use x3d_values::{Color, Value, Vec2, Vec3};
 
-/// What has numbers.
+/// A type that has numbers.
 trait Numbers {
     ghost numbers: { Self → List ℤ };
 
-    /// Appends the numbers; on a refusal perhaps a part of them.
+    /// Appends the numbers. On an error, part of them may be appended.
     fn push_to(&self, out: &mut Vec<i64>) -> Result<(), AllocError>
         ensures { OnOk result (out.new.items ≡ out.old.items ++ numbers self.now) };
 }
@@ -47,7 +47,7 @@ impl Numbers for i64 {
     }
 }
 
-/// The number of a node.
+/// A node, by its number.
 impl Numbers for u32 {
     ghost numbers = { spec.node_numbers };
 
@@ -81,7 +81,7 @@ impl Numbers for Color {
     }
 }
 
-/// Appends the numbers of all items; on a refusal perhaps a part of them.
+/// Appends the numbers of all items. On an error, part of them may be appended.
 fn push_all<T: Numbers>(items: &[T], out: &mut Vec<i64>) -> Result<(), AllocError>
     ensures { OnOk result (out.new.items ≡ out.old.items ++ flat_map T.numbers items.now) }
 {
@@ -91,9 +91,9 @@ fn push_all<T: Numbers>(items: &[T], out: &mut Vec<i64>) -> Result<(), AllocErro
     Ok(())
 }
 
-/// Appends the numbers of a value: truths as 1 and 0, integers, millionths and microseconds as they
-/// are, vectors and colors part by part, nodes as their numbers; a text has none. On a refusal
-/// perhaps a part of them.
+/// Appends the numbers of a value: truths as 1 and 0, integers, millionths and microseconds
+/// unchanged, vectors and colors part by part, nodes as their numbers. A text has none. On an
+/// error, part of the numbers may be appended.
 pub fn push_numbers(value: &Value, out: &mut Vec<i64>) -> Result<(), AllocError>
     ensures { OnOk result (out.new.items ≡ out.old.items ++ spec.numbers_of value.now) }
 {
@@ -120,7 +120,7 @@ pub fn push_numbers(value: &Value, out: &mut Vec<i64>) -> Result<(), AllocError>
     }
 }
 
-/// Appends the numbers of nodes; on a refusal perhaps a part of them.
+/// Appends the numbers of nodes. On an error, part of them may be appended.
 pub fn push_nodes(nodes: &[u32], out: &mut Vec<i64>) -> Result<(), AllocError>
     ensures { OnOk result (out.new.items ≡ out.old.items ++ flat_map spec.node_numbers nodes.now) }
 {

@@ -1,4 +1,4 @@
-//! The value that a field has now.
+//! The current value of a field.
 
 ghost use Rattle.std.specs.Prelude.{◌≡◌, slice_get};
 ghost use Rattle.std.specs.Option.{option_copied};
@@ -7,7 +7,7 @@ ghost use Rattle.embed_reading.specs.Values as spec;
 use scene_core::Scene;
 use x3d_values::{Fields, Value};
 
-/// What a node keeps of a field.
+/// Returns what a node keeps of a field.
 fn kept_value(state: &[Fields], node: u32, field: u16) -> Option<&Value>
     ensures { option_copied result ≡ spec.kept_value state.now node field }
 {
@@ -17,8 +17,9 @@ fn kept_value(state: &[Fields], node: u32, field: u16) -> Option<&Value>
     fields.value(field)
 }
 
-/// The value that a field of a node has now, where `state` has what each node of the scene keeps;
-/// none where it holds no value: it only sends or receives, or there is no such field.
+/// Returns the current value of a node's field, if `state` holds what each node of the scene keeps.
+/// `None` if the field holds no value, because it only sends or receives, or if there is no such
+/// field.
 pub fn value_now<'a>(
     scene: &'a Scene,
     state: &'a [Fields],

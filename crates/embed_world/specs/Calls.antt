@@ -40,7 +40,7 @@ abbrev pub with_stage : EmbeddedWorld → StageView → EmbeddedWorld
 with_stage w stage = record w { stage = stage }
 
 -- an input is refused and nothing changes, or it gives the world of the definition and work that
--- counts what it did; where memory is refused the stage is spoiled
+-- counts what it did; if memory runs out the stage is spoiled
 abbrev pub Applies : EmbeddedWorld → StampedView → Result Work ApplyFault → EmbeddedWorld → Type 0
 Applies old input result new =
     IfSome (refusal_of old.stage.held input) (λ fault. (result ≡ Err fault)
@@ -53,7 +53,7 @@ Applies old input result new =
     (OnErr result ((result ≡ Err apply.Memory) × (new.stage ≡ spoiled old.stage)))
     × (new ≡ with_stage old new.stage)
 
--- this text was made of the world, which is as it was
+-- the text was made of the world, which is unchanged
 abbrev pub Makes : Result (List ℕ) LookFault → EmbeddedWorld → Result (Unit {0}) LookFault
     → EmbeddedWorld → Type 0
 Makes text old result new =
@@ -61,7 +61,7 @@ Makes text old result new =
     × OnErr result (new.text.items ≡ [])
     × (new ≡ record old { text = new.text })
 
--- these numbers were listed of the world, which is as it was
+-- the numbers were listed of the world, which is unchanged
 abbrev pub Lists : Result (List ℤ) LookFault → EmbeddedWorld → Result (Unit {0}) LookFault
     → EmbeddedWorld → Type 0
 Lists numbers old result new =
@@ -69,7 +69,7 @@ Lists numbers old result new =
     × OnErr result (new.numbers.items ≡ [])
     × (new ≡ record old { numbers = new.numbers })
 
--- where a ray enters was told, and the sensors were listed, of the world, which is as it was
+-- where a ray enters was returned, and the sensors were listed, of the world, which is unchanged
 abbrev pub Meets : Result (Option ListEntry × List ℤ) LookFault → EmbeddedWorld
     → Result (Option ListEntry) LookFault → EmbeddedWorld → Type 0
 Meets met old result new =
@@ -77,15 +77,15 @@ Meets met old result new =
     × OnErr result (new.numbers.items ≡ [])
     × (new ≡ record old { numbers = new.numbers })
 
--- the snapshot of the world, taken as a boot, was made of it, and it is as it was
+-- the snapshot of the world, taken as a boot, was made, and the world is unchanged
 abbrev pub Saves : EmbeddedWorld → ℕ → Result (Unit {0}) SaveFault → EmbeddedWorld → Type 0
 Saves old boot result new =
     Gives save.Memory (λ _. new.text.items) result (snapshot_in old.stage old.mark boot)
     × OnErr result (new.text.items ≡ [])
     × (new ≡ record old { text = new.text })
 
--- the world of a snapshot was put in place of what there was, by one that starts again as a boot;
--- where memory was refused the stage is spoiled
+-- the world was replaced by that of a snapshot, to start again as a boot; if memory ran out the
+-- stage is spoiled
 abbrev pub Loads : EmbeddedWorld → ℕ → List ℕ → Result Saved SnapFault → EmbeddedWorld → Type 0
 Loads old boot bytes result new =
     ((load_outcome old.stage (loaded old.mark old.stage.scene boot bytes) ≡ (result, new.stage))
@@ -93,7 +93,7 @@ Loads old boot bytes result new =
     × (fault_before old.mark bytes ≡ None)))
     × (new ≡ with_stage old new.stage)
 
--- a box of this kind took the place of script k, or is refused, and the world is as it was
+-- a box of this kind replaced script k, or was refused, and the world is unchanged
 abbrev pub Replaces : EmbeddedWorld → (k : ℕ) → Kind → Result (Unit {0}) PlaceFault → EmbeddedWorld
     → Type 0
 Replaces old k kind result new =

@@ -37,13 +37,13 @@ of_world (Some w) read = read w
 
 -- ---- texts
 
--- the lines of the trace that are of inputs from a number on
+-- the lines of the trace of inputs from a number on
 abbrev pub trace_from : StageView → ℕ → Result (List ℕ) LookFault
 trace_from stage first =
     of_world (world_in stage.held)
     (λ w. Ok (flat_map (from_on (line_text stage.scene) first) w.trace))
 
--- the same by the numbers of nodes and fields
+-- the same lines with the numbers of nodes and fields
 abbrev pub changes_from : StageView → ℕ → Result (List ℕ) LookFault
 changes_from stage first =
     of_world (world_in stage.held) (λ w. Ok (flat_map (from_on change_text first) w.trace))
@@ -52,7 +52,7 @@ abbrev pub of_held : Held → (Scripted → List ℕ) → Result (List ℕ) Look
 of_held (Running w) text = Ok (text w)
 of_held (Spoiled n) text = Err look.Spoiled
 
--- the text of the scene as it is now
+-- the text of the current scene
 abbrev pub scene_now : StageView → Result (List ℕ) LookFault
 scene_now stage = of_held stage.held (scene_text stage.scene stage.routes)
 
@@ -60,7 +60,7 @@ abbrev pub shot_of : List ℕ → ℕ → SceneView → Held → Result (List �
 shot_of mark boot scene (Running w) = Ok (shot mark boot scene w)
 shot_of mark boot scene (Spoiled n) = Err save.Spoiled
 
--- the snapshot of the world, of a scene with this mark, taken as a boot
+-- the snapshot of the world, for the scene with this mark, taken as a boot
 abbrev pub snapshot_in : StageView → (mark : List ℕ) → (boot : ℕ) → Result (List ℕ) SaveFault
 snapshot_in stage mark boot = shot_of mark boot stage.scene stage.held
 
@@ -68,7 +68,7 @@ snapshot_in stage mark boot = shot_of mark boot stage.scene stage.held
 abbrev pub type_in : SceneView → ℕ → Result (List ℕ) LookFault
 type_in scene node = or_fault look.NoSuchNode (option_map node_type_name (type_at scene node))
 
--- the name of a node
+-- the label of a node
 abbrev pub label_in : SceneView → ℕ → Result (List ℕ) LookFault
 label_in scene node =
     or_fault look.NoSuchNode (option_map (λ _. label_of scene node) (type_at scene node))
@@ -116,7 +116,7 @@ met_at scene state (Some hit) = (
   flat_map node_numbers (sensors_of scene state hit.path),
 )
 
--- the same of what a ray hits first
+-- the same for what a ray hits first
 abbrev pub meeting_in : StageView → RayView → Result (Option ListEntry × List ℤ) LookFault
 meeting_in stage ray =
     of_world (world_in stage.held)

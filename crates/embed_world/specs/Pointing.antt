@@ -1,4 +1,4 @@
--- Inputs by their parts, where these are in their ranges.
+-- Inputs by their parts, if the parts are in their ranges.
 use Rattle.std.specs.Prelude.{ℕ, ℤ, Bool, ◌&&◌, Option, Some, None, if◌then◌else◌}
 use Rattle.x3d_values.specs.Pointing.{PointerView, RayView}
 pub use Rattle.x3d_values.specs.Pointing.{ray_of}
@@ -12,7 +12,7 @@ pointer_of who down None = None
 pointer_of who down (Some ray) =
     if is_viewer who then Some (record { who = who; down = down; ray = ray }) else None
 
--- the input of this number, at this time
+-- the input with this number, at this time
 abbrev pub stamped : ℕ → ℤ → Cause → Option StampedView
 stamped number time cause =
     if is_input_number number && is_input_time time

@@ -1,4 +1,4 @@
-//! Why a world is not read.
+//! Why nothing was read of a world.
 
 ghost use Rattle.std.specs.Prelude.{◌≡◌};
 ghost use Rattle.embed_world.specs.declared.fault.LookFault.TheVariants as look;
@@ -7,7 +7,7 @@ use std::alloc::AllocError;
 use std::fmt;
 use thiserror::Error;
 
-/// Why nothing was read of a world, in the order of precedence.
+/// Why nothing was read of a world, in order of precedence.
 #[derive(Clone, Copy, Debug, PartialEq, Eq, Error)]
 pub enum LookFault {
     #[error("memory was refused at an earlier input")]

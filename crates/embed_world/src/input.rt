@@ -1,4 +1,4 @@
-//! Inputs of a world.
+//! The inputs of a world.
 
 ghost use Rattle.std.specs.Prelude.{◌≡◌};
 ghost use Rattle.embed_world.specs.Pointing as spec;
@@ -9,7 +9,8 @@ use x3d_values::{
     Cause, Pointer, Stamped, Vec3, is_input_number, is_input_time, is_viewer, ray_of,
 };
 
-/// The pointer of a viewer, 0 to 63, with such a ray.
+/// Returns the pointer of viewer `who`, 0 to 63. `None` if the viewer's number, a coordinate or the
+/// direction is out of its range.
 pub fn pointer_of(who: u8, down: bool, origin: Vec3, dir: Vec3) -> Option<Pointer>
     ensures { result ≡ spec.pointer_of who down (spec.ray_of origin dir) }
 {
@@ -22,7 +23,8 @@ pub fn pointer_of(who: u8, down: bool, origin: Vec3, dir: Vec3) -> Option<Pointe
     Some(Pointer::new(who, down, ray))
 }
 
-/// The input of a number from 1 to 2^20, at a time of 1 to 10^18 microseconds.
+/// Returns the input with this number, at this time. `None` unless the number is 1 to 2^20 and the
+/// time is 1 to 10^18 microseconds.
 pub fn stamped(number: u32, time: i64, cause: Cause) -> Option<Stamped>
     ensures { result ≡ spec.stamped number time cause }
 {
@@ -38,7 +40,7 @@ pub fn stamped(number: u32, time: i64, cause: Cause) -> Option<Stamped>
 impl EmbeddedWorld {
     ghost use Rattle.embed_world.specs.Calls.{Applies};
 
-    /// Applies the next input: `Stage::apply` of cascade_core.
+    /// Applies the next input, as `Stage::apply` of cascade_core does.
     pub fn apply(&mut self, input: &Stamped) -> Result<Work, ApplyFault>
         ensures { Applies self.old input.now result self.new }
     {

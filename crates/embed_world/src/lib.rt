@@ -1,7 +1,7 @@
-//! A world for a program that embeds it: `world` is a stage with scripts of the stock, and what was
-//! read of it last. It is made by `opening` a scene's text, moves on by an `input`, gets `scripts`
-//! in the place of others, is kept in `shots`, and read as `texts` and as `lists` of numbers;
-//! `fault` is why it could not be read.
+//! A world for a program that embeds it. `world` is a stage with the stock scripts, and what was
+//! last read of it. `opening` makes it from a scene's text, an `input` moves it on, `scripts`
+//! replaces its scripts, `shots` saves and loads it, and `texts` and `lists` read it as texts and
+//! numbers. `fault` says why it could not be read.
 #![tactic(auto)]
 
 mod fault;

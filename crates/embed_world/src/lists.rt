@@ -1,4 +1,4 @@
-//! Numbers of a world.
+//! The numbers of a world.
 
 ghost use Rattle.std.specs.Prelude.{◌≡◌, [], OnErr};
 ghost use Rattle.x3d_lists.specs.Answers.{Gives};
@@ -13,14 +13,14 @@ use scene_core::Scene;
 use script_boxes::StockScript;
 use x3d_values::Ray;
 
-/// Where a ray enters a box: at `n / m` of the way along its direction; m is above 0.
+/// Where a ray enters a box: at `n / m` of the way along its direction. `m` is above 0.
 #[derive(Clone, Copy)]
 pub struct ListEntry {
     pub n: u64,
     pub m: u64,
 }
 
-/// Writes the roots, to an empty list.
+/// Writes the roots to an empty list.
 pub fn write_roots(scene: &Scene, out: &mut Vec<i64>) -> Result<(), LookFault>
     requires empty { out.old.items ≡ [] }
     ensures is { Gives Memory (λ _. out.new.items) result (spec.roots_in scene.now) }
@@ -33,7 +33,7 @@ pub fn write_roots(scene: &Scene, out: &mut Vec<i64>) -> Result<(), LookFault>
     Ok(())
 }
 
-/// Writes the list `children` of a node, to an empty list.
+/// Writes the list `children` of a node to an empty list.
 pub fn write_children(scene: &Scene, node: u32, out: &mut Vec<i64>) -> Result<(), LookFault>
     requires empty { out.old.items ≡ [] }
     ensures is { Gives Memory (λ _. out.new.items) result (spec.children_in scene.now node) }
@@ -49,7 +49,7 @@ pub fn write_children(scene: &Scene, node: u32, out: &mut Vec<i64>) -> Result<()
     Ok(())
 }
 
-/// Writes the numbers of the value that a field has now, to an empty list.
+/// Writes the numbers of a field's current value to an empty list.
 pub fn write_numbers(
     stage: &Stage<StockScript>,
     node: u32,
@@ -73,7 +73,7 @@ pub fn write_numbers(
     Ok(())
 }
 
-/// Writes the sensors that concern what a ray meets, to an empty list, and tells where that is.
+/// Writes the sensors that concern what a ray meets to an empty list, and returns where that is.
 pub fn write_sensors(
     stage: &Stage<StockScript>,
     ray: Ray,
@@ -103,7 +103,7 @@ impl EmbeddedWorld {
     ghost use Rattle.embed_world.specs.Calls.{Lists, Meets};
     ghost use Rattle.embed_world.specs.Looks as spec;
 
-    /// Lists the roots of the scene by their numbers.
+    /// Lists the roots of the scene by their numbers. Fails with `Memory`; the list is then empty.
     pub fn list_roots(&mut self) -> Result<(), LookFault>
         ensures { Lists (spec.roots_in self.old.stage.scene) self.old result self.new }
     {
@@ -111,7 +111,8 @@ impl EmbeddedWorld {
         write_roots(self.stage.scene(), &mut self.numbers)
     }
 
-    /// Lists the nodes in the field `children` of a node; none where it has no such field.
+    /// Lists the nodes in the field `children` of a node. The list is empty if the node has no such
+    /// field. Fails with `NoSuchNode` or `Memory`.
     pub fn list_children(&mut self, node: u32) -> Result<(), LookFault>
         ensures { Lists (spec.children_in self.old.stage.scene node) self.old result self.new }
     {
@@ -119,9 +120,9 @@ impl EmbeddedWorld {
         write_children(self.stage.scene(), node, &mut self.numbers)
     }
 
-    /// Lists the numbers of the value that a field has now: truths as 1 and 0, integers, millionths
-    /// and microseconds as they are, vectors and colors part by part, nodes as their numbers; a
-    /// text has none.
+    /// Lists the numbers of a field's current value: truths as 1 and 0, integers, millionths and
+    /// microseconds unchanged, vectors and colors part by part, nodes as their numbers. A text has
+    /// none. Fails with `Spoiled`, `NoSuchField` or `Memory`.
     pub fn list_value(&mut self, node: u32, field: u16) -> Result<(), LookFault>
         ensures { Lists (spec.numbers_in self.old.stage node field) self.old result self.new }
     {
@@ -129,8 +130,9 @@ impl EmbeddedWorld {
         write_numbers(&self.stage, node, field, &mut self.numbers)
     }
 
-    /// Tells where a ray would enter the box that it hits first, if it hits one, and lists the
-    /// sensors that this concerns: the enabled pointing sensors beside it, or else above it.
+    /// Returns where a ray would enter the box that it hits first, if it hits one, and lists the
+    /// sensors that the hit concerns: the enabled pointing sensors in the lowest list along its
+    /// path that has one. Fails with `Spoiled` or `Memory`.
     pub fn list_sensors(&mut self, ray: Ray) -> Result<Option<ListEntry>, LookFault>
         ensures { Meets (spec.meeting_in self.old.stage ray) self.old result self.new }
     {

@@ -1,4 +1,4 @@
-//! A world of a scene's text.
+//! Makes a world from a scene's text.
 
 use crate::world::EmbeddedWorld;
 use share_jobs::JobFault;
@@ -10,7 +10,7 @@ impl EmbeddedWorld {
     ghost use Rattle.std.specs.Prelude.{◌≡◌};
     ghost use Rattle.embed_world.specs.Calls.{IsWorldOpened};
 
-    /// The world of a scene's text before any input, with scripts of the stock.
+    /// Returns the world of a scene's text before any input, with the stock scripts.
     pub fn open(alloc: Global, text: &[u8]) -> Result<EmbeddedWorld, JobFault>
         ensures { IsWorldOpened text.now result }
     {

@@ -1,4 +1,4 @@
-//! Scripts that take the place of others.
+//! Scripts that replace others.
 
 use crate::world::EmbeddedWorld;
 use cascade_core::PlaceFault;
@@ -10,18 +10,18 @@ impl EmbeddedWorld {
     ghost use Rattle.cascade_core.specs.Scripts.{kinds_in};
     ghost use Rattle.embed_world.specs.Calls.{Replaces};
 
-    /// How many scripts the scene runs, which are numbered from 0.
+    /// Returns the number of scripts that the scene runs. They are numbered from 0.
     pub fn script_count(&self) -> usize
         ensures { result ≡ length (kinds_in self.now.stage.scene) }
     {
         self.stage.script_count()
     }
 
-    /// Puts a new box of this kind in the place of the k-th script, which goes on in its state: the
-    /// world is as it was, whatever the answer.
+    /// Replaces the k-th script with a new box of this kind, which goes on in its state. The world
+    /// is unchanged, whatever the answer.
     ///
-    /// `Spoiled`, where memory was refused before; `NoSuchScript`; `KindDiffers`, where the script
-    /// is of another kind; `Memory`.
+    /// Fails, in this order, with `Spoiled` if memory ran out before; `NoSuchScript`; `KindDiffers`
+    /// if the script is of another kind; or `Memory`.
     pub fn replace_script(&mut self, k: usize, kind: Kind) -> Result<(), PlaceFault>
         ensures { Replaces self.old k kind result self.new }
     {

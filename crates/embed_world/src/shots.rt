@@ -10,7 +10,8 @@ use cascade_core::Stage;
 use script_boxes::StockScript;
 use snapshot_core::{SaveFault, Saved, SnapFault, load_into, save};
 
-/// Writes the snapshot of a stage's world, as a boot, to an empty text.
+/// Writes the snapshot of a stage's world, taken as this boot, to an empty text. The text is empty
+/// on an error.
 pub fn write_snapshot(
     stage: &Stage<StockScript>,
     mark: &[u8; 32],
@@ -37,7 +38,8 @@ pub fn write_snapshot(
 impl EmbeddedWorld {
     ghost use Rattle.embed_world.specs.Calls.{Loads, Saves};
 
-    /// Makes the snapshot of the world, as a boot, in place of the text.
+    /// Replaces the text with the snapshot of the world, taken as this boot. Fails with `Spoiled`
+    /// or `Memory`; the text is then empty.
     pub fn make_snapshot(&mut self, boot: u32) -> Result<(), SaveFault>
         ensures { Saves self.old boot result self.new }
     {
@@ -45,8 +47,8 @@ impl EmbeddedWorld {
         write_snapshot(&self.stage, &self.mark, boot, &mut self.text)
     }
 
-    /// Puts the world of a snapshot in place of what there was: one of this scene, of a boot below
-    /// `boot`.
+    /// Replaces the world with that of a snapshot of this scene, taken as a boot below `boot`.
+    /// Fails like `load_into` of snapshot_core.
     pub fn load(&mut self, boot: u32, bytes: &[u8]) -> Result<Saved, SnapFault>
         ensures { Loads self.old boot bytes.now result self.new }
     {

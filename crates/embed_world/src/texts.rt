@@ -1,4 +1,4 @@
-//! Texts of a world.
+//! The texts of a world.
 
 ghost use Rattle.std.specs.Prelude.{◌≡◌, [], OnErr};
 ghost use Rattle.x3d_lists.specs.Answers.{Gives};
@@ -13,7 +13,7 @@ use scene_core::{End, Scene};
 use script_boxes::StockScript;
 use x3d_values::show_value;
 
-/// Writes the lines of the trace that are of inputs from a number on, to an empty text.
+/// Writes the lines of the trace of inputs from a number on to an empty text.
 pub fn write_trace(
     stage: &Stage<StockScript>,
     first: u32,
@@ -30,7 +30,7 @@ pub fn write_trace(
     Ok(())
 }
 
-/// Writes the same lines by numbers, to an empty text.
+/// Writes the same lines with numbers to an empty text.
 pub fn write_changes(
     stage: &Stage<StockScript>,
     first: u32,
@@ -47,7 +47,7 @@ pub fn write_changes(
     Ok(())
 }
 
-/// Writes the scene as it is now, to an empty text.
+/// Writes the current scene to an empty text.
 pub fn write_scene(stage: &Stage<StockScript>, out: &mut Vec<u8>) -> Result<(), LookFault>
     requires empty { out.old.items ≡ [] }
     ensures is { Gives Memory (λ _. out.new.items) result (spec.scene_now stage.now) }
@@ -60,7 +60,7 @@ pub fn write_scene(stage: &Stage<StockScript>, out: &mut Vec<u8>) -> Result<(), 
     }
 }
 
-/// Writes the word for a node's type, to an empty text.
+/// Writes the word for a node's type to an empty text.
 pub fn write_type(scene: &Scene, node: u32, out: &mut Vec<u8>) -> Result<(), LookFault>
     requires empty { out.old.items ≡ [] }
     ensures is { Gives Memory (λ _. out.new.items) result (spec.type_in scene.now node) }
@@ -73,7 +73,7 @@ pub fn write_type(scene: &Scene, node: u32, out: &mut Vec<u8>) -> Result<(), Loo
     Ok(())
 }
 
-/// Writes the name of a node, to an empty text.
+/// Writes the label of a node to an empty text.
 pub fn write_label(scene: &Scene, node: u32, out: &mut Vec<u8>) -> Result<(), LookFault>
     requires empty { out.old.items ≡ [] }
     ensures is { Gives Memory (λ _. out.new.items) result (spec.label_in scene.now node) }
@@ -86,7 +86,7 @@ pub fn write_label(scene: &Scene, node: u32, out: &mut Vec<u8>) -> Result<(), Lo
     Ok(())
 }
 
-/// Writes the name of a field, to an empty text.
+/// Writes the name of a field to an empty text.
 pub fn write_field(scene: &Scene, node: u32, field: u16, out: &mut Vec<u8>) -> Result<(), LookFault>
     requires empty { out.old.items ≡ [] }
     ensures is { Gives Memory (λ _. out.new.items) result (spec.field_in scene.now node field) }
@@ -99,7 +99,7 @@ pub fn write_field(scene: &Scene, node: u32, field: u16, out: &mut Vec<u8>) -> R
     Err(LookFault::NoSuchField)
 }
 
-/// Writes the value that a field has now, to an empty text.
+/// Writes the current value of a field to an empty text.
 pub fn write_value(
     stage: &Stage<StockScript>,
     node: u32,
@@ -124,8 +124,8 @@ impl EmbeddedWorld {
     ghost use Rattle.embed_world.specs.Calls.{Makes};
     ghost use Rattle.embed_world.specs.Looks as spec;
 
-    /// Makes the lines of the trace that are of inputs from a number on, `<input> <seconds>
-    /// <label>.<field> <value>` each: from 0 on it is the whole trace.
+    /// Makes the lines of the trace of inputs from the number `first` on: `<input> <seconds>
+    /// <label>.<field> <value>`. From 0 on it is the whole trace. Fails with `Spoiled` or `Memory`.
     pub fn make_trace(&mut self, first: u32) -> Result<(), LookFault>
         ensures { Makes (spec.trace_from self.old.stage first) self.old result self.new }
     {
@@ -133,7 +133,8 @@ impl EmbeddedWorld {
         write_trace(&self.stage, first, &mut self.text)
     }
 
-    /// Makes the same lines by numbers, `<input> <seconds> <node> <field> <value>` each.
+    /// Makes the same lines with numbers: `<input> <seconds> <node> <field> <value>`. Fails with
+    /// `Spoiled` or `Memory`.
     pub fn make_changes(&mut self, first: u32) -> Result<(), LookFault>
         ensures { Makes (spec.changes_from self.old.stage first) self.old result self.new }
     {
@@ -141,7 +142,7 @@ impl EmbeddedWorld {
         write_changes(&self.stage, first, &mut self.text)
     }
 
-    /// Makes the text of the scene as it is now.
+    /// Makes the text of the current scene. Fails with `Spoiled` or `Memory`.
     pub fn make_scene(&mut self) -> Result<(), LookFault>
         ensures { Makes (spec.scene_now self.old.stage) self.old result self.new }
     {
@@ -149,7 +150,7 @@ impl EmbeddedWorld {
         write_scene(&self.stage, &mut self.text)
     }
 
-    /// Makes the word for a node's type, as `Transform`.
+    /// Makes the word for a node's type, such as `Transform`. Fails with `NoSuchNode` or `Memory`.
     pub fn make_type(&mut self, node: u32) -> Result<(), LookFault>
         ensures { Makes (spec.type_in self.old.stage.scene node) self.old result self.new }
     {
@@ -157,8 +158,8 @@ impl EmbeddedWorld {
         write_type(self.stage.scene(), node, &mut self.text)
     }
 
-    /// Makes the name of a node that no other node has: its DEF name, where it is alone, or else
-    /// `N` and its number.
+    /// Makes the label of a node, which no other node has: its DEF name if that is unique, or else
+    /// `N` and its number. Fails with `NoSuchNode` or `Memory`.
     pub fn make_label(&mut self, node: u32) -> Result<(), LookFault>
         ensures { Makes (spec.label_in self.old.stage.scene node) self.old result self.new }
     {
@@ -166,7 +167,7 @@ impl EmbeddedWorld {
         write_label(self.stage.scene(), node, &mut self.text)
     }
 
-    /// Makes the name of a field, as `translation`.
+    /// Makes the name of a field, such as `translation`. Fails with `NoSuchField` or `Memory`.
     pub fn make_field_name(&mut self, node: u32, field: u16) -> Result<(), LookFault>
         ensures { Makes (spec.field_in self.old.stage.scene node field) self.old result self.new }
     {
@@ -174,7 +175,8 @@ impl EmbeddedWorld {
         write_field(self.stage.scene(), node, field, &mut self.text)
     }
 
-    /// Makes the text of the value that a field has now, as `0 1.5 0`; a node has none.
+    /// Makes the text of a field's current value, such as `0 1.5 0`. A node has no text. Fails with
+    /// `Spoiled`, `NoSuchField` or `Memory`.
     pub fn make_value(&mut self, node: u32, field: u16) -> Result<(), LookFault>
         ensures { Makes (spec.value_in self.old.stage node field) self.old result self.new }
     {

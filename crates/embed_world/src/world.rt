@@ -1,11 +1,11 @@
-//! A world with what was read of it last.
+//! A world, with what was last read of it.
 
 use cascade_core::Stage;
 use embed_reading::number_named;
 use script_boxes::StockScript;
 
-/// A stage whose scripts are of the stock, the mark of its scene's text, and the text and the
-/// numbers that were read of it last.
+/// A stage with the stock scripts, the mark of its scene's text, and the text and the numbers that
+/// were last read of it.
 #[derive(Drop)]
 pub struct EmbeddedWorld {
     pub(crate) stage: Stage<StockScript>,
@@ -20,43 +20,44 @@ impl EmbeddedWorld {
     ghost use Rattle.scene_core.specs.Scene.{rows_at};
     ghost use Rattle.embed_reading.specs.Names.{number_named};
 
-    /// How many inputs were applied, or had been when memory was refused.
+    /// Returns the number of inputs that were applied, or that had been when memory ran out.
     pub fn applied(&self) -> u32
         ensures { result ≡ applied_of self.now.stage.held }
     {
         self.stage.applied()
     }
 
-    /// How many nodes the scene has, which are numbered from 0.
+    /// Returns the number of nodes in the scene. They are numbered from 0.
     pub fn node_count(&self) -> usize
         ensures { result ≡ length self.now.stage.scene.nodes }
     {
         self.stage.scene().node_count()
     }
 
-    /// How many fields a node has, which are numbered from 0; 0 where there is no such node.
+    /// Returns the number of fields of a node. They are numbered from 0. 0 if there is no such
+    /// node.
     pub fn field_count(&self, node: u32) -> u32
         ensures { result ≡ length (rows_at self.now.stage.scene node) }
     {
         self.stage.scene().field_count(node)
     }
 
-    /// The number of the field of that name of a node, of its type or declared by it; none where
-    /// the node has no such field, there is no such node, or the bytes are not UTF-8.
+    /// Returns the number of a node's field with this name, of its type or declared by it. `None`
+    /// if the node has no such field, there is no such node, or the bytes are not UTF-8.
     pub fn field_named(&self, node: u32, name: &[u8]) -> Option<u16>
         ensures { result ≡ number_named self.now.stage.scene node name.now }
     {
         number_named(self.stage.scene(), node, name)
     }
 
-    /// The text that was made last.
+    /// Returns the text that was made last.
     pub fn text(&self) -> &[u8]
         ensures { result.now ≡ self.now.text.items }
     {
         self.text.as_slice()
     }
 
-    /// The numbers that were listed last.
+    /// Returns the numbers that were listed last.
     pub fn numbers(&self) -> &[i64]
         ensures { result.now ≡ self.now.numbers.items }
     {

@@ -22,12 +22,12 @@ use Rattle.laws_written.specs.Distinct.{HaveDistinctFields}
 use Rattle.laws_written.specs.Fields.{switch_children, value_now}
 use Rattle.laws_again.specs.Sound.{AreSound, AreOfType}
 
--- helpers, where there are some, stand in one node more
+-- the helpers, if there are any, are in one more node
 abbrev pub switch_type : List ℕ → List NodeType
 switch_type [] = []
 switch_type (n ∷ ns) = Switch ∷ []
 
--- its children are the helpers, and its other fields hold what they hold where nothing is given
+-- its children are the helpers, and its other fields hold their defaults
 abbrev pub switch_value : List ℕ → ℕ → FieldRowView → Option Value
 switch_value helpers field e =
     if switch_children == field then Some (MFNode helpers) else default_of e
@@ -42,28 +42,28 @@ pub record IsSwitchOf (helpers : List ℕ) (next : SceneView) (n : ℕ) : Type 0
 pub record IsWrittenOf (s : SceneView) (routes : List Route) (state : List Fields)
     (next : SceneView) : Type 0 where
   pub header : next.header ≡ s.header
-  -- where there are helpers, one root more, and no helpers
+  -- if there are helpers, the second scene has one more root, and no helpers
   pub roots : next.roots ≡ written_roots s
   pub helpers : next.helpers ≡ []
-  -- node by node: types, declared fields, all fields, and the nodes that stand in it
+  -- for each node: its type, declared fields, all fields, and the nodes in it
   pub types : types_of next ≡ types_of s ++ switch_type s.helpers
   pub declared : (n : ℕ) → n < length s.nodes → declared_at next n ≡ declared_at s n
   pub rows : (n : ℕ) → n < length s.nodes → rows_at next n ≡ rows_at s n
   pub children : map children next.nodes ≡ written_nodes s
-  -- each field holds what it held: what its node keeps of it, and else what the scene gives
+  -- each field holds what it held: what its node keeps, or else what the scene gives
   pub values : (n field : ℕ) (e : FieldRowView) → slice_get (rows_at s n) field ≡ Some e
       → value_at next n field ≡ value_now s state n field e.access e.field_type
-  -- a node has the same label, and keeps it as its name where it was written with a DEF
+  -- a node has the same label, and keeps it as its name if it was written with a DEF
   pub labels : (n : ℕ) → n < length s.nodes → label_of next n ≡ label_of s n
   pub names : (n : ℕ) → n < length s.nodes → name_at next n ≡ written_name s routes n
-  -- the helpers, where there are some, stand in the last node
+  -- the helpers, if there are any, are in the last node
   pub switch : (h : ℕ) (hs : List ℕ) → s.helpers ≡ h ∷ hs
       → IsSwitchOf (h ∷ hs) next (length s.nodes)
-  -- the n-th node of what was read is the n-th of the scene
+  -- the n-th node that was read is the n-th node of the scene
   pub numbers : (n : ℕ) → n < length next.nodes → number_of next n ≡ Some n
 
--- where a document's scene is written, and what is written has a flat form of which there is a
--- scene, this is the scene that was written
+-- if a document's scene is written and what is written has a flat form with a scene, that scene is
+-- the one that was written
 abbrev pub WrittenScenesAreAgain : Type 0
 WrittenScenesAreAgain =
     (from : Flat) (scene : SceneView) (routes : List Route) (state : List Fields) (again : Flat)

@@ -16,7 +16,7 @@ abbrev pub kept_of : List Fields → ℕ → ℕ → Option Value
 kept_of state n field =
     option_and_then (λ (fields : Fields). field_value fields field) (slice_get state n)
 
--- each value that was kept when the scene was written is kept again, before any event
+-- each value that was kept when the scene was written is kept again before any event
 abbrev pub KeptAgain : Type 0
 KeptAgain =
     (s : SceneView) (routes : List Route) (state : List Fields) (next : SceneView)

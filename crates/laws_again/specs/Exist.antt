@@ -1,5 +1,5 @@
--- That there is a scene of what is written of a scene (ISO/IEC 19775-1, scene graph), within the
--- limits of size.
+-- What is written of a scene has a scene again (ISO/IEC 19775-1, scene graph), within the limits of
+-- size.
 use Rattle.std.specs.Prelude.{◌≡◌, ◌⊎◌, ◌≤◌, ◌^◌, ℕ, true, List, length, Some, Result, Ok, Err, slice_get}
 use Rattle.x3d_values.specs.declared.fields.Fields.{Fields}
 use Rattle.x3d_values.specs.declared.node_type.NodeType.{NodeType}
@@ -27,19 +27,20 @@ AreInRange s state =
     → type_at s n ≡ Some t → slice_get (rows t) field ≡ Some e → slice_get state n ≡ Some fields
     → field_value fields field ≡ Some v → in_range e.name v ≡ true
 
--- so it is before any event
+-- what nodes keep before any event is in range
 abbrev pub OpeningsAreInRange : Type 0
 OpeningsAreInRange =
     (flat : Flat) (s : SceneView) → scene_of flat ≡ Ok s → AreInRange s (state_of s)
 
--- a scene, or that chains are too long, or that there are too many places, sensors or fields
+-- a scene, or the fault that chains are too long, or that there are too many places, sensors or
+-- fields
 abbrev pub IsSceneOrLimit : Result SceneView SceneFault → Type 0
 IsSceneOrLimit result =
     ((scene : SceneView) × (result ≡ Ok scene))
     ⊎ ((result ≡ Err (fault TooDeep 0)) ⊎ (result ≡ Err (fault TooMany 0)))
 
--- where a document's scene is written, and what is written has a flat form, there is a scene of
--- this, or a limit of size is the only fault
+-- if a document's scene is written and what is written has a flat form, this has a scene, or a
+-- limit of size is the only fault
 abbrev pub WrittenScenesExist : Type 0
 WrittenScenesExist =
     (from : Flat) (scene : SceneView) (routes : List Route) (state : List Fields) (again : Flat)

@@ -5,7 +5,7 @@ use Rattle.cascade_world.specs.declared.world.WorldData.{WorldData}
 use Rattle.laws_worlds.specs.Fits.{WorldFits}
 use Rattle.laws_text.specs.Writable.{AreKeepable}
 
--- each value that is kept in a world that fits is sound, and holds no nodes
+-- each value that is kept in a world that fits is sound and contains no nodes
 abbrev pub FittingAreKeepable : Type 0
 FittingAreKeepable =
     (shapes : List Shape) (w : WorldData) → WorldFits shapes w → AreKeepable w.fields

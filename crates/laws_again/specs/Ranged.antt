@@ -4,7 +4,7 @@ use Rattle.cascade_world.specs.declared.world.WorldData.{WorldData}
 use Rattle.laws_worlds.specs.Fits.{WorldFits}
 use Rattle.laws_again.specs.Exist.{AreInRange}
 
--- so it is in a world that fits
+-- this holds in a world that fits
 abbrev pub FittingAreInRange : Type 0
 FittingAreInRange =
     (scene : SceneView) (w : WorldData) → WorldFits (shapes_of scene) w

@@ -9,8 +9,8 @@ use Rattle.scene_core.specs.Scene.{SceneView}
 use Rattle.laws_text.specs.Written.{has_room}
 use Rattle.laws_again.specs.Again.{IsWrittenOf}
 
--- no chain from a helper is as long as a chain may be, where the scene that is read again, in which
--- the helpers stand one node deeper, exists
+-- no chain from a helper is of the maximum length, if the scene that is read again exists, in which
+-- the helpers are one node deeper
 abbrev pub ScenesAgainHaveRoom : Type 0
 ScenesAgainHaveRoom =
     (again : Flat) (scene : SceneView) (routes : List Route) (state : List Fields)

@@ -11,7 +11,7 @@ use Rattle.scene_core.specs.Scene.{SceneView, rows_at, state_of, value_at}
 use Rattle.laws_spelled.specs.Named.{IsNamed}
 use Rattle.laws_text.specs.Values.{is_sound}
 
--- what the scene gives has numbers in the range of its type, and texts in UTF-8
+-- the values that the scene gives have numbers in the range of their type, and texts in UTF-8
 abbrev pub AreSound : SceneView → Type 0
 AreSound s = (n field : ℕ) (v : Value) → value_at s n field ≡ Some v → is_sound v ≡ true
 
@@ -22,7 +22,7 @@ AreOfType s state =
     → slice_get (rows_at s n) field ≡ Some e → slice_get state n ≡ Some fields
     → field_value fields field ≡ Some v → type_of v ≡ e.field_type
 
--- ---- where they do
+-- -- when they hold it
 
 -- in the scene of a document whose names are names and whose texts are UTF-8
 abbrev pub DocumentScenesAreSound : Type 0

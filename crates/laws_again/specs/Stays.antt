@@ -28,26 +28,25 @@ use Rattle.laws_again.specs.Fitting.{state_fits}
 
 -- ---- what is written of a scene, with what its nodes keep
 
--- it has no flat form, for its size alone
+-- it has no flat form, because it is too large
 pub record IsTooLarge (scene : SceneView) (routes : List Route) (state : List Fields) : Type 0 where
   pub fault : ExpandFault
   pub is_fault : flat (scene_document scene routes state) ≡ Err fault
   pub kind : fault.kind ≡ TooLarge
 
--- the second scene, which is that of the flat form, is the first, and the routes are the same
+-- the second scene, that of the flat form, is the first, and the routes are the same
 pub record IsSame (scene : SceneView) (routes : List Route) (state : List Fields) (again : Flat)
     (next : SceneView) : Type 0 where
   pub is_written : IsWrittenOf scene routes state next
   pub resolves : resolved again next ≡ Ok routes
-  -- the text spells the document that is written, but for lines and the limit of 16 MiB
+  -- the text spells the document that is written, apart from line numbers and the limit of 16 MiB
   pub spells : SpellsAtAnyLength (scene_text scene routes state)
       (scene_document scene routes state)
-  -- and it is written the same again: before any event the second scene has this text
+  -- it is written again in the same way: before any event the second scene has this text
   pub writes : scene_text next routes (state_of next) ≡ scene_text scene routes state
 
--- it has a flat form, and there is a scene of this, unless chains are too long, or there are too
--- many places or sensors; where there is one, it is the scene that was written, and the text can be
--- read
+-- it has a flat form, and that has a scene unless chains are too long, or there are too many places
+-- or sensors; if there is a scene, it is the scene that was written, and the text can be read
 pub record IsReadAgain (scene : SceneView) (routes : List Route) (state : List Fields)
     : Type 0 where
   pub again : Flat
@@ -55,28 +54,28 @@ pub record IsReadAgain (scene : SceneView) (routes : List Route) (state : List F
   pub exists : IsSceneOrLimit (scene_of again)
   pub same : (next : SceneView) → scene_of again ≡ Ok next → IsSame scene routes state again next
 
--- the one or the other
+-- it is too large, or it is read again
 abbrev pub Stays : SceneView → List Route → List Fields → Type 0
 Stays scene routes state = IsTooLarge scene routes state ⊎ IsReadAgain scene routes state
 
 -- ---- the law
 
--- so it is with the scene of every text, in every state that fits it
+-- Stays holds for the scene of every text, in every state that fits it
 abbrev pub ScenesStay : Type 0
 ScenesStay =
     (text : List ℕ) (f : Flat) (scene : SceneView) (routes : List Route) (state : List Fields)
     → IsOpened text f scene routes → state_fits (shapes_of scene) state ≡ true
     → Stays scene routes state
 
--- so it is in each world that the scene of a text comes to by inputs in turn, if its scripts run
+-- Stays holds in every world that inputs in turn lead to in the scene of a text, if its scripts run
 abbrev pub WorldsStay : Type 0
 WorldsStay =
     (text : List ℕ) (f : Flat) (scene : SceneView) (routes : List Route) (inputs : List StampedView)
     → IsOpened text f scene routes → RunsAll scene → AreInputs inputs
     → Stays scene routes (world scene routes inputs).world.fields
 
--- and in that of each viewer that runs, whatever 1 to max_viewers viewers, their host and their
--- network came to
+-- it holds in the world of every running viewer, whatever 1 to max_viewers viewers, their host and
+-- their network did
 abbrev pub RunningWorldsStay : Type 0
 RunningWorldsStay =
     (text : List ℕ) (f : Flat) (scene : SceneView) (routes : List Route)

@@ -1,4 +1,4 @@
--- What the nodes of a world keep is of their fields' types (ISO/IEC 19775-1, field types).
+-- What the nodes of a world keep has their fields' types (ISO/IEC 19775-1, field types).
 use Rattle.std.specs.Prelude.{ℕ, List, Option}
 use Rattle.x3d_values.specs.Stamp.{StampedView}
 use Rattle.proto_flat.specs.declared.flat.Flat.{Flat}
@@ -16,20 +16,20 @@ use Rattle.laws_worlds.specs.Worlds.{AreInputs}
 use Rattle.laws_networks.specs.Opened.{IsOpened}
 use Rattle.laws_again.specs.Sound.{AreOfType}
 
--- so it is in a world that fits
+-- this holds in a world that fits
 abbrev pub FittingAreOfType : Type 0
 FittingAreOfType =
     (scene : SceneView) (w : WorldData) → WorldFits (shapes_of scene) w → AreOfType scene w.fields
 
--- in each world that the scene of a text comes to by inputs in turn, that of no inputs too
+-- it holds in every world that inputs in turn lead to in the scene of a text, with no inputs too
 abbrev pub WorldsAreOfType : Type 0
 WorldsAreOfType =
     (text : List ℕ) (f : Flat) (scene : SceneView) (routes : List Route) (inputs : List StampedView)
     → IsOpened text f scene routes → RunsAll scene → AreInputs inputs
     → AreOfType scene (world scene routes inputs).world.fields
 
--- and in that of each viewer that runs, whatever 1 to max_viewers viewers, their host and their
--- network came to
+-- it holds in the world of every running viewer, whatever 1 to max_viewers viewers, their host and
+-- their network did
 abbrev pub RunningWorldsAreOfType : Type 0
 RunningWorldsAreOfType =
     (text : List ℕ) (f : Flat) (scene : SceneView) (routes : List Route)

@@ -1,4 +1,4 @@
--- That the scene of what is written of a world's scene is that scene again (ISO/IEC 19775-1, scene
+-- The scene of what is written of a world's scene is that scene again (ISO/IEC 19775-1, scene
 -- graph).
 use Rattle.std.specs.Prelude.{◌≡◌, ℕ, List, Ok, Option, Some}
 use Rattle.x3d_values.specs.declared.value.Value.{Value}
@@ -20,23 +20,23 @@ use Rattle.laws_networks.specs.Opened.{IsOpened}
 use Rattle.laws_again.specs.Again.{IsWrittenOf}
 use Rattle.laws_again.specs.Begins.{kept_of}
 
--- where the scene is written as it stands in a world, and what is written has a flat form of which
--- there is a scene, this is the scene with what its nodes kept in that world
+-- if the scene of a world is written and what is written has a flat form with a scene, that scene
+-- is the world's, with what its nodes kept
 abbrev pub IsAgain : SceneView → List Route → Scripted → Type 0
 IsAgain scene routes w =
     (again : Flat) (next : SceneView)
     → flat (scene_document scene routes w.world.fields) ≡ Ok again → scene_of again ≡ Ok next
     → IsWrittenOf scene routes w.world.fields next
 
--- so in each world that the scene of a text comes to by inputs in turn
+-- IsAgain holds in every world that inputs in turn lead to in the scene of a text
 abbrev pub WrittenWorldsAreAgain : Type 0
 WrittenWorldsAreAgain =
     (text : List ℕ) (f : Flat) (scene : SceneView) (routes : List Route) (inputs : List StampedView)
     → IsOpened text f scene routes → RunsAll scene → AreInputs inputs
     → IsAgain scene routes (world scene routes inputs)
 
--- and in that of each viewer that runs, whatever 1 to max_viewers viewers, their host and their
--- network came to
+-- it holds in the world of every running viewer, whatever 1 to max_viewers viewers, their host and
+-- their network did
 abbrev pub RunningWorldsAreAgain : Type 0
 RunningWorldsAreAgain =
     (text : List ℕ) (f : Flat) (scene : SceneView) (routes : List Route)
@@ -45,7 +45,7 @@ RunningWorldsAreAgain =
     → (viewer : ℕ) (held : Scripted) (window : List (Option StampedView))
     → IsRunning net viewer held window → IsAgain scene routes held
 
--- each value that a node of such a world kept it keeps in that scene, before any event
+-- each value that a node of such a world kept, it keeps in that scene before any event
 abbrev pub IsKeptAgain : SceneView → List Route → Scripted → Type 0
 IsKeptAgain scene routes w =
     (again : Flat) (next : SceneView)

@@ -1,4 +1,4 @@
--- That the scene of a world is written as a text that is read again (ISO/IEC 19776-2, grammar).
+-- The scene of a world is written as a text that is read again (ISO/IEC 19776-2, grammar).
 use Rattle.std.specs.Prelude.{◌≡◌, ℕ, true, List, Option}
 use Rattle.x3d_values.specs.Stamp.{StampedView}
 use Rattle.classic_round_trip.specs.AnyLength.{SpellsAtAnyLength}
@@ -17,22 +17,22 @@ use Rattle.laws_worlds.specs.Worlds.{AreInputs}
 use Rattle.laws_networks.specs.Opened.{IsOpened}
 use Rattle.laws_text.specs.Written.{has_room}
 
--- the text of a scene as it stands in a world spells the document that it is written as, but for
--- lines and the limit of 16 MiB
+-- the text of a world's scene spells the document that it is written as, apart from line numbers
+-- and the limit of 16 MiB
 abbrev pub IsReadAgain : SceneView → List Route → Scripted → Type 0
 IsReadAgain scene routes w =
     SpellsAtAnyLength (scene_text scene routes w) (scene_document scene routes w.world.fields)
 
--- so in each world that the scene of a text comes to by inputs in turn, if a Switch has room above
--- the helpers
+-- IsReadAgain holds in every world that inputs in turn lead to in the scene of a text, if a Switch
+-- has room above the helpers
 abbrev pub WrittenWorldsSpell : Type 0
 WrittenWorldsSpell =
     (text : List ℕ) (f : Flat) (scene : SceneView) (routes : List Route) (inputs : List StampedView)
     → IsOpened text f scene routes → RunsAll scene → has_room scene ≡ true → AreInputs inputs
     → IsReadAgain scene routes (world scene routes inputs)
 
--- and in that of each viewer that runs, whatever 1 to max_viewers viewers, their host and their
--- network came to
+-- it holds in the world of every running viewer, whatever 1 to max_viewers viewers, their host and
+-- their network did
 abbrev pub RunningWorldsSpell : Type 0
 RunningWorldsSpell =
     (text : List ℕ) (f : Flat) (scene : SceneView) (routes : List Route)

@@ -1,4 +1,4 @@
-//! Laws of scenes that were written and read again, each the contract of a function that does
+//! Laws of scenes that were written and read again. Each is the contract of a function that does
 //! nothing.
 
 ghost use Rattle.laws_again.specs.Exist.{OpeningsAreInRange, WrittenScenesExist};
@@ -7,8 +7,8 @@ use laws_text::{fields_are_left_out, values_are_typed};
 use laws_written::{written_fields_stay, written_nodes_close, written_nodes_stay};
 use x3d_values::table_law;
 
-/// Of the flat form of a written scene, where there is one, there is a scene, or it is beyond a
-/// limit of size.
+/// The flat form of a written scene, if there is one, has a scene, unless it exceeds a limit of
+/// size.
 pub fn written_scenes_exist()
     ensures { WrittenScenesExist }
 {

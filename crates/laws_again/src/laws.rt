@@ -1,4 +1,4 @@
-//! Laws of scenes that were written and read again, each the contract of a function that does
+//! Laws of scenes that were written and read again. Each is the contract of a function that does
 //! nothing.
 
 ghost use Rattle.laws_again.specs.Again.{WrittenScenesAreAgain};
@@ -10,7 +10,7 @@ use laws_text::{fields_are_left_out, headers_are_kept, labels_are_distinct, valu
 use laws_written::{written_fields_stay, written_nodes_close, written_nodes_stay};
 use x3d_values::table_law;
 
-/// The scene of the flat form of a written scene, where there is one, is the scene.
+/// The scene of the flat form of a written scene, if there is one, is the written scene.
 pub fn written_scenes_are_again()
     ensures { WrittenScenesAreAgain }
 {
@@ -24,25 +24,25 @@ pub fn written_scenes_are_again()
     written_fields_stay();
 }
 
-/// What the scene of a document gives its fields is sound, where the document's names are names and
-/// its texts UTF-8.
+/// The values that the scene of a document gives its fields are sound, if the document's names are
+/// names and its texts are UTF-8.
 pub fn document_scenes_are_sound()
     ensures { DocumentScenesAreSound }
 {}
 
-/// What the nodes of a document's scene keep before any event is of their fields' types.
+/// What the nodes of a document's scene keep before any event has the type of its field.
 pub fn openings_are_of_type()
     ensures { OpeningsAreOfType }
 {
     table_law();
 }
 
-/// Each value that nodes kept when a scene was written they keep again, before any event.
+/// Each value that nodes kept when a scene was written, they keep again before any event.
 pub fn values_are_kept_again()
     ensures { KeptAgain }
 {}
 
-/// Where the scene of what is written of a scene exists, a Switch has room above the helpers.
+/// If the scene of what is written of a scene exists, a Switch has room above the helpers.
 pub fn scenes_again_have_room()
     ensures { ScenesAgainHaveRoom }
 {}

@@ -1,10 +1,10 @@
-//! That a written scene is the scene.
+//! A written scene, read again, is the same scene.
 //!
-//! `existing` and `laws` are about a scene that was written and read again: that there is one,
-//! within the limits of size, and that it is the scene. `worlds`, `typed` and `staying` are about a
+//! `existing` and `laws` are about a scene that was written and read again: there is one, within
+//! the limits of size, and it is the written scene. `worlds`, `typed` and `staying` are about a
 //! scene in a state that fits, as in a world that was reached: what is written of it is too large,
-//! or is read as the scene with its routes, and with the values that its nodes kept, which are of
-//! their fields' types.
+//! or is read as the scene with its routes and the values that its nodes kept, which have their
+//! fields' types.
 #![tactic(auto)]
 
 mod existing;

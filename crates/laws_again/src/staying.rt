@@ -1,4 +1,4 @@
-//! Laws of written scenes, each the contract of a function that does nothing.
+//! Laws of written scenes. Each is the contract of a function that does nothing.
 
 ghost use Rattle.laws_again.specs.Ranged.{FittingAreInRange};
 ghost use Rattle.laws_again.specs.Stays.{RunningWorldsStay, ScenesStay, WorldsStay};
@@ -11,7 +11,7 @@ use laws_spelled::spelled_flats_are_named;
 use laws_text::{scenes_are_writable, written_scenes_spell};
 use laws_written::{fields_are_distinct, written_routes_stay, written_scenes_are_flat};
 
-/// What is written of a scene in a state that fits is too large, or is read as the scene, with what
+/// What is written of a scene in a state that fits is too large, or is read as the scene with what
 /// its nodes kept and its routes.
 pub fn written_scenes_stay()
     ensures { ScenesStay }
@@ -31,8 +31,8 @@ pub fn written_scenes_stay()
     written_routes_stay();
 }
 
-/// So it is with the scene as it stands in each world that it comes to by inputs in turn, and in
-/// that of each running viewer.
+/// Like `written_scenes_stay`, for the scene in every world that inputs in turn lead to, and in the
+/// world of every running viewer.
 pub fn written_worlds_stay()
     ensures reached { WorldsStay }
     ensures running { RunningWorldsStay }
@@ -40,8 +40,8 @@ pub fn written_worlds_stay()
     written_scenes_stay();
 }
 
-/// In a world where each value is in the range of its field's type, what a node keeps of a field is
-/// in the range of the field.
+/// If each value of a world is in the range of its field's type, what a node keeps of a field is in
+/// the range of the field.
 pub fn fitting_worlds_are_in_range()
     ensures { FittingAreInRange }
 {}

@@ -1,4 +1,4 @@
-//! Laws of what nodes keep in worlds, each the contract of a function that does nothing.
+//! Laws of what nodes keep in worlds. Each is the contract of a function that does nothing.
 
 ghost use Rattle.laws_again.specs.WorldsAgain.{RunningWorldsAreAgain, RunningWorldsAreKeptAgain};
 ghost use Rattle.laws_again.specs.WorldsAgain.{WorldsAreKeptAgain, WrittenWorldsAreAgain};
@@ -10,21 +10,21 @@ use crate::worlds::fitting_worlds_are_kept;
 use laws_spelled::spelled_flats_are_named;
 use laws_written::fields_are_distinct;
 
-/// In a world where each value is in the range of its field, what a node keeps of a field is of the
+/// If each value of a world is in the range of its field, what a node keeps of a field has the
 /// field's type.
 pub fn fitting_worlds_are_typed()
     ensures { FittingAreOfType }
 {}
 
-/// So it is in each world that the scene of a text comes to by inputs in turn, and in that of each
-/// running viewer.
+/// What a node keeps has its field's type in every world that inputs in turn lead to in the scene
+/// of a text, and in the world of every running viewer.
 pub fn worlds_are_typed()
     ensures reached { WorldsAreOfType }
     ensures running { RunningWorldsAreOfType }
 {}
 
-/// The scene of what is written of the scene of such a world, where there is one, is that scene,
-/// with what its nodes kept.
+/// The scene of what is written of such a world's scene, if there is one, is that scene with what
+/// its nodes kept.
 pub fn written_worlds_are_again()
     ensures reached { WrittenWorldsAreAgain }
     ensures running { RunningWorldsAreAgain }
@@ -36,7 +36,8 @@ pub fn written_worlds_are_again()
     written_scenes_are_again();
 }
 
-/// What the nodes of such a world kept they keep in the scene that is read again, before any event.
+/// What the nodes of such a world kept, they keep in the scene that is read again, before any
+/// event.
 pub fn worlds_are_kept_again()
     ensures reached { WorldsAreKeptAgain }
     ensures running { RunningWorldsAreKeptAgain }

@@ -13,9 +13,9 @@ use Rattle.share_law.specs.Reached.{Reached, IsRunning}
 use Rattle.share_law.specs.Viewer.{Shot}
 use Rattle.laws_worlds.specs.Worlds.{IsDocument}
 
--- whatever 1 to max_viewers viewers, their host and their network came to in the scene of a
--- document, all of whose scripts run: each world that a viewer saved has a snapshot, which counts
--- the events that were sent in 64 bits
+-- whatever 1 to max_viewers viewers, their host and their network did in the scene of a document,
+-- all of whose scripts run: each world that a viewer saved has a snapshot, which counts the events
+-- that were sent in 64 bits
 abbrev pub SavedHaveSnapshots : Type 0
 SavedHaveSnapshots =
     (flat : Flat) (scene : SceneView) (routes : List Route)
@@ -24,7 +24,7 @@ SavedHaveSnapshots =
     → (s : ℕ) (shot : Shot Scripted) → slice_get net.shots s ≡ Some shot
     → length shot.state.world.trace < 2 ^ 64 → HasSnapshot scene shot.state
 
--- and so has the world of each viewer that runs
+-- so does the world of each viewer that runs
 abbrev pub RunningHaveSnapshots : Type 0
 RunningHaveSnapshots =
     (flat : Flat) (scene : SceneView) (routes : List Route)

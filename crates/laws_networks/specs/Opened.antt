@@ -1,4 +1,4 @@
--- What a text has: its document, the flat document, the scene and the routes.
+-- What a text gives: its document, the flat document, the scene and the routes.
 use Rattle.std.specs.Prelude.{◌≡◌, ℕ, List, Ok}
 use Rattle.classic_tree.specs.declared.tree.Document.{Document}
 use Rattle.classic_text.specs.Reading.{read_text}
@@ -18,7 +18,7 @@ pub record IsOpened (text : List ℕ) (f : Flat) (scene : SceneView)
   pub is_scene : scene_of f ≡ Ok scene
   pub are_routes : resolved f scene ≡ Ok routes
 
--- its nodes can be numbered in 32 bits, and its lengths counted
+-- the scene's nodes can be numbered in 32 bits, and its lengths can be counted
 abbrev pub OpenedAreDocuments : Type 0
 OpenedAreDocuments =
     (text : List ℕ) (f : Flat) (scene : SceneView) (routes : List Route)

@@ -1,4 +1,4 @@
--- A viewer begins again by a snapshot that was taken, its own or another viewer's.
+-- A viewer rewinds to a snapshot that was taken, its own or another viewer's.
 use Rattle.std.specs.Prelude.{◌≡◌, ℕ, ◌<◌, ◌^◌, List, length, Some, Result, slice_get}
 use Rattle.proto_flat.specs.declared.flat.Flat.{Flat}
 use Rattle.scene_core.specs.declared.scene.Route.{Route}
@@ -16,11 +16,11 @@ use Rattle.share_core.specs.Rewinds.{IsRewound}
 use Rattle.share_core.specs.Viewer.{ViewerView, machine_of}
 use Rattle.laws_worlds.specs.Worlds.{IsDocument}
 
--- whatever 1 to max_viewers viewers, their host and their network came to in the scene of a
--- document, all of whose scripts run: what a viewer of that scene makes of the bytes of a snapshot
--- that was taken (`IsRewound`, the clause of its call) is the network's step for that snapshot, so
--- it is refused for its boot or for memory alone. The snapshot counts its boot in 32 bits and the
--- events that were sent in 64
+-- whatever 1 to max_viewers viewers, their host and their network did in the scene of a document,
+-- all of whose scripts run: rewinding a viewer of that scene to the bytes of a snapshot that was
+-- taken (`IsRewound`, the clause of its call) is the network's step for that snapshot, so only its
+-- boot or memory can refuse it. The snapshot counts its boot in 32 bits and the events that were
+-- sent in 64.
 abbrev pub TakenSnapshotsRewind : Type 0
 TakenSnapshotsRewind =
     (flat : Flat) (scene : SceneView) (routes : List Route)

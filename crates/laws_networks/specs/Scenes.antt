@@ -1,4 +1,4 @@
--- How long the texts and lists of a scene are that was read from a text.
+-- How long the texts and lists are in a scene that was read from a text.
 use Rattle.std.specs.Prelude.{◌≡◌, ℕ, ◌≤◌, List, length, Option, Some, None, Ok}
 use Rattle.std.specs.List.{AllByRecursion}
 use Rattle.x3d_values.specs.declared.value.Value.{Value}
@@ -13,7 +13,8 @@ use Rattle.scene_core.specs.Building.{scene_of}
 use Rattle.scene_core.specs.Scene.{SceneView}
 use Rattle.laws_spelled.specs.Lengths.{IsShortText}
 
--- texts are UTF-8, and neither these nor the list has more bytes or items; nodes are no matter
+-- texts are UTF-8 with at most this many bytes, and the list has at most this many items; nodes do
+-- not count
 abbrev pub IsShortValue : ℕ → Value → Type 0
 IsShortValue most (SFString text) = IsShortText most text
 IsShortValue most (MFBool truths) = length truths ≤ most
@@ -31,14 +32,14 @@ abbrev pub IsShortIfAny : ℕ → Option Value → Type 0
 IsShortIfAny most None = Unit {0}
 IsShortIfAny most (Some value) = IsShortValue most value
 
--- so are all values that the node begins with, those of the table too
+-- every value that the node begins with is short, those of the type's table included
 abbrev pub IsShortSceneNode : ℕ → SceneNode → Type 0
 IsShortSceneNode most node = AllByRecursion (IsShortIfAny most) node.values
 
 abbrev pub IsShortScene : ℕ → SceneView → Type 0
 IsShortScene most scene = AllByRecursion (IsShortSceneNode most) scene.nodes
 
--- a text has at most 16 MiB, and the scene that was read from it no longer texts or lists
+-- a text has at most 16 MiB, and the scene that was read from it has no longer texts or lists
 abbrev pub ScenesAreShort : Type 0
 ScenesAreShort =
     (text : List ℕ) (d : Document) (f : Flat) (scene : SceneView)

@@ -1,4 +1,4 @@
--- A viewer of a scene that was read from a text begins again by a snapshot that was taken.
+-- A viewer of a scene that was read from a text rewinds to a snapshot that was taken.
 use Rattle.std.specs.Prelude.{◌≡◌, ℕ, ◌<◌, ◌^◌, List, length, Some, Result, slice_get}
 use Rattle.proto_flat.specs.declared.flat.Flat.{Flat}
 use Rattle.scene_core.specs.declared.scene.Route.{Route}
@@ -16,10 +16,10 @@ use Rattle.share_core.specs.Rewinds.{IsRewound}
 use Rattle.share_core.specs.Viewer.{ViewerView, machine_of}
 use Rattle.laws_networks.specs.Opened.{IsOpened}
 
--- whatever 1 to max_viewers viewers, their host and their network came to, where all scripts run:
--- what a viewer of the scene makes of the bytes of a snapshot that was taken is the network's step
--- for that snapshot, so it is refused for its boot or for memory alone. The snapshot counts its
--- boot in 32 bits
+-- whatever 1 to max_viewers viewers, their host and their network did, if all scripts run:
+-- rewinding a viewer of the scene to the bytes of a snapshot that was taken is the network's step
+-- for that snapshot, so only its boot or memory can refuse it. The snapshot counts its boot in 32
+-- bits.
 abbrev pub TakenSnapshotsOfTextsRewind : Type 0
 TakenSnapshotsOfTextsRewind =
     (text : List ℕ) (f : Flat) (scene : SceneView) (routes : List Route)

@@ -10,7 +10,7 @@ use Rattle.cascade_core.specs.Apply.{apply, opening, world}
 use Rattle.cascade_core.specs.Course.{Scripted}
 use Rattle.cascade_core.specs.Outputs.{outputs_of}
 
--- an input adds no more lines than the scene has outputs, where all its scripts run
+-- an input adds at most one line for each output of the scene, if all its scripts run
 abbrev pub InputsSendFew : Type 0
 InputsSendFew =
     (scene : SceneView) (routes : List Route) (w : Scripted) (input : StampedView)
@@ -18,14 +18,15 @@ InputsSendFew =
     → length (apply scene routes w input).world.trace
     ≤ length w.world.trace + outputs_of (shapes_of scene)
 
--- neither does input 0, which initializes the scripts
+-- the same holds for input 0, which initializes the scripts
 abbrev pub OpeningsSendFew : Type 0
 OpeningsSendFew =
     (scene : SceneView) (routes : List Route)
     → RunsAll scene
     → length (opening scene routes).world.trace ≤ outputs_of (shapes_of scene)
 
--- the trace of a scene of at most 65,536 nodes, after as many inputs as a world may have
+-- the lines in the trace of a scene of at most 65,536 nodes, after as many inputs as a world may
+-- have
 abbrev pub TracesAreCounted : Type 0
 TracesAreCounted =
     (scene : SceneView) (routes : List Route) (inputs : List StampedView)

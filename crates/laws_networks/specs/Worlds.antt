@@ -1,4 +1,4 @@
--- The worlds of a scene that was read from a text: nothing else is asked of the text, but that all
+-- The worlds of a scene that was read from a text. The only condition on the text is that all
 -- scripts of the scene run.
 use Rattle.std.specs.Prelude.{◌≡◌, ℕ, List, Option, Some, slice_get}
 use Rattle.x3d_values.specs.Stamp.{StampedView}
@@ -24,15 +24,15 @@ WorldsOfTextsFit =
     → IsOpened text f scene routes → RunsAll scene → AreInputs inputs
     → ScriptedFits scene (world scene routes inputs)
 
--- and has a snapshot that is read again
+-- every such world has a snapshot that can be read again
 abbrev pub WorldsOfTextsHaveSnapshots : Type 0
 WorldsOfTextsHaveSnapshots =
     (text : List ℕ) (f : Flat) (scene : SceneView) (routes : List Route) (inputs : List StampedView)
     → IsOpened text f scene routes → RunsAll scene → AreInputs inputs
     → HasSnapshot scene (world scene routes inputs)
 
--- so has each world that a viewer saved, whatever 1 to max_viewers viewers, their host and their
--- network came to
+-- so does each world that a viewer saved, whatever 1 to max_viewers viewers, their host and their
+-- network did
 abbrev pub SavedOfTextsHaveSnapshots : Type 0
 SavedOfTextsHaveSnapshots =
     (text : List ℕ) (f : Flat) (scene : SceneView) (routes : List Route)
@@ -41,7 +41,7 @@ SavedOfTextsHaveSnapshots =
     → (s : ℕ) (shot : Shot Scripted) → slice_get net.shots s ≡ Some shot
     → HasSnapshot scene shot.state
 
--- and each that a viewer runs with
+-- so does each world that a viewer runs with
 abbrev pub RunningOfTextsHaveSnapshots : Type 0
 RunningOfTextsHaveSnapshots =
     (text : List ℕ) (f : Flat) (scene : SceneView) (routes : List Route)

@@ -1,6 +1,6 @@
-//! How large documents and traces are, and that the worlds of a network have snapshots, so that a
-//! viewer's own snapshot loads again: where a scene was read from a text, with no premise on
-//! lengths.
+//! The size of documents and traces is limited, and the worlds of a network have snapshots, so a
+//! viewer's own snapshot loads again. If the scene was read from a text, no premise on lengths is
+//! needed.
 #![tactic(auto)]
 
 mod networks;

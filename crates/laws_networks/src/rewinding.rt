@@ -1,9 +1,9 @@
-//! What a viewer makes of a snapshot that was taken.
+//! How a viewer rewinds to a snapshot that was taken.
 
 ghost use Rattle.laws_networks.specs.Rewinding.{TakenSnapshotsRewind};
 
-/// A viewer that is rewound by the bytes of a snapshot that was taken makes the network's step for
-/// it, whichever world that was.
+/// A viewer that rewinds to the bytes of a snapshot that was taken does the network's step for it,
+/// whichever world the snapshot holds.
 pub fn taken_snapshots_rewind()
     ensures { TakenSnapshotsRewind }
 {}

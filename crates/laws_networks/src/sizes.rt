@@ -1,8 +1,8 @@
-//! A law of scenes, the contract of a function that does nothing.
+//! A law of scenes. It is the contract of a function that does nothing.
 
 ghost use Rattle.laws_networks.specs.Scenes.{ScenesAreShort};
 
-/// The scene of a text has no text and no list that is longer than 16 MiB.
+/// No text and no list in the scene of a text is longer than 16 MiB.
 pub fn scenes_are_short()
     ensures { ScenesAreShort }
 {}

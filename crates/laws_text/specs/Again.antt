@@ -1,4 +1,4 @@
--- The nodes of a numbered scene are numbered the same again (our choice of numbers).
+-- The nodes of a numbered scene get the same numbers again (our choice of numbers).
 use Rattle.std.specs.Prelude.{◌≡◌, ℕ, ◌+◌, ◌++◌, true, List, [], ◌∷◌, length, replicate, Some, slice_get, Ok}
 use Rattle.std.specs.List.{range_with_len}
 use Rattle.proto_flat.specs.declared.flat.Flat.{Flat}
@@ -11,7 +11,7 @@ use Rattle.scene_core.specs.Parts.{parts_of}
 use Rattle.scene_core.specs.Scene.{SceneView}
 use Rattle.laws_text.specs.Children.{children}
 
--- so many nodes have appeared, and each has its own place as its number
+-- a number of nodes have appeared, and the number of each is its place
 abbrev pub in_place : ℕ → Numbering
 in_place count = record {
   opened = replicate count true;
@@ -19,21 +19,20 @@ in_place count = record {
   numbers = range_with_len 0 count;
 }
 
--- in each of these nodes stand the nodes that stand in the scene's node of that number
+-- each of these nodes contains the nodes that the scene's node with that number contains
 abbrev pub HaveChildren : SceneView → List FlatNode → Type 0
 HaveChildren scene nodes =
     (n : ℕ) (node : SceneNode) → slice_get scene.nodes n ≡ Some node
     → parts_of nodes n ≡ children node
 
--- where they are as many as the scene's, and have the same roots and helpers, each has its own
--- place as its number
+-- with the scene's number of nodes, its roots and its helpers, the number of each node is its place
 abbrev pub NumberedAgain : Type 0
 NumberedAgain =
     (flat : Flat) (scene : SceneView) (nodes : List FlatNode) → scene_of flat ≡ Ok scene
     → length nodes ≡ length scene.nodes → HaveChildren scene nodes
     → numbering nodes scene.roots scene.helpers ≡ in_place (length nodes)
 
--- so it is where the helpers stand in one more node, which is one more root
+-- the same holds if the helpers are in one more node, which is one more root
 abbrev pub NumberedUnderRoot : Type 0
 NumberedUnderRoot =
     (flat : Flat) (scene : SceneView) (nodes : List FlatNode) → scene_of flat ≡ Ok scene

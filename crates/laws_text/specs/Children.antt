@@ -11,7 +11,7 @@ use Rattle.scene_core.specs.Scene.{SceneView, value_at}
 abbrev pub children : SceneNode → List ℕ
 children node = flat_map linked node.values
 
--- so it is in the scene of a document
+-- this holds in the scene of a document
 abbrev pub ChildrenAreLower : Type 0
 ChildrenAreLower =
     (flat : Flat) (scene : SceneView) → scene_of flat ≡ Ok scene

@@ -8,13 +8,13 @@ use Rattle.x3d_values.specs.Defaults.{default_value}
 use Rattle.x3d_values.specs.Values.{type_of}
 use Rattle.scene_text.specs.Defaulted.{is_default}
 
--- what is left out is what the field holds where nothing is given
+-- a value that is left out is the field's default
 abbrev pub LeftOutAreDefaults : Type 0
 LeftOutAreDefaults =
     (default : FieldDefault) (v : Value)
     → is_default default v ≡ true → default_value (type_of v) default ≡ Some v
 
--- and what the field holds where nothing is given is left out
+-- a field's default is left out
 abbrev pub DefaultsAreLeftOut : Type 0
 DefaultsAreLeftOut =
     (t : FieldType) (default : FieldDefault) (v : Value)

@@ -8,7 +8,7 @@ use Rattle.scene_core.specs.Building.{scene_of}
 use Rattle.scene_core.specs.Scene.{SceneView}
 use Rattle.scene_text.specs.Statements.{scene_document}
 
--- the scene of what is written of a scene, where it exists, has the same header statements
+-- the scene of what is written of a scene, if there is one, has the same header statements
 abbrev pub HeadersAreKept : Type 0
 HeadersAreKept =
     (scene : SceneView) (routes : List Route) (state : List Fields) (expanded : Flat)

@@ -1,4 +1,4 @@
--- Values that a field may hold, and that what is written of one is read as itself (ISO/IEC 19775-1,
+-- The values that a field may hold, and that a written value is read as itself (ISO/IEC 19775-1,
 -- field types; ISO/IEC 19776-2, field values).
 use Rattle.std.specs.Prelude.{◌≡◌, ℕ, ◌-◌, ◌^◌, ◌&&◌, ℤ, pos, negsuc, int_le, Bool, true, List, [], Ok, map, Some, ◌∷◌}
 use Rattle.std.specs.List.{AllByRecursion, flat_map, list_all}
@@ -17,7 +17,7 @@ use Rattle.scene_text.specs.Raw.{pair_run, vector_run, color_run, plain}
 abbrev pub is_int32 : ℤ → Bool
 is_int32 n = int_le (negsuc (2 ^ 31 - 1)) n && int_le n (pos (2 ^ 31 - 1))
 
--- a number is of a size up to 10^15 millionths
+-- a number of at most 10^15 millionths, positive or negative
 abbrev pub is_number : ℤ → Bool
 is_number = coordinate_fits
 
@@ -39,20 +39,19 @@ is_sound (MFVec3f vectors) = list_all is_number (flat_map vector_run vectors)
 is_sound (MFColor colors) = list_all is_number (flat_map color_run colors)
 is_sound _ = true
 
--- what is written of a sound value without nodes is that value, by the type of its field
+-- a sound value without nodes, written and read by the type of its field, is the same value
 abbrev pub WrittenValuesAreTyped : Type 0
 WrittenValuesAreTyped =
     (v : Value) (numbers : List ℕ) → nodes_of v ≡ [] → is_sound v ≡ true
     → typed (type_of v) (plain v) numbers ≡ Ok v
 
--- what is written of a value, where the tree of each node in it is put in as the node of that
--- number
+-- a value as it is written, with each node replaced by what `put` gives for its number
 abbrev pub placed : (ℕ → ℕ) → Value → RawValue ℕ
 placed put (SFNode (Some n)) = raw.Node (put n)
 placed put (MFNode (n ∷ ns)) = raw.NodeList (map put (n ∷ ns))
 placed put value = plain value
 
--- so with nodes, where each that is put in is called in the scene what it was called there
+-- the same for values with nodes, if the scene gives each replaced node its old number
 abbrev pub WrittenNodesAreTyped : Type 0
 WrittenNodesAreTyped =
     (v : Value) (put : ℕ → ℕ) (numbers : List ℕ)

@@ -1,5 +1,5 @@
 -- Which scenes can be written so that they are read again: names are names, texts are UTF-8,
--- numbers are in their ranges, chains of nodes are short enough (ISO/IEC 19775-1, scene graph;
+-- numbers are in their ranges, and chains of nodes are short enough (ISO/IEC 19775-1, scene graph;
 -- ISO/IEC 19776-2, grammar; the limit is our choice).
 use Rattle.std.specs.Prelude.{◌≡◌, ◌⊎◌, ℕ, zero, suc, ◌+◌, ◌-◌, ◌^◌, ◌<◌, ◌≤◌, Bool, true, List, [], ◌∷◌, Option, Some, length, slice_get}
 use Rattle.std.specs.List.{AllByRecursion, list_all}
@@ -24,24 +24,24 @@ use Rattle.laws_text.specs.Values.{is_sound}
 
 -- ---- nodes
 
--- a node of the scene, where chains of at most so many nodes begin
+-- a node of the scene from which every chain has at most this many nodes
 unfoldable pub IsShallow : SceneView → ℕ → ℕ → Type 0
 IsShallow s zero n = ⊥
 IsShallow s (suc depth) n =
     (n < length s.nodes)
     × ((number : ℕ) → AllByRecursion (IsShallow s depth) (linked (value_at s n number)))
 
--- what a field holds is sound, or it holds nothing
+-- the field holds a sound value, or nothing
 abbrev pub is_sound_or_none : Option Value → Bool
 is_sound_or_none value = option_map_or is_sound value true
 
--- the declared field holds a value, if it can: that under the number
+-- the declared field holds a value under this number, if it can hold one
 abbrev pub HoldsValue : List (Option Value) → ℕ → DeclaredField → Type 0
 HoldsValue values number d =
     is_initial d.access ≡ true
     → (v : Value) × (option_and_then (λ o. o) (slice_get values number) ≡ Some v)
 
--- so does each of these, the first of which has that number
+-- each of these fields, numbered from this number on, holds a value
 abbrev pub HoldValues : List (Option Value) → ℕ → List DeclaredField → Type 0
 HoldValues values number [] = Unit {0}
 HoldValues values number (d ∷ ds) =
@@ -61,7 +61,7 @@ pub record IsWritableNode (n : SceneNode) : Type 0 where
 abbrev pub IsKeepable : Value → Type 0
 IsKeepable v = (is_sound v ≡ true) × (nodes_of v ≡ [])
 
--- each value that is kept is one
+-- each value that is kept is keepable
 abbrev pub AreKeepable : List Fields → Type 0
 AreKeepable state =
     (n number : ℕ) (fields : Fields) (v : Value)
@@ -72,7 +72,7 @@ AreKeepable state =
 abbrev pub HasField : SceneView → End → Type 0
 HasField s end = (e : FieldRowView) × (slice_get (rows_at s end.node) end.field ≡ Some e)
 
--- a field of a node of the scene
+-- an end that is a field of a node of the scene
 abbrev pub IsEnd : SceneView → End → Type 0
 IsEnd s end = (end.node < length s.nodes) × HasField s end
 
@@ -81,7 +81,7 @@ IsWritableRoute s r = IsEnd s r.source × IsEnd s r.target
 
 -- ---- a scene, with its routes and what its nodes keep
 
--- helpers are written in a Switch, and so one node deeper
+-- helpers are written in a Switch, so one node deeper
 pub record IsWritable (s : SceneView) (routes : List Route) (state : List Fields) : Type 0 where
   pub few : length s.nodes ≤ 2 ^ 64
   pub profile : IsNameOrNone s.header.profile

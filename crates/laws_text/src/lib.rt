@@ -1,4 +1,4 @@
-//! That the text of a scene is read again as the scene, whose nodes are numbered the same again.
+//! The text of a scene is read again as the same scene, with the same numbers for its nodes.
 #![tactic(auto)]
 
 mod laws;

@@ -1,4 +1,4 @@
-//! Laws of the numbers of a scene's nodes, each the contract of a function that does nothing.
+//! Laws of the numbers of a scene's nodes. Each is the contract of a function that does nothing.
 
 ghost use Rattle.laws_text.specs.Again.{NumberedAgain, NumberedUnderRoot};
 ghost use Rattle.laws_text.specs.Children.{ChildrenAreLower};
@@ -8,8 +8,9 @@ pub fn children_are_lower()
     ensures { ChildrenAreLower }
 {}
 
-/// Where nodes hold what the nodes of a scene do, each place is its own number: the scene's are
-/// numbered the same again, also where the helpers stand in a node behind them, a further root.
+/// Nodes with the children of a scene's nodes get the same numbers as in the scene: each node's
+/// number is its place. This also holds if the helpers are in one more node after them, which is
+/// one more root.
 pub fn scenes_are_numbered_again()
     ensures same { NumberedAgain }
     ensures under_root { NumberedUnderRoot }

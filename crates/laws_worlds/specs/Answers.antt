@@ -25,14 +25,14 @@ use Rattle.snapshot_codec.specs.Trace.{is_moment}
 use Rattle.snapshot_codec.specs.Values.{vector3}
 use Rattle.laws_worlds.specs.Ranges.{event_fits, fields_fit, replies_fit}
 
--- ---- any node, with these fields behind those of its type
+-- -- any node, with these fields after those of its type
 
--- the node keeps fields that fit, and sends events that do
+-- the node keeps fields that fit, and sends events that fit
 pub record Fit (node_type : NodeType) (declared : List FieldRowView) (r : Reaction) : Type 0 where
   pub in_fields : fields_fit node_type declared r.fields ≡ true
   pub in_replies : replies_fit node_type declared r.replies ≡ true
 
--- its fields fit, and the event that comes to it
+-- if its fields fit, and so does the event that it receives, then Fit holds
 abbrev pub ReactionsFit : Type 0
 ReactionsFit =
     (node_type : NodeType) (declared : List FieldRowView) (fields : Fields) (input : ℕ)
@@ -44,7 +44,8 @@ ReactionsFit =
 
 -- ---- a TimeSensor
 
--- it keeps fields that fit, a cycle that is numbered in 63 bits if one runs, and sends what fits
+-- it keeps fields that fit, the number of a running cycle fits in 63 bits, and it sends events that
+-- fit
 pub record Set (declared : List FieldRowView) (fields : Fields) (a : TimeAnswer) : Type 0 where
   pub in_fields : fields_fit TimeSensor declared (with_timing fields a.timing) ≡ true
   pub in_cycle : cycle_fits a.cycle ≡ true
@@ -54,7 +55,7 @@ pub record Ticked (declared : List FieldRowView) (t : Tick) : Type 0 where
   pub in_cycle : cycle_fits t.cycle ≡ true
   pub in_replies : replies_fit TimeSensor declared t.replies ≡ true
 
--- an event comes to it
+-- it receives an event
 abbrev pub SetsFit : Type 0
 SetsFit =
     (declared : List FieldRowView) (fields : Fields) (timing : TimeFieldsView) (cycle : Option ℕ)
@@ -72,14 +73,14 @@ TicksFit =
 
 -- ---- a TouchSensor
 
--- it tells of each viewer whether its pointer is over it, a viewer presses it if anybody does, and
--- it sends what fits
+-- it keeps for each viewer whether the pointer is over it; the presser, if any, is a viewer; it
+-- sends events that fit
 pub record TouchFit (declared : List FieldRowView) (t : Touched) : Type 0 where
   pub in_over : length t.touch.over ≡ MAX_VIEWERS
   pub in_presser : option_map_or is_viewer t.touch.presser true ≡ true
   pub in_replies : replies_fit TouchSensor declared t.replies ≡ true
 
--- a viewer points, inside at a place of its range or outside
+-- a viewer points, inside at a place in its range, or outside
 abbrev pub PointsFit : Type 0
 PointsFit =
     (declared : List FieldRowView) (touch : TouchStateView) (who : ℕ) (before down : Bool)
@@ -90,21 +91,21 @@ PointsFit =
     → option_map_or vector3.fits inside true ≡ true → is_moment now ≡ true
     → TouchFit declared (point touch (pointer who before down inside) now)
 
--- it is turned off
+-- it is disabled
 abbrev pub DisablesFit : Type 0
 DisablesFit =
     (declared : List FieldRowView) (touch : TouchStateView) → TouchFit declared (disable touch)
 
 -- ---- a PlaneSensor
 
--- what is kept of it is in its ranges, so are its fields, and it sends what fits
+-- its kept state is in range, its fields fit, and it sends events that fit
 pub record PlaneFit (declared : List FieldRowView) (m : PlaneMet) : Type 0 where
   pub in_state : plane_fits m.state ≡ true
   pub in_fields : fields_fit PlaneSensor declared m.fields ≡ true
   pub in_replies : replies_fit PlaneSensor declared m.replies ≡ true
 
--- a viewer points, over the sensor at a place of its range and by a way that may be kept, or not
--- over it; where it drags, its ray meets the plane at a place of its range, or nowhere
+-- a viewer points over the sensor, at a place in its range and by a path that may be kept, or not
+-- over it; while it drags, its ray meets the plane at a place in its range, or not at all
 abbrev pub PlanePointsFit : Type 0
 PlanePointsFit =
     (declared : List FieldRowView) (plane : Plane) (fields : Fields) (at : SensorPointer) (now : ℤ)
@@ -117,7 +118,7 @@ pub record PlaneForgets (declared : List FieldRowView) (f : Forgotten) : Type 0 
   pub in_state : plane_fits f.state ≡ true
   pub in_replies : replies_fit PlaneSensor declared f.replies ≡ true
 
--- it is turned off
+-- it is disabled
 abbrev pub PlaneDisablesFit : Type 0
 PlaneDisablesFit =
     (declared : List FieldRowView) (plane : Plane)

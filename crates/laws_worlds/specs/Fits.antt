@@ -1,5 +1,5 @@
 -- Worlds in which each value is in the range of its field (ISO/IEC 19775-1, field semantics; the
--- ranges are our choice): that a world fits is cascade_world's.
+-- ranges are our choice). cascade_world defines when a world fits.
 use Rattle.std.specs.Prelude.{◌≡◌, ℕ, ◌+◌, ◌^◌, ◌≤◌, Bool, true, List, [], ◌∷◌, length, Option, Some, slice_get}
 use Rattle.std.specs.Option.{option_map, option_map_or}
 use Rattle.x3d_values.specs.declared.field_type.FieldType.{FieldType}
@@ -21,7 +21,7 @@ pub use Rattle.cascade_world.specs.Fits.{time_fits, node_fits, nodes_fit, line_f
 pub use Rattle.cascade_world.specs.Fits.{WorldFits}
 use Rattle.cascade_world.specs.Fits.{output_type}
 
--- ---- what may come to a field; what leaves by one is cascade_world's `output_type`
+-- -- what a field may receive; what it may send is cascade_world's `output_type`
 
 -- the type of a node's field, by the numbers of both
 abbrev pub input_type : List Shape → ℕ → ℕ → Option FieldType
@@ -31,8 +31,8 @@ input_type shapes node field =
 
 -- ---- a world
 
--- with its scripts: there is a state for each of them, and it is one of the script's kind. The way
--- that is kept of a drag leads to a list that holds the sensor.
+-- a world with its scripts: each script has a state, of its kind. The path that is kept for a drag
+-- leads to a list that contains the sensor.
 pub record ScriptedFits (scene : SceneView) (w : Scripted) : Type 0 where
   pub world : WorldFits (shapes_of scene) w.world
   pub paths : all_lead scene 0 w.world.pointing ≡ true
@@ -53,13 +53,13 @@ abbrev pub AllJoin : List Shape → List Route → Type 0
 AllJoin shapes [] = Unit {0}
 AllJoin shapes (r ∷ routes) = (Joins shapes r) × (AllJoin shapes routes)
 
--- what events go by: a scene of at most 2^32 nodes, routes that join, and scripts all of which run
+-- a stage for events: a scene of at most 2^32 nodes, routes that join, and scripts that all run
 pub record IsStaged (scene : SceneView) (routes : List Route) : Type 0 where
   pub few : length (shapes_of scene) ≤ 2 ^ 32
   pub joined : AllJoin (shapes_of scene) routes
   pub run : RunsAll scene
 
--- nobody but a viewer points
+-- only a viewer points
 abbrev pub is_event : Cause → Bool
 is_event Clock = true
 is_event (Pointer p) = is_viewer p.who
@@ -71,7 +71,7 @@ pub record IsNext (w : WorldData) (input : StampedView) : Type 0 where
   pub time : is_input_time input.time ≡ true
   pub cause : is_event input.cause ≡ true
 
--- a world that fits, after such an input, fits
+-- a world that fits still fits after such an input
 abbrev pub StepsFit : Type 0
 StepsFit =
     (scene : SceneView) (routes : List Route) (w : Scripted) (input : StampedView)
@@ -80,8 +80,8 @@ StepsFit =
 
 -- ---- input 0
 
--- where the world in which nothing has happened fits, and so do the states in which scripts start,
--- the opening world fits
+-- if the world in which nothing has happened fits, and so do the states in which scripts start,
+-- then the opening world fits
 abbrev pub OpeningsFit : Type 0
 OpeningsFit =
     (scene : SceneView) (routes : List Route)

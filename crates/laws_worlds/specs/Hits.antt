@@ -16,7 +16,7 @@ abbrev pub DocumentsAreSized : Type 0
 DocumentsAreSized =
     (flat : Flat) (scene : SceneView) → scene_of flat ≡ Ok scene → AreSized scene
 
--- the point of a hit is where its ray is: the limit of size changes none
+-- the point of a hit is on its ray: the limit of size changes no point
 abbrev pub DocumentHitsAreOnRays : Type 0
 DocumentHitsAreOnRays =
     (flat : Flat) (scene : SceneView) (state : List Fields) (ray : RayView) (hit : Hit)

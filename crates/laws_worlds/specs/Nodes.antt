@@ -1,4 +1,4 @@
--- The scripts of a scene that are run, and what their nodes send (ISO/IEC 19775-1, Script).
+-- The scripts of a scene that run, and what their nodes send (ISO/IEC 19775-1, Script).
 use Rattle.std.specs.Prelude.{◌≡◌, ℕ, ◌&&◌, Bool, true, List, Some, is_some, slice_get, slice_index_or, IsSomeAnd}
 use Rattle.std.specs.List.{list_all}
 use Rattle.x3d_values.specs.declared.field_type.FieldType.{FieldType}
@@ -15,7 +15,7 @@ use Rattle.script_running.specs.Scripts.{script_list}
 
 -- ---- which scripts run
 
--- its kind is known, and its interface is that of the kind
+-- the script's kind is known, and its interface is that of the kind
 abbrev pub runs : ScriptSpec → Bool
 runs asked = is_some asked.kind && asked.fits
 
@@ -23,18 +23,18 @@ runs asked = is_some asked.kind && asked.fits
 abbrev pub RunsAll : SceneView → Type 0
 RunsAll s = list_all runs (script_list s) ≡ true
 
--- so it is where boxes were attached: others than these are refused
+-- all scripts run if boxes were attached: boxes that do not fit are refused
 abbrev pub AttachedRun : Type 0
 AttachedRun = (s : SceneView) (boxes : List SlotView) → Fits (script_list s) boxes → RunsAll s
 
 -- ---- what they send
 
--- among these fields, that one sends events of the type
+-- among these fields, the one with this number sends events of the type
 abbrev pub Sends : List FieldRowView → ℕ → FieldType → Type 0
 Sends rows field t =
     IsSomeAnd (slice_get rows field) (λ row. (sends row.access ≡ true) × (row.field_type ≡ t))
 
--- where a script runs, each output of its kind is a field by which its node sends events of the
+-- if a script runs, each output of its kind is a field by which its node sends events of the
 -- output's type
 abbrev pub OutputsTyped : Type 0
 OutputsTyped =

@@ -22,7 +22,7 @@ is_counted items = nat_lt (length items) (2 ^ 32)
 abbrev pub is_text : List ℕ → Bool
 is_text bytes = is_utf8 bytes && is_counted bytes
 
--- the value's text is one, and so are all of a list; a list has fewer than 2^32 items
+-- every text in the value is a text as above, and a list has fewer than 2^32 items
 abbrev pub is_countable : Value → Bool
 is_countable (SFString text) = is_text text
 is_countable (MFBool truths) = is_counted truths
@@ -35,7 +35,7 @@ is_countable (MFVec3f vectors) = is_counted vectors
 is_countable (MFColor colors) = is_counted colors
 is_countable _ = true
 
--- so is each value that the node begins with
+-- each value that the node begins with is countable
 abbrev pub is_countable_node : SceneNode → Bool
 is_countable_node n = list_all (λ v. option_map_or is_countable v true) n.values
 
@@ -48,7 +48,7 @@ UntoldWorldsFit =
     (flat : Flat) (scene : SceneView)
     → scene_of flat ≡ Ok scene → IsCountable scene → WorldFits (shapes_of scene) (untold scene)
 
--- where all its scripts run, the states in which they start are states of their kinds
+-- if all its scripts run, the states in which they start are states of their kinds
 abbrev pub StartsAreStates : Type 0
 StartsAreStates =
     (flat : Flat) (scene : SceneView)

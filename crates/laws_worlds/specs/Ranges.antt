@@ -1,6 +1,6 @@
--- What is in its range, of one node: the events that come to it, and what it sends (ISO/IEC
--- 19775-1, field semantics; the ranges are our choice). A node has the fields of its type, and
--- behind them those that it declares, if it is a Script; what it keeps of them is cascade_world's.
+-- The ranges of one node: the events that it receives and the events that it sends (ISO/IEC
+-- 19775-1, field semantics; the ranges are our choice). A node has the fields of its type, then
+-- those that it declares if it is a Script. cascade_world defines what it keeps of them.
 use Rattle.std.specs.Prelude.{ℕ, ◌++◌, Bool, false, ◌&&◌, List, Option, slice_get}
 use Rattle.std.specs.List.{list_all}
 use Rattle.std.specs.Option.{option_map, option_map_or}
@@ -19,15 +19,15 @@ pub use Rattle.cascade_world.specs.Fits.{values_fit, position_fits, fields_fit}
 abbrev pub row_at : NodeType → List FieldRowView → ℕ → Option FieldRowView
 row_at node_type declared field = slice_get (rows node_type ++ declared) field
 
--- an event may come to that field: its value is of the field's type, in the range of the type
+-- the field may receive the value: it is of the field's type, in the range of the type
 abbrev pub event_fits : NodeType → List FieldRowView → ℕ → Value → Bool
 event_fits node_type declared field value =
     typed_fits
     (option_map (λ (row : FieldRowView). row.field_type) (row_at node_type declared field))
     value
 
--- an event may leave by that field: the field sends, and the value is of its type, in the range of
--- the type
+-- the field may send the value: the field is an output, and the value is of its type, in the range
+-- of the type
 abbrev pub sent_fits : NodeType → List FieldRowView → ℕ → Value → Bool
 sent_fits node_type declared field value =
     option_map_or (λ (row : FieldRowView). sends row.access && value_fits row.field_type value)

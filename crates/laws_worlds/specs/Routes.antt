@@ -1,4 +1,4 @@
--- Routes of documents join what may be joined (ISO/IEC 19775-1, ROUTE).
+-- Routes of documents connect only fields that may be connected (ISO/IEC 19775-1, ROUTE).
 use Rattle.std.specs.Prelude.{◌≡◌, List, Ok}
 use Rattle.proto_flat.specs.declared.flat.Flat.{Flat}
 use Rattle.scene_core.specs.declared.scene.Route.{Route}

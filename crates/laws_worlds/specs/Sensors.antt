@@ -11,17 +11,17 @@ use Rattle.scene_core.specs.Building.{scene_of}
 use Rattle.scene_core.specs.Scene.{SceneView}
 use Rattle.pick_core.specs.Sensors.{is_enabled, list_of, sensors_of, siblings_in}
 
--- the number stands in the list
+-- the list contains the number
 abbrev pub has : ℕ → List ℕ → Bool
 has n ns = list_any (λ m. m == n) ns
 
--- each number is less than all behind it
+-- each number is less than all after it
 abbrev pub are_rising : List ℕ → Bool
 are_rising [] = true
 are_rising (n ∷ ns) = list_all (λ m. nat_lt n m) ns && are_rising ns
 
 -- the lists along a path, each below the one before it: that of the roots (`None`), then the
--- children of each node that the path comes through; of a Switch none count
+-- children of each node that the path goes through; those of a Switch do not count
 abbrev pub lists_along : SceneView → Option ℕ → List ℕ → List (List ℕ)
 lists_along scene owner [] = []
 lists_along scene owner (p ∷ ps) =
@@ -33,7 +33,8 @@ lists_along scene owner (p ∷ ps) =
 abbrev pub is_listed : SceneView → List Fields → ℕ → List ℕ → Bool
 is_listed scene state n list = has n list && is_enabled scene state n
 
--- it is that of an enabled pointing sensor in one of the lists, and no list below that has any
+-- n is the number of an enabled pointing sensor in one of the lists, and no list below that one has
+-- any
 pub record IsLowest (scene : SceneView) (state : List Fields) (lists : List (List ℕ)) (n : ℕ)
     : Type 0 where
   pub above : List (List ℕ)
@@ -43,7 +44,7 @@ pub record IsLowest (scene : SceneView) (state : List Fields) (lists : List (Lis
   pub listed : is_listed scene state n list ≡ true
   pub lowest : (m : ℕ) → list_any (is_listed scene state m) below ≡ false
 
--- those, and no others
+-- exactly the sensors that are lowest
 abbrev pub SensorsAreLowest : Type 0
 SensorsAreLowest =
     (scene : SceneView) (state : List Fields) (path : List ℕ) (n : ℕ)
@@ -56,7 +57,7 @@ SensorsRise =
     (scene : SceneView) (state : List Fields) (path : List ℕ)
     → are_rising (sensors_of scene state path) ≡ true
 
--- no more than a list of a document's scene can have
+-- at most as many as a list of a document's scene can have
 abbrev pub SensorsAreFew : Type 0
 SensorsAreFew =
     (flat : Flat) (scene : SceneView) (state : List Fields) (path : List ℕ)

@@ -1,4 +1,4 @@
--- Every world that a document comes to fits, and has a snapshot.
+-- Every world that a document leads to fits, and has a snapshot.
 use Rattle.std.specs.Prelude.{◌≡◌, ◌≤◌, ◌<◌, ◌^◌, ◌&&◌, Bool, true, List, length, Ok}
 use Rattle.std.specs.List.{list_all}
 use Rattle.x3d_values.specs.Ranges.{is_input_number, is_input_time}
@@ -15,15 +15,15 @@ use Rattle.snapshot_core.specs.Loading.{HasSnapshot}
 use Rattle.laws_worlds.specs.Fits.{ScriptedFits, is_event}
 use Rattle.laws_worlds.specs.Openings.{IsCountable}
 
--- the scene and the routes of a document: its nodes can be numbered in 32 bits, and its lengths
--- counted
+-- the scene and the routes of a document: its nodes can be numbered in 32 bits, and its lengths can
+-- be counted
 pub record IsDocument (flat : Flat) (scene : SceneView) (routes : List Route) : Type 0 where
   pub is_scene : scene_of flat ≡ Ok scene
   pub are_routes : resolved flat scene ≡ Ok routes
   pub countable : IsCountable scene
   pub numbered : length flat.nodes ≤ 2 ^ 32
 
--- the number and the time are in their ranges, and nobody but a viewer points
+-- the number and the time are in their ranges, and only a viewer points
 abbrev pub is_input : StampedView → Bool
 is_input s = is_input_number s.number && (is_input_time s.time && is_event s.cause)
 
@@ -32,14 +32,14 @@ pub record AreInputs (inputs : List StampedView) : Type 0 where
   pub in_order : AreInOrder inputs
   pub in_range : list_all is_input inputs ≡ true
 
--- the world of a document and such inputs fits, where all scripts of the scene run
+-- the world of a document after such inputs fits, if all scripts of the scene run
 abbrev pub WorldsFit : Type 0
 WorldsFit =
     (flat : Flat) (scene : SceneView) (routes : List Route) (inputs : List StampedView)
     → IsDocument flat scene routes → RunsAll scene → AreInputs inputs
     → ScriptedFits scene (world scene routes inputs)
 
--- and has a snapshot, which counts the events that were sent in 64 bits
+-- that world has a snapshot, which counts the events that were sent in 64 bits
 abbrev pub WorldsHaveSnapshots : Type 0
 WorldsHaveSnapshots =
     (flat : Flat) (scene : SceneView) (routes : List Route) (inputs : List StampedView)

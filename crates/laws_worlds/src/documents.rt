@@ -1,4 +1,4 @@
-//! What holds of the routes of documents, of their opening worlds, of those that follow, and of
+//! What holds for the routes of documents, for their opening worlds and those after them, and for
 //! hits in their scenes.
 
 ghost use Rattle.laws_worlds.specs.Hits.{DocumentHitsAreOnRays, DocumentsAreSized};
@@ -8,7 +8,7 @@ ghost use Rattle.laws_worlds.specs.Worlds.{WorldsFit, WorldsHaveSnapshots};
 
 use pick_core::hits_are_on_rays_law;
 
-/// The routes of a document join outputs and inputs of one type.
+/// The routes of a document connect outputs and inputs of the same type.
 pub fn routes_join()
     ensures { RoutesJoin }
 {}
@@ -20,14 +20,14 @@ pub fn document_openings_fit()
     ensures starts { StartsAreStates }
 {}
 
-/// Each world that a document comes to by inputs in turn fits, and has a snapshot.
+/// Each world that inputs in turn lead to in a document fits, and has a snapshot.
 pub fn worlds_fit()
     ensures fit { WorldsFit }
     ensures snapshots { WorldsHaveSnapshots }
 {}
 
-/// In the scene of a document the size of each Box is in range, and the point of a hit is where its
-/// ray is.
+/// In the scene of a document the size of each Box is in range, and the point of a hit lies on its
+/// ray.
 pub fn document_hits_are_on_rays()
     ensures sized { DocumentsAreSized }
     ensures on_rays { DocumentHitsAreOnRays }

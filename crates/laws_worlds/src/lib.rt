@@ -1,6 +1,6 @@
-//! That worlds keep the ranges of their fields, and scripts their states: what nodes and scripts do
-//! keeps them, so does each input, and so each world that a document's scene comes to fits its
-//! snapshot. And what a hit in a scene is: where it lies, and which sensors it concerns.
+//! Worlds keep the ranges of their fields, and scripts keep the ranges of their states: nodes,
+//! scripts and inputs preserve the ranges, so every world that a document's scene leads to fits its
+//! snapshot. Also what a hit in a scene is: where it lies, and which sensors it concerns.
 #![tactic(auto)]
 
 mod answers;

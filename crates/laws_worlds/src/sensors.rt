@@ -1,10 +1,10 @@
-//! What holds of the sensors that a hit concerns.
+//! What holds for the sensors that a hit concerns.
 
 ghost use Rattle.laws_worlds.specs.Sensors.{SensorsAreFew, SensorsAreLowest, SensorsRise};
 
 /// The sensors that a hit concerns are exactly the enabled pointing sensors of the lowest list
 /// along its path that has one, in the order of their numbers, each once. In the scene of a
-/// document they are 64 at most: it has no list with more.
+/// document there are at most 64: no list has more.
 pub fn sensors_are_all()
     ensures lowest { SensorsAreLowest }
     ensures rising { SensorsRise }

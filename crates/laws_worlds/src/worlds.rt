@@ -1,19 +1,19 @@
-//! That what an input does keeps all ranges, and that worlds in their ranges have snapshots.
+//! What an input does keeps all ranges, and worlds in their ranges have snapshots.
 
 ghost use Rattle.laws_worlds.specs.Fits.{OpeningsFit, StepsFit};
 ghost use Rattle.laws_worlds.specs.Snapshots.{FittingHaveSnapshots};
 
-/// A world that fits, after the next input, fits.
+/// A world that fits still fits after the next input.
 pub fn steps_fit()
     ensures { StepsFit }
 {}
 
-/// The world that input 0 leaves fits, where the one before it and the states of all scripts do.
+/// The world after input 0 fits, if the one before it fits and so do the states of all scripts.
 pub fn openings_fit()
     ensures { OpeningsFit }
 {}
 
-/// A world that fits is one that a snapshot can be read of again.
+/// A world that fits has a snapshot that can be read again.
 pub fn fitting_worlds_have_snapshots()
     ensures { FittingHaveSnapshots }
 {}

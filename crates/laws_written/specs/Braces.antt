@@ -1,5 +1,5 @@
--- Which braces stand in a written scene (ISO/IEC 19776-2, grammar; DEF and USE): those of its
--- nodes, with their types and names.
+-- The braces in a written scene (ISO/IEC 19776-2, grammar; DEF and USE): those of its nodes, with
+-- their types and names.
 use Rattle.std.specs.Prelude.{◌≡◌, ◌++◌, ℕ, if◌then◌else◌, List, [], ◌∷◌, length, map, Option, Some, None, Ok}
 use Rattle.std.specs.List.{range_with_len}
 use Rattle.x3d_values.specs.declared.fields.Fields.{Fields}
@@ -13,14 +13,14 @@ use Rattle.scene_text.specs.Places.{is_named}
 use Rattle.scene_text.specs.Statements.{scene_document}
 use Rattle.laws_text.specs.Writable.{AreKeepable}
 
--- a node that needs a DEF has its label as its name
+-- a node that needs a DEF is named by its label
 abbrev pub written_name : SceneView → List Route → ℕ → Option (List ℕ)
 written_name s routes n = if is_named s routes n then Some (label_of s n) else None
 
 abbrev pub written_as : SceneView → List Route → ℕ → Shown
 written_as s routes n = (type_at s n, written_name s routes n)
 
--- helpers, where there are some, stand in one more node
+-- the helpers, if there are any, are in one more node
 abbrev pub as_switch : List ℕ → List Shown
 as_switch [] = []
 as_switch (n ∷ ns) = (Some Switch, None) ∷ []
@@ -30,7 +30,7 @@ abbrev pub written_braces : SceneView → List Route → List Shown
 written_braces s routes =
     map (written_as s routes) (range_with_len 0 (length s.nodes)) ++ as_switch s.helpers
 
--- the n-th braces of the text that close have the type of the scene's node n, and its label as
+-- the n-th braces that close in the text have the type of the scene's node n, and its label as
 -- their name if it needs one
 abbrev pub WrittenNodesClose : Type 0
 WrittenNodesClose =

@@ -22,7 +22,7 @@ use Rattle.scene_text.specs.Tree.{PlanView, held_value, present_value}
 
 -- ---- which fields
 
--- what a field holds, as it is written (scene_text): it depends on no route and on no name
+-- for what a field holds, as it is written (scene_text), routes and names do not matter
 abbrev pub without_routes : SceneView → List Fields → PlanView
 without_routes s state = record { scene = s; routes = []; state = state; named = [] }
 
@@ -33,7 +33,7 @@ value_now s state n number access field_type =
 abbrev pub declared_value : SceneView → List Fields → ℕ → ℕ → DeclaredField → Option Value
 declared_value s state n number d = held_value (without_routes s state) n number d
 
--- a field by its number, and what it holds
+-- a field's number and what the field holds
 pub record HeldField : Type 0 where
   pub number : ℕ
   pub value : Value
@@ -42,12 +42,12 @@ abbrev pub held_by : ℕ → Option Value → List HeldField
 held_by number None = []
 held_by number (Some value) = record { number = number; value = value } ∷ []
 
--- None where a field can hold no value, or holds its default
+-- None if a field can hold no value, or holds its default
 abbrev pub unless_default : Option FieldDefault → Option Value → Option Value
 unless_default (Some default) (Some value) = if is_default default value then None else Some value
 unless_default _ _ = None
 
--- of the node n, those of these rows, the first of which has that number
+-- the fields held by node n among these rows, numbered from this number on
 abbrev pub rows_held : SceneView → List Fields → ℕ → ℕ → List FieldRowView → List HeldField
 rows_held s state n number [] = []
 rows_held s state n number (e ∷ others) =
@@ -61,14 +61,14 @@ declared_held s state n number (d ∷ others) =
     held_by number (declared_value s state n number d)
     ++ declared_held s state n (number + 1) others
 
--- those of its type, and behind them those that it declares
+-- the fields of its type, then those that it declares
 abbrev pub fields_held : SceneView → List Fields → ℕ → NodeType → List HeldField
 fields_held s state n t =
     rows_held s state n 0 (rows t) ++ declared_held s state n (length (rows t)) (declared_at s n)
 
 -- ---- as they are written
 
--- a value in which nodes stand as their numbers in the scene
+-- a value in which nodes are written as their numbers in the scene
 abbrev pub written_value : Value → RawValue ℕ
 written_value (SFNode (Some n)) = raw.Node n
 written_value (MFNode (n ∷ others)) = raw.NodeList (n ∷ others)
@@ -77,7 +77,7 @@ written_value value = plain value
 abbrev pub written_field : HeldField → FlatField
 written_field h = record { line = 0; number = h.number; value = written_value h.value }
 
--- of the node n, where this is its type
+-- the written fields of node n, which has this type
 abbrev pub fields_by_type : SceneView → List Fields → ℕ → Option NodeType → List FlatField
 fields_by_type s state n None = []
 fields_by_type s state n (Some t) = map written_field (fields_held s state n t)
@@ -85,7 +85,7 @@ fields_by_type s state n (Some t) = map written_field (fields_held s state n t)
 abbrev pub written_fields : SceneView → List Fields → ℕ → List FlatField
 written_fields s state n = fields_by_type s state n (type_at s n)
 
--- the fields that it declares
+-- a field that the node declares
 abbrev pub declared_signature : DeclaredField → Signature
 declared_signature d =
     record { line = 0; name = d.name; access = d.access; field_type = d.field_type }
@@ -93,7 +93,7 @@ declared_signature d =
 abbrev pub written_interface : SceneView → ℕ → List Signature
 written_interface s n = map declared_signature (declared_at s n)
 
--- ---- helpers, where there are some, are the children of one node more, a Switch
+-- -- the helpers, if there are any, are the children of one more node, a Switch
 
 -- the number of the field `children` of a Switch
 abbrev pub switch_children : ℕ

@@ -22,25 +22,25 @@ node_fields node = node.fields
 abbrev pub node_interface : FlatNode → List Signature
 node_interface node = signatures node.interface
 
--- helpers, where there are some, stand in one more node
+-- the helpers, if there are any, are in one more node
 abbrev pub switch_fields : List ℕ → List (List FlatField)
 switch_fields [] = []
 switch_fields (n ∷ ns) = (children_field (n ∷ ns) ∷ []) ∷ []
 
--- which declares nothing
+-- the node with the helpers declares nothing
 abbrev pub switch_interface : List ℕ → List (List Signature)
 switch_interface [] = []
 switch_interface (n ∷ ns) = [] ∷ []
 
--- the n-th node of these has the fields and the interface of the scene's node n
+-- the n-th node of the flat form has the fields and the interface of the scene's node n
 pub record HasFieldsOf (s : SceneView) (state : List Fields) (f : Flat) : Type 0 where
-  -- with the nodes in them by their numbers in the scene
+  -- the nodes in the fields have their numbers in the scene
   pub fields : map node_fields f.nodes
       ≡ map (written_fields s state) (range_with_len 0 (length s.nodes)) ++ switch_fields s.helpers
   pub interfaces : map node_interface f.nodes
       ≡ map (written_interface s) (range_with_len 0 (length s.nodes)) ++ switch_interface s.helpers
 
--- where the document that a document's scene is written as has a flat form, it is so
+-- if the document that a document's scene is written as has a flat form, then HasFieldsOf holds
 abbrev pub WrittenFieldsStay : Type 0
 WrittenFieldsStay =
     (from : Flat) (scene : SceneView) (routes : List Route) (state : List Fields) (again : Flat)

@@ -1,4 +1,4 @@
--- The fields that stand between the braces of a written scene.
+-- The fields between the braces of a written scene.
 use Rattle.std.specs.Prelude.{◌≡◌, ℕ, List, [], ◌∷◌, ◌++◌, length, map, Ok}
 use Rattle.std.specs.List.{range_with_len}
 use Rattle.x3d_values.specs.declared.fields.Fields.{Fields}
@@ -12,7 +12,7 @@ use Rattle.laws_text.specs.Writable.{AreKeepable}
 use Rattle.laws_written.specs.Distinct.{HaveDistinctFields}
 use Rattle.laws_written.specs.Fields.{children_field, written_fields, written_interface}
 
--- the fields of a node, up to which nodes stand in these
+-- the fields of a node, without which nodes they contain
 abbrev pub written_shape : SceneView → List Fields → ℕ → NodeShape
 written_shape s state n =
     record {
@@ -25,13 +25,13 @@ switch_shape [] = []
 switch_shape (n ∷ ns) =
     record { fields = field_shape (children_field (n ∷ ns)) ∷ []; interface = [] } ∷ []
 
--- of all nodes by their numbers, and of that with the helpers
+-- the shapes of all nodes by their numbers, then that of the node with the helpers
 abbrev pub written_shapes : SceneView → List Fields → List NodeShape
 written_shapes s state =
     map (written_shape s state) (range_with_len 0 (length s.nodes)) ++ switch_shape s.helpers
 
--- between the n-th braces that close stand the fields of the scene's node n, each by a name that
--- has its number there, and with its value
+-- the n-th braces that close contain the fields of the scene's node n, each by a name that has its
+-- number there, and with its value
 abbrev pub WrittenShapes : Type 0
 WrittenShapes =
     (from : Flat) (scene : SceneView) (routes : List Route) (state : List Fields)

@@ -1,5 +1,4 @@
--- The fields that nodes declare, and that they are told apart by their names (ISO/IEC 19775-1,
--- Script).
+-- The fields that nodes declare have distinct names (ISO/IEC 19775-1, Script).
 use Rattle.std.specs.Prelude.{◌≡◌, ◌⊎◌, ℕ, true, List, [], map, Some, None, Ok, slice_get}
 use Rattle.std.specs.List.{AllByRecursion}
 use Rattle.x3d_values.specs.declared.node_type.NodeType.{NodeType}
@@ -13,20 +12,20 @@ use Rattle.laws_flat.specs.Signatures.{of_type}
 use Rattle.proto_meaning.specs.Flat.{flat}
 use Rattle.scene_core.specs.Shape.{declaration_entry}
 
--- a type has no field of that name
+-- the type has no field of that name
 abbrev pub IsNoneOf : NodeType → Declaration ℕ → Type 0
 IsNoneOf t d = of_type t d.name ≡ None
 
--- what a node of that type declares
+-- the declarations of a node of this type
 pub record IsDistinctInterface (t : NodeType) (interface : List (Declaration ℕ)) : Type 0 where
   -- only a Script declares fields
   pub scripted : (t ≡ Script) ⊎ (interface ≡ [])
-  -- no two of them have one name
+  -- no two declarations have the same name
   pub apart : are_distinct (map declaration_entry interface) ≡ true
-  -- and none that of a field of the type
+  -- no declaration has the name of a field of the type
   pub none_own : AllByRecursion (IsNoneOf t) interface
 
--- of all nodes of the flat form of a document, those that stand for instances included
+-- for all nodes of the flat form of a document, including nodes that represent instances
 abbrev pub InterfacesAreDistinct : Type 0
 InterfacesAreDistinct =
     (d : Document) (f : Flat) (n : ℕ) (node : FlatNode) → flat d ≡ Ok f

@@ -1,4 +1,4 @@
--- That a written scene has a flat form, but for its size.
+-- A written scene has a flat form, unless it is too large.
 use Rattle.std.specs.Prelude.{◌≡◌, ◌≤◌, ◌^◌, List, length, Ok}
 use Rattle.x3d_values.specs.declared.fields.Fields.{Fields}
 use Rattle.proto_flat.specs.declared.flat.Flat.{Flat}

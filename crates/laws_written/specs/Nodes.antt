@@ -1,5 +1,5 @@
--- What a written scene is read as (ISO/IEC 19776-2, DEF and USE): each node closes in the place of
--- its number, and each USE is the node that it stands for.
+-- How a written scene is read (ISO/IEC 19776-2, DEF and USE): each node closes in the order of its
+-- number, and each USE is the node that it refers to.
 use Rattle.std.specs.Prelude.{◌≡◌, ◌≤◌, ◌^◌, ◌++◌, ℕ, List, [], ◌∷◌, length, map, Ok}
 use Rattle.x3d_values.specs.declared.fields.Fields.{Fields}
 use Rattle.proto_flat.specs.declared.flat.Flat.{Flat}
@@ -11,30 +11,30 @@ use Rattle.scene_text.specs.Statements.{scene_document}
 use Rattle.laws_text.specs.Children.{children}
 use Rattle.laws_text.specs.Writable.{AreKeepable}
 
--- helpers, where there are some, stand in one more node
+-- the helpers, if there are any, are in one more node
 abbrev pub in_switch : List ℕ → List (List ℕ)
 in_switch [] = []
 in_switch (n ∷ ns) = (n ∷ ns) ∷ []
 
--- which is one more root
+-- the node with the helpers is one more root
 abbrev pub switch_root : ℕ → List ℕ → List ℕ
 switch_root number [] = []
 switch_root number (n ∷ ns) = number ∷ []
 
--- the nodes that stand in each node that is written
+-- the nodes that each written node contains
 abbrev pub written_nodes : SceneView → List (List ℕ)
 written_nodes s = map children s.nodes ++ in_switch s.helpers
 
 abbrev pub written_roots : SceneView → List ℕ
 written_roots s = s.roots ++ switch_root (length s.nodes) s.helpers
 
--- the n-th braces of the text that close are those of the scene's node n: between them stand the
--- nodes that stand in it, and each USE, there and as a root, is the node that it is written for
+-- the n-th braces that close in the text are those of the scene's node n: they contain the nodes
+-- that node n contains, and each USE, in a node or as a root, is the node that it refers to
 abbrev pub AreNodesRead : SceneView → Reading → Type 0
 AreNodesRead s r =
     (r.closed ≡ map (map some) (written_nodes s)) × (r.here ≡ map some (written_roots s))
 
--- so is what is written of a document's scene, with any routes
+-- this holds for what is written of a document's scene, with any routes
 abbrev pub WrittenNodesAreRead : Type 0
 WrittenNodesAreRead =
     (flat : Flat) (scene : SceneView) (routes : List Route) (state : List Fields)

@@ -14,16 +14,16 @@ use Rattle.laws_text.specs.Writable.{AreKeepable}
 use Rattle.laws_written.specs.Braces.{written_braces}
 use Rattle.laws_written.specs.Nodes.{written_nodes, written_roots}
 
--- the n-th node of these is that of the scene, and behind them is the one with the helpers, where
--- there are some
+-- the n-th node of the flat form is that of the scene, and after them comes the node with the
+-- helpers, if there are any
 pub record IsFlatOf (s : SceneView) (routes : List Route) (f : Flat) : Type 0 where
-  -- types, and names
+  -- types and names
   pub nodes : map shown f.nodes ≡ written_braces s routes
   -- the nodes in their fields
   pub inside : map held f.nodes ≡ map (map some) (written_nodes s)
   pub roots : f.roots ≡ written_roots s
 
--- where the document that a document's scene is written as has a flat form, it is so
+-- if the document that a document's scene is written as has a flat form, then IsFlatOf holds
 abbrev pub WrittenNodesStay : Type 0
 WrittenNodesStay =
     (from : Flat) (scene : SceneView) (routes : List Route) (state : List Fields) (again : Flat)

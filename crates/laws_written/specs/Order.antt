@@ -10,23 +10,23 @@ use Rattle.scene_text.specs.Tree.{PlanView, node_tree}
 use Rattle.laws_text.specs.Again.{HaveChildren}
 use Rattle.laws_text.specs.Writable.{AreKeepable, IsShallow}
 
--- a document's scene is written, with what its nodes keep; in these nodes stand the nodes that
--- stand in the scene's
+-- a document's scene is written, with what its nodes keep; each node contains the nodes that the
+-- scene's node contains
 pub record IsWritten (flat : Flat) (p : PlanView) (nodes : List FlatNode) : Type 0 where
   pub is_scene : scene_of flat ≡ Ok p.scene
   pub kept : AreKeepable p.state
   pub many : length nodes ≡ length p.scene.nodes
   pub children : HaveChildren p.scene nodes
 
--- which nodes have appeared in the text when a node was written is which have appeared in the
--- numbering when it was visited; where the chains that begin at the node are short enough
+-- after a node is written, the nodes that have appeared in the text are those that have appeared in
+-- the numbering after the node was visited, if chains that begin at it are short enough
 abbrev pub NodesInOrder : Type 0
 NodesInOrder =
     (flat : Flat) (p : PlanView) (nodes : List FlatNode) → IsWritten flat p nodes
     → (s : Numbering) (depth n : ℕ) → length s.opened ≡ length nodes → IsShallow p.scene depth n
     → (node_tree depth p s.opened n).seen ≡ (visit (length nodes + 1) nodes s n).opened
 
--- so it is behind the roots, and behind the helpers
+-- the same holds after the roots, and after the helpers
 abbrev pub RootsInOrder : Type 0
 RootsInOrder =
     (flat : Flat) (p : PlanView) (nodes : List FlatNode) → IsWritten flat p nodes

@@ -21,9 +21,8 @@ written_end s end = At end.node (field_name s end)
 abbrev pub written_route : SceneView → Route → Shown
 written_route s route = (written_end s route.source, written_end s route.target)
 
--- where the document that a document's scene is written as has a flat form, this has these routes,
--- in their order; each end of them is a field of a node of the scene, as those of a document's
--- routes are
+-- if the document that a document's scene is written as has a flat form, that form has these
+-- routes, in their order; each end is a field of a node of the scene, as for a document's routes
 abbrev pub WrittenRoutesStay : Type 0
 WrittenRoutesStay =
     (from : Flat) (scene : SceneView) (routes : List Route) (state : List Fields) (again : Flat)

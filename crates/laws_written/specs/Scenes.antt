@@ -1,5 +1,5 @@
--- That the fields of the nodes of a document's scene are told apart by their names (ISO/IEC
--- 19775-1, Script), and what is so of the flat form of the written scene.
+-- The fields of the nodes of a document's scene have distinct names (ISO/IEC 19775-1, Script), and
+-- what follows for the flat form of the written scene.
 use Rattle.std.specs.Prelude.{◌≡◌, ◌≤◌, ◌^◌, List, length, Ok}
 use Rattle.x3d_values.specs.declared.fields.Fields.{Fields}
 use Rattle.classic_tree.specs.declared.tree.Document.{Document}
@@ -13,14 +13,14 @@ use Rattle.laws_text.specs.Writable.{AreKeepable}
 use Rattle.laws_written.specs.Distinct.{HaveDistinctFields}
 use Rattle.laws_written.specs.FieldsFlats.{HasFieldsOf}
 
--- of every document that has a scene
+-- for every document that has a scene
 abbrev pub FieldsAreDistinct : Type 0
 FieldsAreDistinct =
     (d : Document) (f : Flat) (scene : SceneView) → flat d ≡ Ok f → scene_of f ≡ Ok scene
     → HaveDistinctFields scene
 
--- where the document that a document's scene is written as has a flat form, the nodes of this have
--- the fields of the scene's
+-- if the document that a document's scene is written as has a flat form, its nodes have the fields
+-- of the scene's nodes
 abbrev pub DocumentFieldsStay : Type 0
 DocumentFieldsStay =
     (d : Document) (from : Flat) (scene : SceneView) (routes : List Route) (state : List Fields)

@@ -1,4 +1,4 @@
-//! Laws of the names of fields, each the contract of a function that does nothing.
+//! Laws of the names of fields. Each is the contract of a function that does nothing.
 
 ghost use Rattle.laws_written.specs.Interfaces.{InterfacesAreDistinct};
 ghost use Rattle.laws_written.specs.Scenes.{DocumentFieldsStay, FieldsAreDistinct};
@@ -6,21 +6,21 @@ ghost use Rattle.laws_written.specs.Scenes.{DocumentFieldsStay, FieldsAreDistinc
 use crate::fields::written_fields_stay;
 use x3d_values::table_law;
 
-/// The fields that a node of the flat form of a document declares have distinct names, none that
-/// of a field of its type, and only a Script declares some.
+/// The fields that a node of a document's flat form declares have distinct names, and none has the
+/// name of a field of the node's type. Only a Script declares fields.
 pub fn interfaces_are_distinct()
     ensures { InterfacesAreDistinct }
 {}
 
-/// So the fields of each node of a document's scene have distinct names.
+/// The fields of each node of a document's scene have distinct names.
 pub fn fields_are_distinct()
     ensures { FieldsAreDistinct }
 {
     table_law();
 }
 
-/// The nodes in the flat form of the written scene of a document, where there is one, have the
-/// fields of the scene's.
+/// The nodes in the flat form of the written scene of a document, if there is one, have the fields
+/// of the scene's nodes.
 pub fn document_fields_stay()
     ensures { DocumentFieldsStay }
 {

@@ -1,4 +1,4 @@
-//! Laws of the fields in a written scene, each the contract of a function that does nothing.
+//! Laws of the fields in a written scene. Each is the contract of a function that does nothing.
 
 ghost use Rattle.laws_written.specs.FieldsFlats.{WrittenFieldsStay};
 ghost use Rattle.laws_written.specs.FieldsWritten.{WrittenShapes};
@@ -7,13 +7,13 @@ use crate::nodes::{written_nodes_close, written_nodes_stay};
 use laws_flat::nodes_tell_the_rest;
 use laws_plain::shapes_stay;
 
-/// Between the braces of each node of a written scene stand its fields, by their numbers.
+/// The braces of each node of a written scene contain its fields, by their numbers.
 pub fn written_shapes()
     ensures { WrittenShapes }
 {}
 
-/// The nodes in the flat form of a written scene, where there is one, have the fields of the
-/// scene's.
+/// The nodes in the flat form of a written scene, if there is one, have the fields of the scene's
+/// nodes.
 pub fn written_fields_stay()
     ensures { WrittenFieldsStay }
 {

@@ -1,5 +1,5 @@
 //! What is written of a scene, as a document: its nodes are those of the scene, in the order of
-//! their numbers, with the same fields and routes, and it has a flat form, unless it is too large.
+//! their numbers, with the same fields and routes. It has a flat form, unless it is too large.
 #![tactic(auto)]
 
 mod distinct;

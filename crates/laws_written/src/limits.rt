@@ -1,4 +1,5 @@
-//! A law of whether a written scene has a flat form, the contract of a function that does nothing.
+//! A law of whether a written scene has a flat form. It is the contract of a function that does
+//! nothing.
 
 ghost use Rattle.laws_written.specs.LimitsWritten.{WrittenScenesAreFlat};
 

@@ -1,4 +1,4 @@
-//! Laws of the routes of a written scene, each the contract of a function that does nothing.
+//! Laws of the routes of a written scene. Each is the contract of a function that does nothing.
 
 ghost use Rattle.laws_written.specs.Resolved.{WrittenRoutesResolve};
 ghost use Rattle.laws_written.specs.Routes.{WrittenRoutesStay};
@@ -7,9 +7,9 @@ use crate::nodes::written_nodes_close;
 use laws_plain::routes_are_read;
 use laws_text::labels_are_distinct;
 
-/// The flat form of a written scene, where there is one, has the scene's routes, in their order,
-/// by the numbers of the scene's nodes and the names of their fields. These resolve to the scene's
-/// routes in each scene that has the nodes of this under the same numbers, with the same fields.
+/// The flat form of a written scene, if there is one, has the scene's routes in their order, by the
+/// numbers of the scene's nodes and the names of their fields. They resolve to the scene's routes
+/// in each scene that has this scene's nodes under the same numbers with the same fields.
 pub fn written_routes_stay()
     ensures shown { WrittenRoutesStay }
     ensures resolved { WrittenRoutesResolve }

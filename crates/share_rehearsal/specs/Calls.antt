@@ -1,4 +1,4 @@
--- What the calls of a rehearsal's nodes make of them, step by step.
+-- How the calls of a rehearsal change its nodes, step by step.
 use Rattle.std.specs.Prelude.{◌≡◌, ◌⊎◌, ◌<◌, ◌^◌, ℕ, suc, ◌++◌, List, [], ◌∷◌, length}
 use Rattle.std.specs.Prelude.{slice_get, slice_set, Option, Some, None, Result, Ok, Err}
 use Rattle.share_wire.specs.Datagram.{datagram}
@@ -71,13 +71,13 @@ abbrev pub seen_of : HostView → List ViewerView → List (List ℕ) → List S
 seen_of host viewers packets shots =
     record { host = host; viewers = viewers; packets = packets; shots = shots }
 
--- what the program holds
+-- the nodes that the program holds
 abbrev pub seen : {B : Type 0} → Nodes B → Seen
 seen nodes = seen_of nodes.host nodes.viewers.items nodes.packets.items nodes.shots.items
 
--- ---- the beginning
+-- -- the start
 
--- a viewer for each stage, numbered on from this number, as its boot 1
+-- a viewer for each stage, numbered from this number on, each as its boot 1
 abbrev pub viewers_from : (mark : List ℕ) → ℕ → List StageView → List ViewerView
 viewers_from mark n [] = []
 viewers_from mark n (stage ∷ stages) =
@@ -91,21 +91,21 @@ viewers_from mark n (stage ∷ stages) =
     }
     ∷ viewers_from mark (suc n) stages
 
--- before the first step
+-- the nodes before the first step
 abbrev pub begun_with : (mark : List ℕ) → List StageView → Seen
 begun_with mark stages =
     seen_of (record { mark = mark; part = new_part (length stages) }) (viewers_from mark 0 stages)
     [] []
 
--- ---- numbers
+-- -- unknown numbers
 
--- there is no packet, viewer or snapshot of a number
+-- no packet, viewer or snapshot has the step's number
 abbrev pub IsUnknown : Seen → Answer → Seen → Type 0
 IsUnknown s a new = (a ≡ NoSuch) × (new ≡ s)
 
--- ---- packets that are made
+-- -- packets sent
 
--- bytes join the packets, if there are any
+-- the bytes, if there are any, are appended to the packets
 abbrev pub IsSent : Option (List ℕ) → List (List ℕ) → Answer → List (List ℕ) → Type 0
 IsSent None old a new = (a ≡ Sent None) × (new ≡ old)
 IsSent (Some bytes) old a new = (a ≡ Sent (Some (length old))) × (new ≡ old ++ bytes ∷ [])
@@ -113,7 +113,7 @@ IsSent (Some bytes) old a new = (a ≡ Sent (Some (length old))) × (new ≡ old
 abbrev pub message : (mark : List ℕ) → Body → Message
 message mark body = record { mark = mark; body = body }
 
--- the datagram of a body joins the packets, if there is one, and is decoded as that
+-- the datagram of a body, if there is one, is appended to the packets, and decodes to that body
 abbrev pub IsMade : Seen → (mark : List ℕ) → Option Body → Answer → Seen → Type 0
 IsMade s mark None a new = (a ≡ Sent None) × (new ≡ s)
 IsMade s mark (Some body) a new =
@@ -125,7 +125,7 @@ abbrev pub IsAcked : Seen → (v : ℕ) → Option SeatCount → Answer → Seen
 IsAcked s v None a new = IsUnknown s a new
 IsAcked s v (Some kept) a new = IsMade s s.host.mark (Some (ack_of v kept)) a new
 
--- ---- what comes
+-- -- packets received
 
 abbrev pub IsHostGiven : Seen → Option (List ℕ) → Answer → Seen → Type 0
 IsHostGiven s None a new = IsUnknown s a new
@@ -142,9 +142,9 @@ IsGiven s v (Some x) (Some bytes) a new =
     × (a ≡ ViewerTook result) × (new ≡ with_viewer s v (with_state x y))
     × IsTakeOf (machine_of x) x.mark x.who x.state x.state.view (decoded bytes) result y
 
--- ---- snapshots
+-- -- snapshots
 
--- of a viewer that runs or is spoiled
+-- a viewer that is running or spoiled saves its world
 abbrev pub IsSaving : (number : ℕ) → ViewerView → List Shot → ViewerWorld Scripted → Answer
     → List Shot
     → Type 0
@@ -160,7 +160,7 @@ IsSaved s v None a new = IsUnknown s a new
 IsSaved s v (Some x) a new =
     (new ≡ with_shots s new.shots) × IsSaving v x s.shots x.state.view a new.shots
 
--- bytes are a snapshot of this scene's, so a rewind by them is the law's
+-- if the bytes are a snapshot of this viewer's scene, rewinding to them is the law's rewind
 abbrev pub IsLawful : ViewerView → (boot : ℕ) → (bytes : List ℕ) → Result ℕ SnapFault
     → law.ViewerState Scripted → Type 0
 IsLawful x boot bytes result y =
@@ -206,7 +206,7 @@ abbrev pub IsForgotten : Seen → (v : ℕ) → Option ViewerView → Answer →
 IsForgotten s v None a new = IsUnknown s a new
 IsForgotten s v (Some x) a new = (a ≡ Forgot) × (new ≡ with_viewer s v (with_gathering x None))
 
--- ---- a step
+-- -- a step
 
 abbrev pub IsOffering : Seen → (v : ℕ) → Step → Option ViewerView → Answer → Seen → Type 0
 IsOffering s v step None a new = IsUnknown s a new
@@ -219,7 +219,7 @@ IsOffering s v (ViewerAsk u) (Some x) a new =
     IsMade s x.mark (Some (viewer_ask (machine_of x) x.who x.state)) a new
 IsOffering s v step (Some x) a new = ⊥
 
--- from these nodes, the step may be answered so and leave the new ones
+-- running the step from these nodes may give this answer and leave the new nodes
 abbrev pub IsCall : Seen → Step → Answer → Seen → Type 0
 IsCall s (HostClock t) a new =
     (result : Result ℕ NumberFault) × (p : HostPart)
@@ -248,7 +248,7 @@ IsCall s (ViewerResend v place) a new =
     IsOffering s v (ViewerResend v place) (slice_get s.viewers v) a new
 IsCall s (ViewerAsk v) a new = IsOffering s v (ViewerAsk v) (slice_get s.viewers v) a new
 
--- the steps were answered so, one after another, and left the new nodes
+-- running the steps in order may give these answers and leave the new nodes
 abbrev pub AreCalls : Seen → List Step → List Answer → Seen → Type 0
 AreCalls s [] [] new = new ≡ s
 AreCalls s (step ∷ steps) (a ∷ answers) new =

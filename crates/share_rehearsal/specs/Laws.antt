@@ -1,4 +1,4 @@
--- What holds of the nodes that a rehearsal leaves, and of its log.
+-- What holds for the nodes that a rehearsal leaves, and for its log.
 use Rattle.std.specs.Prelude.{◌≡◌, ◌↔◌, ℕ, ◌+◌, ◌-◌, ◌≤◌, pos, true, List, [], ◌∷◌, ◌++◌, length}
 use Rattle.std.specs.Prelude.{take, drop, slice_get, codes, Option, None, Some, Ok}
 use Rattle.x3d_values.specs.Stamp.{StampedView}
@@ -24,8 +24,8 @@ use Rattle.share_rehearsal.specs.Log.{answer_text}
 use Rattle.share_rehearsal.specs.Stands.{law_answer, shot_at}
 use Rattle.share_rehearsal.specs.Rehearsed.{IsRehearsal}
 
--- of whatever a rehearsal of a scene leaves, whichever its steps, and of the list of all inputs
--- that its host numbered, of which it holds a part
+-- for whatever a rehearsal of a scene leaves, whichever its steps, and the list of all inputs that
+-- its host numbered, of which the host holds a part
 abbrev pub OfRehearsals : (SceneView → List Route → List StampedView → Seen → Type 0) → Type 0
 OfRehearsals Law =
     (mark : List ℕ) (scene : SceneView) (routes : List Route) (viewers : ℕ) (steps : List Step)
@@ -39,7 +39,7 @@ pub record IsLeft (left : Seen) (v : ℕ) (x : ViewerView) (held : Scripted)
   pub is : slice_get left.viewers v ≡ Some x
   pub runs : x.state.view ≡ Running held window
 
--- its world is that of the scene and of as many of all inputs, from the first, as it applied
+-- its world is that of the scene and of the first n of all inputs, where n is how many it applied
 abbrev pub ViewersHold : SceneView → List Route → List StampedView → Seen → Type 0
 ViewersHold scene routes list left =
     (v : ℕ) (x : ViewerView) (held : Scripted) (window : List (Option StampedView))
@@ -47,7 +47,7 @@ ViewersHold scene routes list left =
     → (held.world.applied ≤ length list)
     × (held ≡ world scene routes (take held.world.applied list))
 
--- two that applied as many hold the same world, and write the same texts
+-- two viewers that applied the same number of inputs hold the same world and write the same texts
 abbrev pub ViewersAgree : SceneView → List Route → List StampedView → Seen → Type 0
 ViewersAgree scene routes list left =
     (v other : ℕ) (x y : ViewerView) (held theirs : Scripted)
@@ -58,7 +58,7 @@ ViewersAgree scene routes list left =
     × (scene_text x.scene x.routes held ≡ scene_text y.scene y.routes theirs)
     × (trace_text x.scene held ≡ trace_text y.scene theirs)
 
--- its window lacks its next input, and has of the 63 behind that the numbered ones alone
+-- its window lacks its next input, and of the 63 inputs after that one holds only numbered ones
 abbrev pub WindowsHold : SceneView → List Route → List StampedView → Seen → Type 0
 WindowsHold scene routes list left =
     (v : ℕ) (x : ViewerView) (held : Scripted) (window : List (Option StampedView))
@@ -68,7 +68,7 @@ WindowsHold scene routes list left =
 abbrev pub TimesRise : SceneView → List Route → List StampedView → Seen → Type 0
 TimesRise scene routes list left = Rises (pos 0) list
 
--- the host holds the inputs from its floor on, and knows how many there are and when the last was
+-- the host holds the inputs from its floor on, and knows their number and the time of the last
 abbrev pub HostHolds : SceneView → List Route → List StampedView → Seen → Type 0
 HostHolds scene routes list left =
     (1 ≤ left.host.part.floor) × (left.host.part.floor ≤ length list + 1)
@@ -77,12 +77,12 @@ HostHolds scene routes list left =
 
 -- ---- late joiners
 
--- snapshot s of those that were taken is this one: its viewer, its boot, and the bytes of its world
+-- snapshot number s of those taken is this one: its viewer, its boot, and the bytes of its world
 abbrev pub IsTaken : SceneView → Seen → (s : ℕ) → Shot Scripted → Type 0
 IsTaken scene left s from = slice_get left.shots s ≡ Some (shot_at left.host.mark scene from)
 
--- what a viewer has gathered is of one snapshot that was taken, whichever snapshots its pieces were
--- cut from; once none are missing it is the bytes of that
+-- what a viewer has gathered comes from one snapshot that was taken, whichever snapshots its pieces
+-- were cut from; once no piece is missing it is the bytes of that snapshot
 abbrev pub PiecesHold : SceneView → List Route → List StampedView → Seen → Type 0
 PiecesHold scene routes list left =
     (v : ℕ) (x : ViewerView) (g : Gathering)
@@ -91,8 +91,8 @@ PiecesHold scene routes list left =
     × IsPartOf (cascade left.host.mark scene routes) g from
     × (all_there g.places ≡ true → joined g.places ≡ (shot_at left.host.mark scene from).bytes)
 
--- viewer v stands where the viewer of a snapshot stood as it was taken: in that world, which is
--- that of the scene and of the first n of all inputs, as a new boot, with nothing gathered
+-- viewer v is in the state that a snapshot was taken in: its world, which is that of the scene and
+-- of the first n of all inputs; the boot is new and nothing is gathered
 pub record StandsIn
     (scene : SceneView) (routes : List Route) (list : List StampedView) (left : Seen)
     (v boot n : ℕ) : Type 0 where
@@ -106,7 +106,8 @@ pub record StandsIn
   pub most : n ≤ length list
   pub world_of_n : from.state ≡ world scene routes (take n list)
 
--- so stands a viewer that joined with n inputs, by all pieces of a snapshot, in the last step
+-- a viewer that joined in the last step with n inputs, by all pieces of a snapshot, is in that
+-- state
 abbrev pub JoinersStand : Type 0
 JoinersStand =
     (mark : List ℕ) (scene : SceneView) (routes : List Route) (viewers : ℕ) (steps : List Step)
@@ -115,9 +116,9 @@ JoinersStand =
     (answers ++ Joined (Ok n) ∷ []) left)
     → StandsIn scene routes r.net.host.list left v boot n
 
--- ---- the log
+-- -- the log
 
--- an answer is logged as `Memory` exactly where it says that memory was refused
+-- an answer is logged as `Memory` exactly when it says that memory ran out
 abbrev pub MemoryIsLogged : Type 0
 MemoryIsLogged =
     (a : Answer) → (answer_text a ≡ codes "Memory") ↔ (says_memory (law_answer a) ≡ true)

@@ -14,8 +14,8 @@ AreOf scene routes [] = Unit {0}
 AreOf scene routes (stage ∷ stages) =
     (stage.scene ≡ scene) × (stage.routes ≡ routes) × AreOf scene routes stages
 
--- all loaded this text, whose scene and routes these are, and boxes were attached to its scripts:
--- each of these runs
+-- all stages loaded this text, which has this scene and these routes, and boxes were attached to
+-- its scripts: each script runs
 pub record AreLoaded (text : List ℕ) (scene : SceneView) (routes : List Route)
     (stages : List StageView) : Type 0 where
   pub flat : Flat

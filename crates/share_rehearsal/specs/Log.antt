@@ -1,4 +1,4 @@
--- The log of a rehearsal: a line per step, with its number and its answer (our choice).
+-- The log of a rehearsal: a line for each step, with its number and its answer (our choice).
 use Rattle.std.specs.Prelude.{ℕ, suc, ◌++◌, List, [], ◌∷◌, codes, decimal, Some, None}
 use Rattle.std.specs.Prelude.{Result, Ok, Err}
 use Rattle.share_law.specs.declared.fault.HostFault.{HostFault}
@@ -55,7 +55,7 @@ abbrev pub gather_text : Result Gathered GatherFault → List ℕ
 gather_text (Ok reply) = gathered_text reply
 gather_text (Err fault) = gather_name fault
 
--- the answer of a step; packets and snapshots go by their numbers, a refusal by the fault's name
+-- the text of an answer; packets and snapshots are shown by their numbers, faults by their names
 abbrev pub answer_text : Answer → List ℕ
 answer_text (answer.Clocked (Ok n)) = codes "Numbered " ++ decimal n
 answer_text (answer.Clocked (Err fault)) = number_name fault
@@ -81,14 +81,14 @@ answer_text answer.NoSuch = codes "NoSuch"
 unfoldable pub line_text : ℕ → Answer → List ℕ
 line_text n a = decimal n ++ 32 ∷ answer_text a ++ 10 ∷ []
 
--- the lines of these answers, of which the first has this number
+-- the lines of these answers, numbered from this number on
 abbrev pub lines_from : ℕ → List Answer → List ℕ
 lines_from n [] = []
 lines_from n (a ∷ answers) = line_text n a ++ lines_from (suc n) answers
 
 -- ---- the ending
 
--- a viewer that runs, with its trace and its scene, or one that is spoiled
+-- the text of a viewer that runs, with its trace and its scene, or of one that is spoiled
 abbrev pub ending_in : (number : ℕ) → ViewerView → ViewerWorld Scripted → List ℕ
 ending_in number v (Running w window) =
     codes "viewer " ++ decimal number ++ codes " at " ++ decimal w.world.applied
@@ -100,11 +100,11 @@ ending_in number v (Spoiled count) =
 unfoldable pub ending_text : (number : ℕ) → ViewerView → List ℕ
 ending_text number v = ending_in number v v.state.view
 
--- each viewer's, of which the first has this number
+-- the texts of all viewers, numbered from this number on
 abbrev pub endings_from : ℕ → List ViewerView → List ℕ
 endings_from n [] = []
 endings_from n (v ∷ viewers) = ending_text n v ++ endings_from (suc n) viewers
 
--- the log of these answers, where these viewers are left
+-- the log of these answers, when these viewers are left
 abbrev pub log_text : List Answer → List ViewerView → List ℕ
 log_text answers viewers = lines_from 1 answers ++ endings_from 0 viewers

@@ -1,4 +1,4 @@
--- The names of faults, as a log has them (our choice).
+-- The names of faults in a log (our choice).
 use Rattle.std.specs.Prelude.{ℕ, List, codes}
 use Rattle.share_wire.specs.Faults.{fault_name}
 use Rattle.share_law.specs.declared.fault.NumberFault.{NumberFault}

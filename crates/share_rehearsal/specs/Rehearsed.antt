@@ -1,5 +1,5 @@
 -- A rehearsal is a run of the law's network: its answers are the network's, and the real nodes
--- stand where the network's do.
+-- match the network's.
 use Rattle.std.specs.Prelude.{◌≡◌, ℕ, List, ◌++◌, length, map, replicate}
 use Rattle.scene_core.specs.declared.scene.Route.{Route}
 use Rattle.scene_core.specs.Scene.{SceneView}
@@ -19,9 +19,9 @@ use Rattle.share_rehearsal.specs.Told.{ToldRun}
 use Rattle.share_rehearsal.specs.Stands.{law_answer, StandFor}
 use Rattle.share_rehearsal.specs.Loaded.{AreLoaded}
 
--- so many viewers of a scene, in their first boots, and their host may be left so by the steps,
--- with these answers, of which those say that memory was refused where it was; what they stand for
--- is reached, so the law of shared worlds holds of it
+-- the steps may leave this many viewers of a scene, each in its first boot, and their host so, with
+-- these answers, each of which says whether memory ran out; the network that matches them is
+-- reached, so the law of shared worlds applies
 pub record IsRehearsal (mark : List ℕ) (scene : SceneView) (routes : List Route) (viewers : ℕ)
     (steps : List Step) (answers : List Answer) (new : Seen) : Type 0 where
   pub net : Network Scripted
@@ -30,22 +30,22 @@ pub record IsRehearsal (mark : List ℕ) (scene : SceneView) (routes : List Rout
   pub reached : Reached (cascade mark scene routes) net
   pub stand : StandFor mark scene routes new net
 
--- from these nodes the steps were gone through, and their lines appended
+-- the steps were run from these nodes and their lines were appended
 pub record IsPlayed (old : Seen) (steps : List Step) (before after : List ℕ) (new : Seen) :
     Type 0 where
   pub answers : List Answer
   pub calls : AreCalls old steps answers new
   pub lines : after ≡ before ++ lines_from 1 answers
 
--- the same, with what each viewer is left with behind the lines
+-- like IsPlayed, with what each viewer holds at the end after the lines
 pub record IsLogged (old : Seen) (steps : List Step) (before after : List ℕ) (new : Seen) :
     Type 0 where
   pub answers : List Answer
   pub calls : AreCalls old steps answers new
   pub log : after ≡ before ++ log_text answers new.viewers
 
--- viewers with these stages and their host went through the steps, and their log was appended;
--- where all loaded one text it is a rehearsal
+-- viewers with these stages and their host ran the steps and their log was appended; if all stages
+-- loaded one text, this is a rehearsal
 pub record IsRehearsed (mark : List ℕ) (stages : List StageView) (steps : List Step)
     (before after : List ℕ) (host : HostView) (viewers : List ViewerView) : Type 0 where
   pub answers : List Answer

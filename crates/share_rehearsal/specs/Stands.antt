@@ -1,5 +1,4 @@
--- Answers, nodes, packets and snapshots of the law's network, and the real ones that stand where
--- these do.
+-- Answers, nodes, packets and snapshots of the law's network, and the real ones that match them.
 use Rattle.std.specs.Prelude.{◌≡◌, ℕ, List, map, slice_get, Ok}
 use Rattle.std.specs.Option.{option_map}
 use Rattle.scene_core.specs.declared.scene.Route.{Route}
@@ -35,7 +34,7 @@ law_answer (Joined r) = law.Joined r
 law_answer Forgot = law.Forgot
 law_answer NoSuch = law.NoSuch
 
--- the real viewer of a seat, by its number
+-- the real viewer that matches a seat with this number
 abbrev pub viewer_at : (mark : List ℕ) → SceneView → List Route → (v : ℕ) → Seat Scripted
     → ViewerView
 viewer_at mark scene routes v x =
@@ -48,13 +47,13 @@ viewer_at mark scene routes v x =
       gathering = x.gathering;
     }
 
--- the bytes of a snapshot
+-- the real snapshot that matches one of the network
 abbrev pub shot_at : (mark : List ℕ) → SceneView → law_viewer.Shot Scripted → Shot
 shot_at mark scene x =
     record { viewer = x.viewer; bytes = shot mark x.boot scene x.state }
 
--- real nodes, packets and snapshots stand where those of a network do; of its host's list, the real
--- host holds the part from the floor on
+-- the real nodes, packets and snapshots match those of a network; of the list of the network's
+-- host, the real host holds the part from the floor on
 pub record StandFor (mark : List ℕ) (scene : SceneView) (routes : List Route) (s : Seen)
     (net : Network Scripted) : Type 0 where
   pub host : s.host ≡ record { mark = mark; part = part_of net.host }

@@ -1,13 +1,13 @@
--- A run of the law's network whose answers tell of memory: each says that memory was refused
--- exactly where it was.
+-- A run of the law's network whose answers report memory faults: an answer says that memory ran out
+-- exactly when it did.
 use Rattle.std.specs.Prelude.{◌≡◌, ℕ, ◌⊎◌, true, false, List, [], ◌∷◌, Some}
 use Rattle.share_law.specs.declared.step.Step.{Step}
 use Rattle.share_law.specs.Machine.{Machine}
 use Rattle.share_law.specs.Network.{Network, Answer, step, refused}
 use Rattle.share_law.specs.Steps.{says_memory}
 
--- from old, the step may be answered so and leave new: it had its memory and doesn't say that this
--- was refused, or memory was refused and it says so
+-- from old, the step may be answered so and leave new: either it had its memory and the answer does
+-- not say otherwise, or memory ran out and the answer says so
 abbrev pub IsToldStep : {W : Type 0} → Machine W → Network W → Step → Answer → Network W → Type 0
 IsToldStep m old s answer new =
     ((says_memory answer ≡ false) × (step m old s ≡ (answer, new)))

@@ -1,35 +1,37 @@
-//! What a step of a rehearsal answers.
+//! The answers to the steps of a rehearsal.
 
 use share_law::{
     FloorFault, GatherFault, Gathered, HostFault, HostReply, JoinFault, NumberFault, OfferFault,
     SaveFault, SnapFault, TakeFault, Taken,
 };
 
-/// What a step of a rehearsal answers.
+/// The answer to a step of a rehearsal.
 #[derive(Clone, Copy)]
 pub enum Answer {
-    /// The host numbered a clock, or did not.
+    /// The result of numbering a clock: its number.
     Clocked(Result<u32, NumberFault>),
-    /// The host took a packet.
+    /// The result of the host taking a packet.
     HostTook(Result<HostReply, HostFault>),
-    /// A viewer took a packet.
+    /// The result of a viewer taking a packet.
     ViewerTook(Result<Taken, TakeFault>),
-    /// A viewer offered a point, under this number in its boot, or did not.
+    /// The result of a viewer offering a point: its number in the viewer's boot.
     Offered(Result<u32, OfferFault>),
-    /// A packet was made, with this number from 0, or there was none to make.
+    /// The number, from 0, of the packet that was made. `None` if there was none to make.
     Sent(Option<usize>),
-    /// A viewer took a snapshot, with this number from 0, or did not.
+    /// The result of a viewer taking a snapshot: the snapshot's number, from 0.
     Saved(Result<usize, SaveFault>),
-    /// A viewer began again in a world of so many inputs, or did not.
+    /// The result of rewinding a viewer to a snapshot: the number of inputs that its world has
+    /// applied.
     Rewound(Result<u32, SnapFault>),
-    /// The host dropped the inputs below this number, or did not.
+    /// The result of dropping the host's inputs below a floor: the floor.
     Dropped(Result<u32, FloorFault>),
-    /// A viewer gathered a piece of a snapshot, or did not.
+    /// The result of a viewer gathering a piece of a snapshot.
     Collected(Result<Gathered, GatherFault>),
-    /// A viewer began again in what it gathered, a world of so many inputs, or did not.
+    /// The result of a viewer joining with the snapshot that it gathered: the number of inputs that
+    /// its world has applied.
     Joined(Result<u32, JoinFault>),
-    /// A viewer let go what it gathered.
+    /// The viewer dropped what it had gathered.
     Forgot,
-    /// There is no packet, viewer or snapshot of this number.
+    /// There is no packet, viewer or snapshot with the step's number.
     NoSuch,
 }

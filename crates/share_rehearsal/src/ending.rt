@@ -1,4 +1,4 @@
-//! What each viewer holds when a rehearsal is over.
+//! What each viewer holds at the end of a rehearsal.
 
 ghost use Rattle.std.specs.Prelude.{◌≡◌, ◌++◌, ◌∷◌, [], codes, decimal, is_ok, OnOk, false};
 ghost use Rattle.cascade_core.specs.Texts.{scene_text, trace_text};
@@ -11,7 +11,7 @@ use script_host::Behaviour;
 use share_core::Viewer;
 use std::alloc::AllocError;
 
-/// A text was written, or memory was refused.
+/// Turns the result of writing a text into one that can only fail for memory.
 fn written(text: Result<(), TextFault>) -> Result<(), AllocError>
     ensures { is_ok result ≡ is_ok text }
 {
@@ -45,7 +45,7 @@ fn push_boot(boot: u32, out: &mut Vec<u8>) -> Result<(), AllocError>
     push_word("\n", out)
 }
 
-/// Appends the trace and the scene of a viewer that runs; on a refusal perhaps a part of them.
+/// Appends the trace and the scene of a running viewer. On an error, part of them may be appended.
 fn push_texts<B: Behaviour>(viewer: &Viewer<B>, out: &mut Vec<u8>) -> Result<(), AllocError>
     ensures { IfRunning viewer.now.state.view (λ w. OnOk result (out.new.items
         ≡ out.old.items ++ trace_text viewer.now.scene w
@@ -55,7 +55,7 @@ fn push_texts<B: Behaviour>(viewer: &Viewer<B>, out: &mut Vec<u8>) -> Result<(),
     written(viewer.scene_text(out))
 }
 
-/// The same, behind a line on the viewer.
+/// Appends a line about a running viewer, then its trace and its scene.
 fn push_running<B: Behaviour>(
     number: usize,
     viewer: &Viewer<B>,
@@ -69,7 +69,7 @@ fn push_running<B: Behaviour>(
     push_texts(viewer, out)
 }
 
-/// Appends what a viewer is left with; on a refusal perhaps a part of it.
+/// Appends what a viewer holds at the end. On an error, part of it may be appended.
 fn push_ending<B: Behaviour>(
     number: usize,
     viewer: &Viewer<B>,
@@ -83,7 +83,7 @@ fn push_ending<B: Behaviour>(
     push_running(number, viewer, out)
 }
 
-/// The same of each viewer in turn.
+/// Appends what each viewer holds at the end, in turn.
 pub(crate) fn push_endings<B: Behaviour>(
     viewers: &[Viewer<B>],
     out: &mut Vec<u8>,

@@ -1,4 +1,4 @@
-//! What holds of every rehearsal.
+//! What holds for every rehearsal.
 
 ghost use Rattle.share_rehearsal.specs.Laws.{HostHolds, JoinersStand, MemoryIsLogged};
 ghost use Rattle.share_rehearsal.specs.Laws.{OfRehearsals, PiecesHold, TimesRise};
@@ -6,24 +6,28 @@ ghost use Rattle.share_rehearsal.specs.Laws.{ViewersAgree, ViewersHold, WindowsH
 
 use share_law::agreement_law;
 
-/// What holds of the nodes that a rehearsal leaves, by the law of shared worlds, and of its log.
+/// States what holds for the nodes that a rehearsal leaves, by the law of shared worlds, and for
+/// its log.
 pub fn rehearsal_law()
-    // A running viewer holds the world of as many of the inputs that the host numbered as it
-    // applied.
+    // A running viewer that has applied n inputs holds the world of the first n inputs that the
+    // host numbered.
     ensures equality { OfRehearsals ViewersHold }
-    // Two running viewers that have applied as many inputs hold the same world and write its texts.
+    // Two running viewers that have applied the same number of inputs hold the same world and write
+    // the same texts.
     ensures two_viewers { OfRehearsals ViewersAgree }
-    // A running viewer's window lacks the next input, and has of the 63 after it the host's alone.
+    // A running viewer's window lacks its next input. Of the 63 inputs after it, the window holds
+    // only ones that the host numbered.
     ensures window { OfRehearsals WindowsHold }
     // The times of the host's inputs rise.
     ensures times { OfRehearsals TimesRise }
-    // The host has those from its floor on.
+    // The host holds its inputs from its floor on.
     ensures floor { OfRehearsals HostHolds }
-    // What a viewer gathers is of one snapshot that was taken, and once whole it is that.
+    // The pieces that a viewer gathers come from one snapshot that was taken. Once complete, they
+    // are that snapshot.
     ensures pieces { OfRehearsals PiecesHold }
-    // One that joins by it stands where the viewer stood that took it.
+    // A viewer that joins with a snapshot is in the state of the viewer that took it.
     ensures joins { JoinersStand }
-    // A line says `Memory` exactly where memory was refused in its step.
+    // A line says `Memory` exactly when its step ran out of memory.
     ensures memory { MemoryIsLogged }
 {
     agreement_law();

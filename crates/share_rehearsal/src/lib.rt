@@ -1,5 +1,5 @@
-//! Rehearsals: a host and its viewers go through the steps of a schedule over a network in memory,
-//! and each step's answer is logged.
+//! Rehearsals: a host and its viewers run the steps of a schedule over a network in memory, and
+//! each step's answer is logged.
 #![tactic(auto)]
 
 mod answer;

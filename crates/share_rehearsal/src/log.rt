@@ -1,4 +1,4 @@
-//! A line of a log: the number of a step and its answer.
+//! A line of the log: a step's number and its answer.
 
 ghost use Rattle.std.specs.Prelude.{◌≡◌, ◌++◌, ◌∷◌, codes, decimal, OnOk};
 ghost use Rattle.share_rehearsal.specs.Log as spec;
@@ -12,15 +12,15 @@ use itoa::Buffer;
 use share_law::{GatherFault, Gathered, HostFault, HostReply, TakeFault, Taken};
 use std::alloc::AllocError;
 
-/// Appends a word; on a refusal the buffer is as it was.
+/// Appends a word. On an error, the buffer is unchanged.
 pub(crate) fn push_word(word: &str, out: &mut Vec<u8>) -> Result<(), AllocError>
     ensures { OnOk result (out.new.items ≡ out.old.items ++ word.now) }
 {
     out.extend_from_slice(word.as_bytes())
 }
 
-/// Appends a word, which ends in a space, and a number in decimal digits; on a refusal perhaps a
-/// part of them.
+/// Appends a word that ends in a space, then a number in decimal digits. On an error, part of them
+/// may be appended.
 pub(crate) fn push_number(word: &str, number: usize, out: &mut Vec<u8>) -> Result<(), AllocError>
     ensures { OnOk result (out.new.items ≡ out.old.items ++ word.now ++ decimal number) }
 {
@@ -29,7 +29,7 @@ pub(crate) fn push_number(word: &str, number: usize, out: &mut Vec<u8>) -> Resul
     out.extend_from_slice(buffer.format(number).as_bytes())
 }
 
-/// Appends the inputs that were asked for; on a refusal perhaps a part of them.
+/// Appends the range of inputs that was asked for. On an error, part of it may be appended.
 fn push_asked(first: u32, count: u32, out: &mut Vec<u8>) -> Result<(), AllocError>
     ensures { OnOk result (out.new.items
         ≡ out.old.items ++ codes "Asked " ++ decimal first ++ 32 ∷ decimal count) }
@@ -106,7 +106,7 @@ fn push_collected(
     }
 }
 
-/// Appends the text of an answer; on a refusal perhaps a part of it.
+/// Appends the text of an answer. On an error, part of it may be appended.
 pub(crate) fn push_answer(answer: Answer, out: &mut Vec<u8>) -> Result<(), AllocError>
     ensures { OnOk result (out.new.items ≡ out.old.items ++ spec.answer_text answer) }
 {
@@ -133,7 +133,7 @@ pub(crate) fn push_answer(answer: Answer, out: &mut Vec<u8>) -> Result<(), Alloc
     }
 }
 
-/// Appends the line of a step; on a refusal perhaps a part of it.
+/// Appends the line of a step. On an error, part of it may be appended.
 #[tactic(auto, unfolding(crate::specs::Log::line_text))]
 pub(crate) fn push_line(number: usize, answer: Answer, out: &mut Vec<u8>) -> Result<(), AllocError>
     ensures { OnOk result (out.new.items ≡ out.old.items ++ spec.line_text number answer) }

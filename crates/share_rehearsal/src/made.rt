@@ -1,11 +1,11 @@
-//! A packet that was made.
+//! A packet of a rehearsal.
 
 ghost use Rattle.std.specs.Prelude.{◌≡◌};
 
 use share_wire::Packet;
 use std::marker::Model;
 
-/// A packet that was made, which contracts see as its bytes.
+/// A packet of a rehearsal. Contracts see it as its bytes.
 #[derive(Drop)]
 pub(crate) struct Made {
     packet: Packet,

@@ -1,4 +1,4 @@
-//! The names of faults, as a log has them.
+//! The names of faults in a log.
 
 ghost use Rattle.std.specs.Prelude.{◌≡◌};
 ghost use Rattle.share_rehearsal.specs.Names as spec;

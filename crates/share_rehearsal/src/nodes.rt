@@ -1,5 +1,5 @@
-//! The host and the viewers of a rehearsal, with every packet that was made and every snapshot that
-//! was taken, and what a step makes of them.
+//! The host and the viewers of a rehearsal, every packet that was made and every snapshot that was
+//! taken, and how a step changes them.
 
 ghost use Rattle.std.specs.Prelude.{◌≡◌, ◌++◌, [], ◌∷◌, length, map, slice_get, IfOk, Some, Ok};
 ghost use Rattle.std.specs.Option.{option_map};
@@ -24,14 +24,14 @@ use std::alloc::{AllocError, Global};
 use x3d_lists::Items;
 use x3d_values::Point;
 
-/// A snapshot, and the viewer that took it.
+/// A snapshot and the number of the viewer that took it.
 #[derive(Drop)]
 pub struct Shot {
     pub viewer: u32,
     pub bytes: Items<u8>,
 }
 
-/// The nodes of a rehearsal. Packets and snapshots have their places as numbers.
+/// The nodes of a rehearsal. A packet or snapshot is numbered by its place in its list, from 0.
 #[derive(Drop)]
 pub(crate) struct Nodes<B: Behaviour> {
     pub(crate) host: Host,
@@ -40,7 +40,7 @@ pub(crate) struct Nodes<B: Behaviour> {
     pub(crate) shots: Vec<Shot>,
 }
 
-/// A packet joins those that were made.
+/// Appends a packet to those that were made.
 fn send(packet: Packet, packets: &mut Vec<Made>) -> Result<Answer, AllocError>
     ensures { IfOk result (λ a. IsSent (Some packet.items) packets.old.items a packets.new.items) }
 {
@@ -49,7 +49,7 @@ fn send(packet: Packet, packets: &mut Vec<Made>) -> Result<Answer, AllocError>
     Ok(Answer::Sent(Some(number)))
 }
 
-/// The same, if there is one.
+/// Appends the packet, if there is one, to those that were made.
 fn send_any(packet: Option<Packet>, packets: &mut Vec<Made>) -> Result<Answer, AllocError>
     ensures { IfOk result (λ a.
         IsSent (option_map (λ p. p.items) packet) packets.old.items a packets.new.items) }
@@ -60,7 +60,7 @@ fn send_any(packet: Option<Packet>, packets: &mut Vec<Made>) -> Result<Answer, A
     }
 }
 
-/// A snapshot joins those that were taken.
+/// Appends a snapshot to those that were taken.
 fn keep(viewer: u32, bytes: Vec<u8>, shots: &mut Vec<Shot>) -> Result<Answer, AllocError>
     ensures { IfOk result (λ a. (a ≡ Answer.Saved (Ok (length shots.old.items)))
         × (shots.new.items
@@ -72,7 +72,7 @@ fn keep(viewer: u32, bytes: Vec<u8>, shots: &mut Vec<Shot>) -> Result<Answer, Al
     Ok(Answer::Saved(Ok(number)))
 }
 
-/// A viewer takes a snapshot.
+/// Takes a snapshot of a viewer.
 fn save<B: Behaviour>(
     alloc: Global,
     number: u32,
@@ -240,8 +240,8 @@ impl<B: Behaviour> Nodes<B> {
         Answer::Forgot
     }
 
-    /// A step, and its answer. It is refused where memory was refused to the list of packets or to
-    /// that of snapshots.
+    /// Runs a step and returns its answer. Fails only if the list of packets or the list of
+    /// snapshots ran out of memory.
     pub(crate) fn go(&mut self, alloc: Global, step: Step) -> Result<Answer, AllocError>
         ensures { IfOk result (λ a. IsCall (seen self.old) step a (seen self.new)) }
     {

@@ -1,4 +1,4 @@
-//! The steps of a rehearsal, one after another.
+//! Runs the steps of a rehearsal in order.
 
 ghost use Rattle.std.specs.Prelude.{OnOk};
 ghost use Rattle.share_rehearsal.specs.Calls.{seen};
@@ -10,7 +10,8 @@ use script_host::Behaviour;
 use share_law::Step;
 use std::alloc::{AllocError, Global};
 
-/// Goes through the steps, and appends the line of each; on a refusal perhaps of some.
+/// Runs the steps and appends the line of each. On an error, the lines of some steps may be
+/// appended.
 pub(crate) fn play<B: Behaviour>(
     alloc: Global,
     nodes: &mut Nodes<B>,

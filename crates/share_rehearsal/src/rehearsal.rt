@@ -17,17 +17,17 @@ use share_law::Step;
 use std::alloc::{AllocError, Global};
 use x3d_values::MAX_VIEWERS;
 
-/// How many viewers there may be.
+/// The largest number of viewers.
 const MOST: usize = MAX_VIEWERS as usize;
 
-/// The host and the viewers as the steps left them.
+/// The host and the viewers, as the steps left them.
 #[derive(Drop)]
 pub struct Rehearsal<B: Behaviour> {
     pub host: Host,
     pub viewers: Vec<Viewer<B>>,
 }
 
-/// A viewer of this stage takes the next number, as its boot 1.
+/// Adds a viewer of this stage with the next number, as its boot 1.
 fn seat<B: Behaviour>(
     viewers: &mut Vec<Viewer<B>>,
     stage: Stage<B>,
@@ -43,7 +43,7 @@ fn seat<B: Behaviour>(
     Ok(())
 }
 
-/// A viewer for each stage, numbered in their order, as its boot 1.
+/// Returns a viewer for each stage, numbered in order from 0, each as its boot 1.
 pub fn viewers_of<B: Behaviour>(
     alloc: Global,
     stages: Vec<Stage<B>>,
@@ -55,7 +55,7 @@ pub fn viewers_of<B: Behaviour>(
 {
     let mut viewers = Vec::new(alloc);
     for stage in stages {
-        // What the exit lets go is dropped by a call, and not in place.
+        // Drop with a call, not in place, so that the exit is easy to prove.
         let Ok(()) = seat(&mut viewers, stage, mark) else {
             drop(viewers);
             return Err(AllocError);
@@ -64,7 +64,7 @@ pub fn viewers_of<B: Behaviour>(
     Ok(viewers)
 }
 
-/// Goes through the steps, and appends their log; on a refusal the buffer is as it was.
+/// Runs the steps and appends their log. On an error, the buffer is unchanged.
 fn log_all<B: Behaviour>(
     alloc: Global,
     nodes: &mut Nodes<B>,
@@ -81,7 +81,7 @@ fn log_all<B: Behaviour>(
     out.extend_from_slice(&log)
 }
 
-/// What is left of the nodes.
+/// Keeps the host and the viewers of the nodes, and drops the rest.
 fn ended<B: Behaviour>(nodes: Nodes<B>) -> Rehearsal<B>
     ensures host { result.host ≡ nodes.host }
     ensures viewers { result.viewers.items ≡ nodes.viewers.items }
@@ -97,7 +97,7 @@ fn ended<B: Behaviour>(nodes: Nodes<B>) -> Rehearsal<B>
     Rehearsal { host, viewers }
 }
 
-/// A host and its viewers before the first step.
+/// Returns a host and its viewers before the first step.
 fn begun<B: Behaviour>(
     alloc: Global,
     stages: Vec<Stage<B>>,
@@ -118,15 +118,15 @@ fn begun<B: Behaviour>(
     })
 }
 
-/// The host of a scene with this mark and a viewer for each stage, numbered in their order, as its
-/// boot 1, go through the steps over a network in memory, and the log of the steps is appended: a
-/// line of each step's number from 1 and its answer, then of each viewer a line, its trace and its
-/// scene, or a line that it is spoiled.
+/// Runs the steps over a network in memory, for the host of a scene with this mark and one viewer
+/// for each stage. The viewers are numbered in the order of the stages, each as its boot 1. The log
+/// of the steps is appended: a line for each step with its number from 1 and its answer, then for
+/// each viewer a line, its trace and its scene, or a line that it is spoiled.
 ///
-/// A refusal of memory inside a step is the step's answer, and the steps go on. The rehearsal is
-/// refused in this order: `NoViewers`; `TooManyViewers`, more than `MAX_VIEWERS` stages; `Memory`,
-/// where it was refused to the log, or to the lists of viewers, packets and snapshots. The buffer
-/// is then as it was.
+/// If memory runs out inside a step, the step's answer says so and the steps go on. The rehearsal
+/// fails, in this order, with `NoViewers`; with `TooManyViewers` for more than `MAX_VIEWERS`
+/// stages; or with `Memory` if the log or the lists of viewers, packets or snapshots run out of
+/// memory. The buffer is unchanged on an error.
 pub fn rehearse<B: Behaviour>(
     alloc: Global,
     stages: Vec<Stage<B>>,
@@ -140,11 +140,12 @@ pub fn rehearse<B: Behaviour>(
     ensures memory { 1 ≤ length stages.items → length stages.items ≤ max_viewers
         → IfErr result (λ fault. fault ≡ RehearseFault.Memory) }
     ensures err { OnErr result (out.new.items ≡ out.old.items) }
-    // The answers are those of the calls, and of stages of one scene those of a run of the network.
+    // The answers are those of the calls. For stages of one scene they are those of a run of the
+    // network.
     ensures rehearsed { IfOk result (λ r. IsRehearsed mark stages.items steps.now out.old.items
         out.new.items r.host r.viewers.items) }
 {
-    // Each exit drops by calls: a drop in place is proved anew at each.
+    // Each exit drops with calls: a drop in place would have to be proved at every exit.
     let count = stages.len();
     if count == 0 {
         drop(stages);
