@@ -15,7 +15,7 @@ const SHORTEST: u32 = 1;
 
 const LONGEST: u32 = 50;
 
-/// A port that rests between turns, and delays repeated asks and offers.
+/// A port that rests between turns, and holds back asks and offers.
 ///
 /// If the turn brought something new, the rest is none if datagrams came in the turn, and a
 /// millisecond if not. Otherwise the rest lasts until a datagram comes, at most twice as long as
