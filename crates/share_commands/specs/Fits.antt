@@ -1,4 +1,4 @@
--- Which steps a command's job may have (our choice).
+-- Which steps the job of a command may have (our choice).
 use Rattle.std.specs.Prelude.{ℕ, ◌==◌, nat_lt, not, Bool, true, false, List}
 use Rattle.std.specs.Prelude.{Option, Some, None, Result, Ok, Err}
 use Rattle.std.specs.List.{find}
@@ -19,13 +19,13 @@ abbrev pub is_foreign : (who : ℕ) → Cause → Bool
 is_foreign who Clock = true
 is_foreign who (Pointer p) = not (p.who == who)
 
--- a point of a viewer that isn't below so many
+-- a point of a viewer that isn't below this number
 abbrev pub is_beyond : (viewers : ℕ) → Cause → Bool
 is_beyond viewers Clock = false
 is_beyond viewers (Pointer p) = not (nat_lt p.who viewers)
 
--- `agree` takes clocks and points of its viewers, `host` clocks alone, `view` points of its viewer
--- alone, another command every step
+-- a command refuses an input. `agree` takes clocks and points of its viewers, `host` clocks only,
+-- `view` points of its viewer only, and another command every step
 abbrev pub refuses : Order → StampedView → Bool
 refuses (Agree viewers turns) input = is_beyond viewers input.cause
 refuses (Host asked) input = is_point input.cause
@@ -35,11 +35,11 @@ refuses _ input = false
 abbrev pub first_refused : Order → List StampedView → Option StampedView
 first_refused order inputs = find (refuses order) inputs
 
--- an input has the number of its line
+-- the line of a refused input, which is the number of the input
 abbrev pub answer : Option StampedView → Result (Unit {0}) JobFault
 answer None = Ok tt
 answer (Some input) = Err (BadJob input.number)
 
--- all steps are taken, or the line of the first that isn't
+-- all steps are taken, or the line of the first that is refused
 abbrev pub fits : Order → List StampedView → Result (Unit {0}) JobFault
 fits order inputs = answer (first_refused order inputs)

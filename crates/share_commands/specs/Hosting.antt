@@ -24,7 +24,7 @@ share_fault turn.Port = share.Port
 share_fault turn.Spoiled = share.Spoiled
 share_fault turn.Memory = share.Memory
 
--- why a viewer can't begin in what it gathered
+-- why a viewer can't begin from what it gathered
 abbrev pub join_fault : SnapFault → ShareFault
 join_fault snap.BootNotNew = share.BootNotNew
 join_fault fault = share.BadSnapshot
@@ -34,20 +34,20 @@ series_fault (series.Turn fault) = share_fault fault
 series_fault series.TurnsUsedUp = share.TurnsUsedUp
 series_fault (series.Join fault) = join_fault fault
 
--- how many sends and receives of a port failed, after work: one more where it ended for that
+-- how many sends and receives of a port failed, after work: one more if a failure ended the work
 abbrev pub failures_after : {A : Type 0} → Result A ShareFault → ℕ → ℕ
 failures_after (Err share.Port) n = one_more n
 failures_after result n = n
 
--- turns of the job's host, from one that was made just now, until it was done; so many inputs are
--- numbered then
+-- the job's host, newly made, took at most this many turns until it was done, and count inputs are
+-- numbered
 abbrev pub IsHosted : SharedJob → (viewers : ℕ) → HostPlan → (turns : ℕ)
     → (told_before told_after : Option (List Traffic)) → (count : ℕ) → Type 0
 IsHosted job viewers plan turns a b count =
     (new : HostPart) × AreHosted job.mark (times job.inputs) plan turns a b (new_part viewers) new
     × (count ≡ new.count)
 
--- memory was refused before the first turn, or the turns came to less
+-- memory was refused before the first turn, or the turns ended early
 abbrev pub IsHostedInPart : SharedJob → (viewers : ℕ) → HostPlan → (turns : ℕ)
     → (told_before told_after : Option (List Traffic)) → (count : ℕ) → ShareFault → Type 0
 IsHostedInPart job viewers plan turns a b count fault =

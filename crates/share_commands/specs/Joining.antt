@@ -23,7 +23,7 @@ pub record Joint : Type 0 where
   pub mark : List ℕ
   pub viewers : List ViewerView
 
--- the job of bytes, with so many viewers of its scene, numbered from 0, in their first boots
+-- the job with this many viewers of its scene, numbered from 0, in their first boots
 abbrev pub joint_of : SharedJob → (viewers : ℕ) → Joint
 joint_of job viewers = record {
   inputs = job.inputs;
@@ -32,7 +32,7 @@ joint_of job viewers = record {
       (replicate viewers (fresh (record { scene = job.scene; routes = job.routes })));
 }
 
--- a stage for each viewer of the job of bytes
+-- the stages are one for each viewer of the job of bytes
 abbrev pub IsStaged : Order → (viewers : ℕ) → (bytes : List ℕ) → List StampedView → (mark : List ℕ)
     → List StageView → Type 0
 IsStaged order viewers bytes inputs mark stages =
@@ -43,7 +43,7 @@ abbrev pub IsJoint : Order → (viewers : ℕ) → (bytes : List ℕ) → Joint 
 IsJoint order viewers bytes joint =
     (job : SharedJob) × (staffed order bytes ≡ Ok job) × (joint ≡ joint_of job viewers)
 
--- a host that was made just now, and viewers, each at its port
+-- a newly made host, and viewers, each at its port
 abbrev pub met : {P : Type 0} → (port : P) → Seats P → Meeting P
 met port seats = record {
   host = new_part (length seats.viewers);
@@ -51,8 +51,8 @@ met port seats = record {
   seats = seats;
 }
 
--- rounds until all inputs are issued and applied by every viewer, and the text is `agreed`, how
--- many they are, and the trace and the scene of viewer 0
+-- rounds ran until all inputs were issued and every viewer had applied them. The text is `agreed`
+-- and the number of inputs, then the trace and the scene of viewer 0
 abbrev pub IsAgreed : {P : Type 0} → Ways P → Joint → (own turns : ℕ) → (port : P)
     → (ports : List P) → (left_port : P) → (left : Seats P) → (text : List ℕ) → Type 0
 IsAgreed {P} ways job own turns port ports left_port left text =

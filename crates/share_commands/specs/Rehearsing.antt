@@ -17,21 +17,21 @@ use Rattle.share_rehearsal.specs.Rehearsed.{IsRehearsal, IsRehearsed}
 use Rattle.share_stages.specs.Stages.{staged_scene}
 use Rattle.share_commands.specs.Stages.{fresh}
 
--- the scene of a schedule, or the first fault of its lines, then of its scene, then of
--- its scripts
+-- the scene of a schedule, or the first fault of its lines, or else of its scene, or else of its
+-- scripts
 abbrev pub schedule_scene : List ℕ → Result OpenedScene JobFault
 schedule_scene bytes = next same (schedule_lines bytes) (λ s. staged_scene s.scene)
 
--- the log of steps that viewers with these stages and their host went through
+-- the text is the log of steps that viewers with these stages and their host went through
 pub record IsLogOf (mark : List ℕ) (stages : List StageView) (steps : List Step) (text : List ℕ) :
     Type 0 where
   pub host : HostView
   pub viewers : List ViewerView
   pub rehearsed : IsRehearsed mark stages steps [] text host viewers
 
--- the log of a schedule's steps, through which so many viewers of its scene and their host went:
--- it has the answers of the calls, and these are those of the law's network, which stands for what
--- is left
+-- the text is the log of a schedule's steps, run by this many viewers of its scene and their host.
+-- It has the answers of the calls. The law's network gives the same answers, and ends in what is
+-- left
 pub record IsScheduleLog (viewers : ℕ) (schedule : Schedule) (text : List ℕ) : Type 0 where
   pub scene : OpenedScene
   pub is_scene : staged_scene schedule.scene ≡ Ok scene
@@ -43,7 +43,7 @@ pub record IsScheduleLog (viewers : ℕ) (schedule : Schedule) (text : List ℕ)
   pub law : IsRehearsal (sha256 schedule.scene) scene.scene scene.routes viewers schedule.steps
       answers left
 
--- the same of the schedule of bytes
+-- like `IsScheduleLog`, for the schedule of bytes
 abbrev pub IsRehearsedLog : (viewers : ℕ) → (bytes text : List ℕ) → Type 0
 IsRehearsedLog viewers bytes text =
     (s : Schedule) × (schedule_lines bytes ≡ Ok s) × IsScheduleLog viewers s text

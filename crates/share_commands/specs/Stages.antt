@@ -6,7 +6,7 @@ use Rattle.share_program.specs.declared.open.OpenedScene.{OpenedScene}
 use Rattle.share_stages.specs.Stages.{staged_scene}
 pub use Rattle.share_stages.specs.Stages.{IsStage, fresh, scripted, scripts_refusal, unless_refused}
 
--- so many stages of the text's scene before any input
+-- the stages are this many stages of the text's scene before any input
 pub record AreStages (count : ℕ) (text : List ℕ) (stages : List StageView) : Type 0 where
   pub scene : OpenedScene
   pub is_scene : staged_scene text ≡ Ok scene

@@ -18,7 +18,7 @@ use Rattle.share_commands.specs.declared.job.SharedJob.{SharedJob}
 use Rattle.share_words.specs.declared.order.Order.{Order}
 use Rattle.share_program.specs.declared.fault.ShareFault.{ShareFault}
 
--- what a viewer is asked to point by an input
+-- the points that an input asks a viewer to offer
 abbrev pub pointed : Cause → List Point
 pointed Clock = []
 pointed (Pointer p) = point_of p ∷ []
@@ -26,7 +26,7 @@ pointed (Pointer p) = point_of p ∷ []
 abbrev pub points : List StampedView → List Point
 points inputs = flat_map (λ input. pointed input.cause) inputs
 
--- a viewer of the job's scene, as this boot, before any input
+-- a viewer of the job's scene, with this boot, before any input
 abbrev pub viewer_of : SharedJob → (who boot : ℕ) → ViewerView
 viewer_of job who boot = record {
   mark = job.mark;
@@ -37,22 +37,23 @@ viewer_of job who boot = record {
   gathering = None;
 }
 
--- as which boot a viewer begins: one that joins begins below the boot by which it will
+-- the boot with which a viewer begins. A viewer that joins begins with the boot before, if there is
+-- one
 abbrev pub first_boot : (boot : ℕ) → (joins : Bool) → ℕ
 first_boot boot joins = if joins then max (boot - 1) 1 else boot
 
--- the viewer of the job of bytes, before any input, and what it is asked to point
+-- the viewer of the job of bytes, before any input, and the points that it is asked to offer
 abbrev pub IsSeated : Order → (bytes : List ℕ) → (who boot : ℕ) → ViewerView → List Point → Type 0
 IsSeated order bytes who boot viewer asked =
     (job : SharedJob) × (staffed order bytes ≡ Ok job)
     × (viewer ≡ viewer_of job who boot) × (asked ≡ points job.inputs)
 
--- a viewer did as its plan says, and the text is its trace and its scene
+-- a viewer ran as its plan says, and the text is its trace and its scene
 abbrev pub IsViewed : ViewerView → List Point → (host : ℕ) → ViewPlan
     → (told_before told_after : Option (List Traffic)) → ViewerView → (text : List ℕ) → Type 0
 IsViewed viewer asked host plan a b new text = IsRun viewer host asked plan a b new [] text
 
--- its turns came to less, or the texts did
+-- the viewer's turns or its texts ended early
 abbrev pub IsViewedInPart : ViewerView → List Point → (host : ℕ) → ViewPlan
     → (told_before told_after : Option (List Traffic)) → ViewerView → ShareFault → Type 0
 IsViewedInPart viewer asked host plan a b new fault =

@@ -1,16 +1,16 @@
-//! What a datagram says, in short.
+//! A short form of what a datagram says.
 
 use share_wire::{Ack, Ask, Body, Offer, decode};
 use x3d_values::Stamped;
 
-/// What a datagram says to whoever passes it on.
+/// The part of a datagram that a port needs to know to pass it on.
 #[derive(Clone, Copy)]
 pub(crate) enum Brief {
-    /// A viewer asks for the inputs from a number on.
+    /// A viewer asks for the inputs from number `next` on.
     Ask { who: u8, next: u32 },
-    /// A viewer offers the point of this number of a boot.
+    /// A viewer offers point `number` of a boot.
     Offer { who: u8, boot: u32, number: u32 },
-    /// So many offers of a viewer's boot are numbered.
+    /// `count` offers of a viewer's boot are numbered.
     Ack { who: u8, boot: u32, count: u32 },
     /// The input of this number.
     Input { number: u32 },
@@ -57,14 +57,14 @@ fn of_body(body: Body) -> Brief {
     }
 }
 
-/// What bytes are to a run.
+/// How bytes relate to a run.
 #[derive(Clone, Copy)]
 pub(crate) enum Came {
-    /// No datagram.
+    /// Not a datagram.
     Foreign,
     /// A datagram of another scene.
     Elsewhere,
-    /// One of its own scene.
+    /// A datagram of the run's own scene.
     Here(Brief),
 }
 
@@ -72,7 +72,7 @@ fn is_same(mark: &[u8; 32], other: &[u8; 32]) -> bool {
     mark == other
 }
 
-/// What the bytes are to a run of the scene with this mark.
+/// Returns how bytes relate to a run of the scene with this mark.
 pub(crate) fn how_came(bytes: &[u8], mark: &[u8; 32]) -> Came {
     match decode(bytes) {
         Ok(message) => {
@@ -86,7 +86,8 @@ pub(crate) fn how_came(bytes: &[u8], mark: &[u8; 32]) -> Came {
     }
 }
 
-/// What the bytes of a datagram say, whatever its scene; of other bytes nothing.
+/// Returns what the bytes of a datagram say, whatever its scene, or `Other` if the bytes are not a
+/// datagram.
 pub(crate) fn brief_of(bytes: &[u8]) -> Brief {
     match decode(bytes) {
         Ok(message) => of_body(message.body),

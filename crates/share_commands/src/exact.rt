@@ -1,4 +1,4 @@
-//! A port that passes over inputs beyond a number, and snapshots of more inputs.
+//! A port that ignores inputs beyond a number, and snapshots with more inputs applied.
 
 ghost use Rattle.std.specs.Prelude.{◌≡◌};
 ghost use Rattle.share_wire.specs.Decoding.{decoded};
@@ -7,8 +7,8 @@ ghost use Rattle.share_commands.specs.Beyond.{body_is_beyond, count_of, is_beyon
 use share_port::{Port, PortFault, RECEIVED};
 use share_wire::{Body, decode};
 
-/// Whether the bytes are the datagram of an input beyond the last one that is wanted, or of a piece
-/// of a snapshot with more inputs applied than that.
+/// Reports whether the bytes are a datagram of an input beyond `last`, or of a piece of a snapshot
+/// with more inputs applied than `last`.
 fn is_beyond(bytes: &[u8], last: u32) -> bool
     ensures { result ≡ is_beyond last (decoded bytes.now) }
 {
@@ -28,9 +28,9 @@ fn body_is_beyond(body: Body, last: u32) -> bool
     }
 }
 
-/// A port that passes over inputs beyond a last one, if there is a last one, and pieces of a
-/// snapshot in which more are applied: of such a datagram no byte is received. It tells nothing of
-/// what passes.
+/// A port that ignores inputs beyond a last one, if there is a last one, and pieces of a snapshot
+/// in which more inputs are applied. It receives no byte of such a datagram. Its contract says
+/// nothing of its traffic.
 #[derive(Drop)]
 pub struct ExactPort<P> {
     port: P,
@@ -40,13 +40,15 @@ pub struct ExactPort<P> {
 impl<P> ExactPort<P> {
     ghost use Rattle.std.specs.Prelude.{◌≡◌};
 
+    /// Returns a port over `port` that ignores inputs beyond `last`, or no inputs if `last` is
+    /// `None`.
     pub fn new(port: P, last: Option<u32>) -> ExactPort<P>
         ensures { result.port ≡ port }
     {
         ExactPort { port, last }
     }
 
-    /// The port that it has.
+    /// Returns the inner port.
     pub fn port(&self) -> &P
         ensures { result.now ≡ self.now.port }
     {
@@ -54,7 +56,7 @@ impl<P> ExactPort<P> {
     }
 }
 
-/// How many bytes of a datagram are received.
+/// Returns how many bytes of a datagram are received.
 fn count_of(bytes: &[u8], last: Option<u32>) -> usize
     ensures { result ≡ count_of last bytes.now }
 {

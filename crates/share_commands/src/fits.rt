@@ -1,4 +1,4 @@
-//! Which steps a command's job may have.
+//! Which steps the job of a command may have.
 
 ghost use Rattle.std.specs.Prelude.{◌≡◌};
 ghost use Rattle.std.specs.Option.{option_copied};
@@ -18,7 +18,7 @@ fn is_point(cause: Cause) -> bool
     }
 }
 
-/// Whether it is something else than a point of this viewer.
+/// Reports whether the cause is anything but a point of this viewer.
 fn is_foreign(who: u8, cause: Cause) -> bool
     ensures { result ≡ is_foreign who cause }
 {
@@ -28,7 +28,7 @@ fn is_foreign(who: u8, cause: Cause) -> bool
     }
 }
 
-/// Whether it is a point of a viewer that isn't below so many.
+/// Reports whether the cause is a point of a viewer that isn't below `viewers`.
 fn is_beyond(viewers: u8, cause: Cause) -> bool
     ensures { result ≡ is_beyond viewers cause }
 {
@@ -38,7 +38,7 @@ fn is_beyond(viewers: u8, cause: Cause) -> bool
     }
 }
 
-/// Whether a command's job may not have this step.
+/// Reports whether the job of a command may not have this step.
 fn refuses(order: &Order, input: &Stamped) -> bool
     ensures { result ≡ refuses order.now input.now }
 {
@@ -56,9 +56,11 @@ fn first_refused<'a>(order: &Order, inputs: &'a [Stamped]) -> Option<&'a Stamped
     inputs.iter().find(|input| refuses(order, input))
 }
 
-/// Whether a command's job may have these steps: one of `agree` has clocks and points of its
-/// viewers, one of `host` clocks alone, one of `view` points of its viewer alone. `BadJob` tells
-/// the line of the first that it may not have. Takes no memory.
+/// Checks whether the job of a command may have these steps. A job of `agree` may have clocks and
+/// points of its viewers, one of `host` clocks only, and one of `view` points of its viewer only.
+/// Other commands take every step.
+///
+/// Fails with `BadJob` and the line of the first step that is refused. Allocates no memory.
 pub fn job_fits(inputs: &JobInputs, order: &Order) -> Result<(), JobFault>
     ensures { result ≡ fits order.now inputs.now }
 {

@@ -15,14 +15,14 @@ use share_turns::{HostPlan, SeriesFault, TurnFault, host_run};
 use std::alloc::{AllocError, Global};
 use x3d_values::Stamped;
 
-/// The times of inputs.
+/// Returns the times of inputs, in microseconds.
 fn times_of(alloc: Global, inputs: &[Stamped]) -> Result<Vec<i64>, AllocError>
     ensures { IfOk result (λ v. v.items ≡ times inputs.now) }
 {
     inputs.iter().map(|input| input.time()).collect(alloc)
 }
 
-/// Why a turn ended early, as a fault of the program.
+/// Returns why a turn ended early, as a fault of the program.
 pub(crate) fn share_fault(fault: TurnFault) -> ShareFault
     ensures { result ≡ share_fault fault }
 {
@@ -33,7 +33,7 @@ pub(crate) fn share_fault(fault: TurnFault) -> ShareFault
     }
 }
 
-/// Why a viewer can't begin in what it gathered, as a fault of the program.
+/// Returns why a viewer can't begin from what it gathered, as a fault of the program.
 fn join_fault(fault: SnapFault) -> ShareFault
     ensures { result ≡ join_fault fault }
 {
@@ -43,7 +43,7 @@ fn join_fault(fault: SnapFault) -> ShareFault
     }
 }
 
-/// Why turns didn't come to their end, as a fault of the program.
+/// Returns why a series of turns ended early, as a fault of the program.
 pub(crate) fn series_fault(fault: SeriesFault) -> ShareFault
     ensures { result ≡ series_fault fault }
 {
@@ -54,12 +54,12 @@ pub(crate) fn series_fault(fault: SeriesFault) -> ShareFault
     }
 }
 
-/// Turns of the host of a job's scene, so many at most, for viewers that are numbered from 0: 1 to
-/// `MAX_VIEWERS` of them. Each numbers the next of the job's clocks. The plan says what it keeps of
-/// its inputs, and when it is done. `count` is then how many inputs are numbered.
+/// Runs the host of a job's scene for at most `turns` turns. Its viewers, 1 to `MAX_VIEWERS` of
+/// them, are numbered from 0. Each turn numbers the next of the job's clocks. The plan says which
+/// inputs the host keeps, and when it is done. Sets `count` to the number of numbered inputs.
 ///
-/// `TurnsUsedUp` where it isn't done after so many turns, `Port` where a send or a receive failed,
-/// `Memory` where memory was refused.
+/// Fails with `TurnsUsedUp` if the host isn't done after `turns` turns, with `Port` if a send or a
+/// receive fails, and with `Memory` if memory is refused.
 pub fn host_job<P: Port>(
     alloc: Global,
     job: &SharedJob,
@@ -86,7 +86,7 @@ pub fn host_job<P: Port>(
     let done = host_run(&mut host, times.as_slice(), plan, turns, port);
     *count = host.len();
     match done {
-        // A host is dropped by a call: left to the exits, its drop is proved once for each of them.
+        // For the prover: an explicit call. The drop of a host would be proved at each exit.
         Ok(()) => {
             drop(host);
             Ok(())

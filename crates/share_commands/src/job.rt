@@ -1,4 +1,4 @@
-//! A job that several nodes do, from its bytes.
+//! A job for several nodes, from its bytes.
 
 ghost use Rattle.std.specs.Prelude.{◌≡◌};
 ghost use Rattle.x3d_lists.specs.Answers.{Gives};
@@ -14,7 +14,7 @@ use share_words::Order;
 use snapshot_codec::scene_mark;
 use std::alloc::Global;
 
-/// A scene with its routes and its mark, and the steps that several nodes take.
+/// A scene with its routes and its mark, and the inputs that several nodes apply.
 #[derive(Drop)]
 pub struct SharedJob {
     pub inputs: JobInputs,
@@ -38,7 +38,9 @@ fn shared(alloc: Global, bytes: &[u8]) -> Result<SharedJob, JobFault>
     })
 }
 
-/// The job of these bytes: first its lines, then its scene, then whether a command takes its steps.
+/// Returns the job of these bytes, for a command. Fails with the first fault of its lines, or else
+/// of its scene, or else with `BadJob` and the line of the first step that the command doesn't
+/// take. Fails with `Memory` if memory is refused.
 #[tactic(auto, unfolding(crate::specs::Jobs::fitting))]
 pub fn shared_job(alloc: Global, bytes: &[u8], order: &Order) -> Result<SharedJob, JobFault>
     ensures { Gives Memory (λ j. j) result (fitting order.now bytes.now) }
@@ -46,7 +48,7 @@ pub fn shared_job(alloc: Global, bytes: &[u8], order: &Order) -> Result<SharedJo
     let job = shared(alloc, bytes)?;
     match job_fits(&job.inputs, order) {
         Ok(()) => Ok(job),
-        // A job is dropped by a call: left to an exit, its drop is proved in place.
+        // For the prover: an explicit call. At an exit, the drop of a job is proved in place.
         Err(fault) => {
             drop(job);
             Err(fault)

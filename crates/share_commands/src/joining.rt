@@ -1,4 +1,4 @@
-//! The work of a host and its viewers, each at a port of its own.
+//! A host and its viewers do a job, each at a port of its own.
 
 ghost use Rattle.std.specs.Prelude.{◌≡◌, ◌≤◌, ◌⊎◌, IfOk, IfErr, Err, length};
 ghost use Rattle.x3d_values.specs.Ranges.{max_viewers};
@@ -25,24 +25,24 @@ use share_words::Order;
 use snapshot_codec::scene_mark;
 use std::alloc::{AllocError, Global};
 
-/// The steps of a job, and its viewers.
+/// The inputs of a job, and its viewers.
 #[derive(Drop)]
 pub struct JointJob {
     pub inputs: JobInputs,
     /// The SHA-256 of the scene's bytes.
     pub mark: [u8; 32],
-    /// Numbered from 0.
+    /// The viewers, in the order of their numbers from 0.
     pub viewers: Vec<Viewer<StockScript>>,
 }
 
 impl JointJob {
-    /// Ends the job with its viewers.
+    /// Drops the job with its viewers.
     pub fn close(self) {
         drop(self);
     }
 }
 
-/// The steps of a job, and a stage of its scene for each viewer.
+/// The inputs of a job, and a stage of its scene for each viewer.
 #[derive(Drop)]
 struct StagedJob {
     inputs: JobInputs,
@@ -50,8 +50,8 @@ struct StagedJob {
     stages: Vec<Stage<StockScript>>,
 }
 
-/// The job of these bytes, with so many stages of its scene: first its lines, then its scene, then
-/// whether a command takes its steps, then its scripts.
+/// Returns the job of these bytes, with `viewers` stages of its scene. Fails with the first fault
+/// of its lines, or else of its scene, or else of its steps, or else of its scripts.
 #[tactic(auto, unfolding(crate::specs::Jobs::staffed, crate::specs::Jobs::fitting, crate::specs::Jobs::shared))]
 fn staged_job(
     alloc: Global,
@@ -69,7 +69,7 @@ fn staged_job(
     let steps = job_of(alloc, bytes)?;
     let opened = open_scene(alloc, steps.scene)?;
     if let Err(fault) = job_fits(&steps.inputs, order) {
-        // A scene is dropped by a call: left to an exit, its drop is proved in place.
+        // For the prover: an explicit call. At an exit, the drop of a scene is proved in place.
         drop(opened);
         return Err(fault);
     }
@@ -82,7 +82,7 @@ fn staged_job(
     })
 }
 
-/// The same with a viewer for each stage.
+/// Returns the job with a viewer for each stage.
 fn with_viewers(alloc: Global, job: StagedJob) -> Result<JointJob, AllocError>
     requires fresh { AreFresh job.stages.items }
     requires most { length job.stages.items ≤ max_viewers }
@@ -104,9 +104,12 @@ fn with_viewers(alloc: Global, job: StagedJob) -> Result<JointJob, AllocError>
     })
 }
 
-/// The job of these bytes, with so many viewers of its scene, 1 to `MAX_VIEWERS`, in their first
-/// boots: first its lines, then its scene, then whether a command takes its steps, then its
-/// scripts.
+/// Returns the job of these bytes, with `viewers` viewers of its scene, 1 to `MAX_VIEWERS`, in
+/// their first boots.
+///
+/// Fails with the first fault of its lines, or else of its scene, or else with `BadJob` and the
+/// line of the first step that the command doesn't take, or else with the first fault of its
+/// scripts. Fails with `Memory` if memory is refused.
 pub fn joint_job(
     alloc: Global,
     bytes: &[u8],
@@ -131,13 +134,14 @@ fn count_of(viewers: &[Viewer<StockScript>]) -> u8
     viewers.len() as u8
 }
 
-/// Rounds of the host and the viewers of a job, each at a port of its own, that of the host with
-/// this number, until all the job's steps are issued and every viewer has applied them; so many
-/// rounds at most. In a round each node takes its turn, the host first. Then the line `agreed` with
-/// how many inputs there are, and the trace and the scene of viewer 0.
+/// Runs rounds of the host and the viewers of a job, each at a port of its own, until all the job's
+/// steps are issued and every viewer has applied them. There are at most `turns` rounds. In a round
+/// each node takes its turn, the host first. The host's port has number `own`. Returns the line
+/// `agreed` with the number of inputs, then the trace and the scene of viewer 0.
 ///
-/// `TurnsUsedUp` where it came to less, `Port` where a send or a receive failed, `Memory` where
-/// memory was refused, `Spoiled` where it was refused to a viewer before.
+/// Fails with `TurnsUsedUp` if the rounds were not enough, with `Port` if a send or a receive
+/// fails, with `Memory` if memory is refused, and with `Spoiled` if it was refused to a viewer
+/// earlier.
 pub fn agree_job<P: Port>(
     alloc: Global,
     job: &mut JointJob,
@@ -178,7 +182,7 @@ pub fn agree_job<P: Port>(
         ports,
         &mut text,
     ) {
-        // A host is dropped by a call: left to the exits, its drop is proved once for each of them.
+        // For the prover: an explicit call. The drop of a host would be proved at each exit.
         Ok(()) => {
             drop(host);
             Ok(text)

@@ -1,5 +1,5 @@
-//! The commands by which several nodes do a job: what a job may have, and the work of a host, of a
-//! viewer, and of both together, in memory or each at a port.
+//! The commands in which several nodes do a job: which steps a job may have, and the work of a
+//! host, of a viewer, and of both together, in memory or each at a port.
 #![tactic(auto)]
 
 mod brief;

@@ -1,42 +1,42 @@
-//! When a viewer's asks and offers are sent: not again while their answers may be under way.
+//! When a viewer sends its asks and offers: not again while their answers may be under way.
 
 ghost use Rattle.std.specs.Prelude.{◌≡◌, if◌then◌else◌, not};
 ghost use Rattle.share_commands.specs.Pace.{answered, asked, come, is_again, is_due, is_early};
 ghost use Rattle.share_commands.specs.Pace.{left, longer, measure, measured, offered, patience_for};
 
-/// The shortest and the longest time for which an answer is awaited, and a round trip before one
-/// was measured, all in microseconds.
+/// The shortest and the longest time to wait for an answer, and the round trip before one was
+/// measured, all in microseconds.
 const LEAST: u64 = 4_000;
 
 const MOST: u64 = 1_000_000;
 
 const UNKNOWN: u64 = 50_000;
 
-/// What is known of the asks and offers that a viewer sent. Times are microseconds of some clock,
-/// up to 2^64 - 1.
+/// What is known of the asks and offers that a viewer sent. Times are microseconds of a clock, up
+/// to 2^64 - 1.
 #[derive(Clone, Copy)]
 pub struct Pace {
-    /// How many acks are under way: one for each ask or offer.
+    /// How many answers are under way: one for each ask or offer.
     awaited: u32,
-    /// When an ask or an offer was last sent, or an input or an ack last came.
+    /// When an ask or an offer was last sent, or an input or an ack last came, whichever is later.
     since: u64,
-    /// For how long from then on an answer is awaited.
+    /// How long to wait for an answer from `since` on.
     patience: u64,
-    /// The round trip that was measured.
+    /// The measured round trip.
     trip: u64,
-    /// From which number on was asked last, and when.
+    /// The number that the last ask asked from, and when it was sent.
     next: u32,
     asked: u64,
-    /// When that was asked first since an answer came, and whether its first input is still to
+    /// When that number was first asked for since an answer came, and whether its input is still to
     /// come.
     begun: u64,
     measuring: bool,
-    /// Which offer was sent last, and when.
+    /// The number of the last offer, and when it was sent.
     number: u32,
     offered: u64,
 }
 
-/// For how long an answer is awaited where a round trip takes so long.
+/// Returns how long to wait for an answer if a round trip takes `trip` microseconds.
 fn patience_for(trip: u64) -> u64
     ensures { result ≡ patience_for trip }
 {
@@ -54,7 +54,7 @@ impl Pace {
     ghost use Rattle.share_commands.specs.Pace.{answered, asked, come, is_again, is_due, is_early};
     ghost use Rattle.share_commands.specs.Pace.{left, measure, measured, offered, unsent};
 
-    /// Nothing was sent.
+    /// Returns the pace before anything was sent.
     pub fn new() -> Pace
         ensures { result ≡ unsent }
     {
@@ -72,8 +72,8 @@ impl Pace {
         }
     }
 
-    /// For how many microseconds more an answer is awaited: 0 where none is. Whatever comes, it is
-    /// awaited for a second behind an ask at most.
+    /// Returns for how many more microseconds an answer is awaited, or 0 if none is. The wait ends
+    /// a second after the last ask at the latest.
     pub fn left(&self, now: u64) -> u64
         ensures { result ≡ left self.now now }
     {
@@ -84,15 +84,15 @@ impl Pace {
         end.min(self.asked.saturating_add(MOST)).saturating_sub(now)
     }
 
-    /// Whether an ask from this number on is the last one again, less than so long after it.
+    /// Reports whether an ask from this number on repeats the last one within `pause` microseconds.
     fn is_again(&self, next: u32, now: u64, pause: u64) -> bool
         ensures { result ≡ is_again self.now next now pause }
     {
         next == self.next && now < self.asked.saturating_add(pause)
     }
 
-    /// Whether an ask is due: no answer is awaited, and it isn't that from the number of the last
-    /// one less than `pause` microseconds after it, unless that had no answer.
+    /// Reports whether an ask is due: no answer is awaited, and the ask does not repeat the last
+    /// one within `pause` microseconds. A repeat is due if the last ask had no answer.
     fn is_due(&self, next: u32, now: u64, pause: u64) -> bool
         ensures { result ≡ is_due self.now next now pause }
     {
@@ -102,8 +102,9 @@ impl Pace {
         self.awaited > 0 || !self.is_again(next, now, pause)
     }
 
-    /// Whether an ask from this number on is sent now. Where the last one had no answer in time,
-    /// this one is given more.
+    /// Reports whether an ask from this number on is sent now, and if so, records that. If the last
+    /// ask had no answer in time, the wait for this one is longer. `now` and `pause` are
+    /// microseconds.
     pub fn asks(&mut self, next: u32, now: u64, pause: u64) -> bool
         ensures due { result ≡ is_due self.old next now pause }
         ensures state { self.new
@@ -126,7 +127,8 @@ impl Pace {
         true
     }
 
-    /// Whether the offer of this number is sent now: not again before an answer could come.
+    /// Reports whether the offer of this number is sent now, and if so, records that. The last
+    /// offer isn't sent again before an answer could come. `now` is in microseconds.
     pub fn offers(&mut self, number: u32, now: u64) -> bool
         ensures due { result ≡ not (is_early self.old number now) }
         ensures state { self.new
@@ -142,7 +144,7 @@ impl Pace {
         true
     }
 
-    /// An input or an ack came.
+    /// Records that an input or an ack came at `now`, in microseconds.
     pub fn comes(&mut self, now: u64)
         ensures { self.new ≡ come self.old now }
     {
@@ -150,16 +152,16 @@ impl Pace {
         self.patience = patience_for(self.trip);
     }
 
-    /// An ack came.
+    /// Records that an ack came: one awaited answer less.
     pub fn is_answered(&mut self)
         ensures { self.new ≡ answered self.old }
     {
         self.awaited = self.awaited.saturating_sub(1);
     }
 
-    /// An input came: the first that was asked for tells how long a round trip takes. Where it was
-    /// asked for more than once nobody knows which ask it answers, and the measure grows by an
-    /// eighth at most.
+    /// Records that an input came. The first input that was asked for gives the round trip. If it
+    /// was asked for more than once, the ask that it answers is unknown, so the measure grows by at
+    /// most an eighth.
     pub fn measures(&mut self, number: u32, now: u64)
         ensures { self.new ≡ measured self.old number now }
     {

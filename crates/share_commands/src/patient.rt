@@ -1,4 +1,4 @@
-//! A port that waits where nothing comes, and sends nothing again whose answer may be under way.
+//! A port that waits if nothing comes, and sends nothing again while its answer may be under way.
 
 ghost use Rattle.std.specs.Prelude.{◌≡◌, false};
 ghost use Rattle.share_commands.specs.Pace.{first_rest, next_rest, unsent};
@@ -10,17 +10,21 @@ use share_port::{Port, PortFault, RECEIVED};
 use std::thread;
 use std::time::{Clock, Duration};
 
-/// How long a port rests at least and at most, in milliseconds.
+/// The shortest and the longest rest of a port, in milliseconds.
 const SHORTEST: u32 = 1;
 
 const LONGEST: u32 = 50;
 
-/// A port that rests between two turns: not at all where the turn before brought something new and
-/// datagrams came in it, a millisecond where they didn't, and else until a datagram comes, at most
-/// twice as long as the last time and at most 50 milliseconds. An ask or an offer is held back, as
-/// if it were lost, while the answers to those before may be under way, and so is an ask that is
-/// the last one again until it has rested; while answers are under way a receive waits for them, 50
-/// milliseconds at most. It tells nothing of what passes.
+/// A port that rests between turns, and holds back asks and offers.
+///
+/// If the turn brought something new, the rest is none if datagrams came in the turn, and a
+/// millisecond if not. Otherwise the rest lasts until a datagram comes, at most twice as long as
+/// the last rest and at most 50 milliseconds.
+///
+/// An ask or an offer is dropped, as if lost, while the answers to earlier ones may be under way.
+/// So is an ask that repeats the last one before the port has rested. While answers are under way a
+/// receive waits for them, at most 50 milliseconds. The port's contract says nothing of its
+/// traffic.
 #[derive(Drop)]
 pub struct PatientPort<P, C> {
     port: P,
@@ -31,7 +35,7 @@ pub struct PatientPort<P, C> {
 }
 
 impl<P, C> PatientPort<P, C> {
-    /// A port that hasn't sent anything, nor rested.
+    /// Returns a port over `port` that hasn't sent anything or rested.
     pub fn new(port: P, clock: C) -> PatientPort<P, C>
         ensures port { result.port ≡ port }
         ensures pace { result.pace ≡ unsent }
@@ -47,14 +51,14 @@ impl<P, C> PatientPort<P, C> {
         }
     }
 
-    /// The port that it has.
+    /// Returns the inner port.
     pub fn port(&self) -> &P
         ensures { result.now ≡ self.now.port }
     {
         &self.port
     }
 
-    /// Another turn ends: how long its rest is, and whether datagrams came in it.
+    /// Ends a turn: sets the length of its rest, and reports whether datagrams came in the turn.
     fn end_turn(&mut self, is_new: bool) -> bool
         ensures came { result ≡ self.old.came }
         ensures state { self.new
@@ -67,7 +71,7 @@ impl<P, C> PatientPort<P, C> {
     }
 }
 
-/// How long the next rest is, after one of so many milliseconds.
+/// Returns the length of the next rest, after one of `rest` milliseconds.
 fn next_rest(rest: u32, is_new: bool) -> u32
     ensures { result ≡ next_rest rest is_new }
 {
@@ -78,8 +82,8 @@ fn next_rest(rest: u32, is_new: bool) -> u32
     }
 }
 
-/// What a clock shows, in microseconds; one that fails shows the last time there is, at which no
-/// answer is under way.
+/// Returns the time of a clock in microseconds. If the clock fails, returns the last time there is,
+/// at which no answer is under way.
 fn time_of<C: Clock>(clock: &C) -> u64 {
     match clock.monotonic() {
         Ok(time) => u64::try_from(time.as_micros()).unwrap_or(u64::MAX),
@@ -87,7 +91,7 @@ fn time_of<C: Clock>(clock: &C) -> u64 {
     }
 }
 
-/// So many microseconds in milliseconds, rounded down; no more than the longest rest.
+/// Returns microseconds in milliseconds, rounded down, but no more than the longest rest.
 fn millis_of(micros: u64) -> u32 {
     u32::try_from(micros / 1000).unwrap_or(LONGEST).min(LONGEST)
 }
@@ -96,7 +100,7 @@ impl<P: Port, C: Clock> PatientPort<P, C> {
     ghost use Rattle.std.specs.Prelude.{◌≡◌, ◌≤◌, ⊤, MatchOption, MatchResult};
     ghost use Rattle.share_port.specs.Told.{counted};
 
-    /// Whether a datagram is sent now.
+    /// Reports whether a datagram is sent now.
     fn is_due(&mut self, bytes: &[u8]) -> bool
         ensures { self.new.port ≡ self.old.port }
     {
@@ -108,7 +112,7 @@ impl<P: Port, C: Clock> PatientPort<P, C> {
         }
     }
 
-    /// One was received.
+    /// Records a datagram that was received.
     fn take_note(&mut self, bytes: &[u8])
         ensures { self.new.port ≡ self.old.port }
     {
@@ -127,7 +131,7 @@ impl<P: Port, C: Clock> PatientPort<P, C> {
         }
     }
 
-    /// Nothing has come: waits for answers that are under way.
+    /// Waits for answers that are under way, after a receive that got nothing.
     fn receive_late(&mut self, into: &mut [u8; RECEIVED]) -> Result<Option<(u16, usize)>, PortFault>
         ensures got { MatchResult result
             (λ came. MatchOption came ⊤ (λ r. (r.1 ≤ max_received) × ⊤)) (λ _. ⊤) }

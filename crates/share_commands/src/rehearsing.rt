@@ -1,4 +1,4 @@
-//! The work of a host and its viewers in memory.
+//! A host and its viewers go through a schedule in memory.
 
 ghost use Rattle.std.specs.Prelude.{◌≡◌, ◌≤◌, ◌⊎◌, IfOk, IfErr, Err, length};
 ghost use Rattle.x3d_values.specs.Ranges.{max_viewers};
@@ -17,7 +17,7 @@ use share_rehearsal::rehearse;
 use snapshot_codec::scene_mark;
 use std::alloc::{AllocError, Global};
 
-/// The log of steps, by viewers with these stages and their host.
+/// Returns the log of steps, run by viewers with these stages and their host.
 fn log_of(
     alloc: Global,
     stages: Vec<Stage<StockScript>>,
@@ -31,7 +31,7 @@ fn log_of(
 {
     let mut log = Vec::new(alloc);
     match rehearse(alloc, stages, mark, steps, &mut log) {
-        // What is left is dropped by a call: left to the exit, its drop is proved in place.
+        // For the prover: an explicit call. At an exit, the drop of `left` is proved in place.
         Ok(left) => {
             drop(left);
             Ok(log)
@@ -40,7 +40,7 @@ fn log_of(
     }
 }
 
-/// The log of a schedule.
+/// Returns the log of a schedule.
 fn schedule_log(alloc: Global, schedule: &Schedule, viewers: u8) -> Result<Vec<u8>, JobFault>
     requires some { 1 ≤ viewers }
     requires most { viewers ≤ max_viewers }
@@ -53,11 +53,12 @@ fn schedule_log(alloc: Global, schedule: &Schedule, viewers: u8) -> Result<Vec<u
     Ok(log_of(alloc, stages, scene_mark(text), schedule.steps.as_slice())?)
 }
 
-/// A host and so many viewers of a schedule's scene, 1 to `MAX_VIEWERS`, in memory go through its
-/// steps: a line of each step's number and its answer, and then what each viewer is left with.
+/// Runs a host and `viewers` viewers of a schedule's scene, 1 to `MAX_VIEWERS`, in memory through
+/// the steps of the schedule. Returns the log: a line with each step's number and its answer, and
+/// then what each viewer is left with. What a host or a viewer refuses is logged.
 ///
-/// First the schedule's lines are read, then its scene, then its scripts; what a host or a viewer
-/// refuses is logged.
+/// Fails with the first fault of the schedule's lines, or else of its scene, or else of its
+/// scripts, or with `Memory` if memory is refused.
 pub fn rehearse_job(alloc: Global, bytes: &[u8], viewers: u8) -> Result<Vec<u8>, JobFault>
     requires some { 1 ≤ viewers }
     requires most { viewers ≤ max_viewers }

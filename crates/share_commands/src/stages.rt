@@ -12,7 +12,7 @@ use share_jobs::JobFault;
 use share_stages::stage_of;
 use std::alloc::Global;
 
-/// So many stages of a text's scene, of which the first is given. They are refused for memory
+/// Returns `count` stages of a text's scene, the first of which is given. Fails with `Memory`
 /// alone.
 pub(crate) fn with_others(
     alloc: Global,
@@ -35,7 +35,7 @@ pub(crate) fn with_others(
     Ok(stages)
 }
 
-/// So many stages of a text's scene, one at least, before any input.
+/// Returns `count` stages of a text's scene, at least one, before any input.
 pub(crate) fn stages_of(
     alloc: Global,
     text: &[u8],

@@ -1,4 +1,4 @@
-//! A port that tells on standard error what comes to pass.
+//! A port that reports events on standard error.
 
 ghost use Rattle.std.specs.Prelude.{◌≡◌};
 
@@ -6,8 +6,8 @@ use crate::watch::{Note, Tally, Watch};
 use share_port::{Port, PortFault, RECEIVED};
 use std::io::Eprint;
 
-/// A port that watches what passes, and tells of it on standard error where it is to. A standard
-/// error that fails is nothing to a run.
+/// A port that watches its datagrams, and reports events on standard error if it is verbose. A
+/// standard error that fails doesn't affect the run.
 #[derive(Drop)]
 pub struct TellingPort<P, R> {
     port: P,
@@ -19,6 +19,7 @@ pub struct TellingPort<P, R> {
 impl<P, R: Eprint> TellingPort<P, R> {
     ghost use Rattle.std.specs.Prelude.{◌≡◌};
 
+    /// Returns a port over `port`, which reports what `watch` notes if `verbose` is set.
     pub fn new(port: P, rt: R, verbose: bool, watch: Watch) -> TellingPort<P, R>
         ensures { result.port ≡ port }
     {
@@ -30,7 +31,7 @@ impl<P, R: Eprint> TellingPort<P, R> {
         }
     }
 
-    /// How much passed, where it is to tell.
+    /// Returns how much passed; nothing is counted unless the port is verbose.
     pub fn tally(&self) -> Tally {
         self.watch.tally()
     }

@@ -33,7 +33,7 @@ fn push_pointed(cause: Cause, points: &mut Vec<Point>) -> Result<(), AllocError>
     }
 }
 
-/// What a viewer is asked to point.
+/// Returns the points that a viewer is asked to offer.
 fn points_of(alloc: Global, inputs: &[Stamped]) -> Result<Vec<Point>, AllocError>
     ensures { IfOk result (λ v. v.items ≡ points inputs.now) }
 {
@@ -44,7 +44,7 @@ fn points_of(alloc: Global, inputs: &[Stamped]) -> Result<Vec<Point>, AllocError
     Ok(points)
 }
 
-/// The viewer of a job's scene, before any input, unless the scene's scripts are refused.
+/// Returns the viewer of a job's scene, before any input, unless the scene's scripts are refused.
 fn viewer_of(
     alloc: Global,
     job: SharedJob,
@@ -67,8 +67,8 @@ fn viewer_of(
     Ok(Viewer::start(stage, mark, who, boot))
 }
 
-/// As which boot a viewer begins: one that joins begins below the boot by which it will, so that
-/// this is new.
+/// Returns the boot with which a viewer begins. A viewer that joins begins with the boot before
+/// `boot`, if there is one, so that its boot is new when it joins.
 pub fn first_boot(boot: u32, joins: bool) -> u32
     requires { 1 ≤ boot }
     ensures value { result ≡ first_boot boot joins }
@@ -77,7 +77,7 @@ pub fn first_boot(boot: u32, joins: bool) -> u32
     if joins { (boot - 1).max(1) } else { boot }
 }
 
-/// A viewer of a job's scene, and what it is asked to point.
+/// A viewer of a job's scene, and the points that it is asked to offer.
 #[derive(Drop)]
 pub struct Seat {
     pub viewer: Viewer<StockScript>,
@@ -85,7 +85,7 @@ pub struct Seat {
 }
 
 impl Seat {
-    /// Ends the viewer.
+    /// Drops the viewer.
     pub fn close(self) {
         drop(self);
     }
@@ -100,7 +100,7 @@ fn seat_of(alloc: Global, job: SharedJob, who: u8, boot: u32) -> Result<Seat, Jo
     ensures err { IfErr result (λ f. (f ≡ Memory) ⊎ (scripts_refusal job.scene ≡ Some f)) }
 {
     let Ok(points) = points_of(alloc, job.inputs.as_slice()) else {
-        // A job is dropped by a call: left to an exit, its drop is proved in place.
+        // For the prover: an explicit call. At an exit, the drop of a job is proved in place.
         drop(job);
         return Err(JobFault::Memory);
     };
@@ -108,8 +108,12 @@ fn seat_of(alloc: Global, job: SharedJob, who: u8, boot: u32) -> Result<Seat, Jo
     Ok(Seat { viewer, points })
 }
 
-/// The job of these bytes as that of a viewer, as this boot, before any input: first its lines,
-/// then its scene, then whether a command takes its steps, then its scripts.
+/// Returns the viewer of the job of these bytes, with this boot and before any input, and its
+/// points.
+///
+/// Fails with the first fault of the job's lines, or else of its scene, or else with `BadJob` and
+/// the line of the first step that the command doesn't take, or else with the first fault of its
+/// scripts. Fails with `Memory` if memory is refused.
 #[tactic(auto, unfolding(crate::specs::Jobs::staffed))]
 pub fn seated_job(
     alloc: Global,
@@ -128,13 +132,13 @@ pub fn seated_job(
     seat_of(alloc, job, who, boot)
 }
 
-/// What a viewer does as its plan says: its trace and then its scene. Each of its points is offered
-/// to the host.
+/// Runs a viewer as its plan says, and offers each of its points to the host. Returns the trace and
+/// then the scene of the viewer.
 ///
-/// `TurnsUsedUp` where its turns came to less, `Port` where a send or a receive failed, `Memory`
-/// where memory was refused, `Spoiled` where it was refused to the viewer before. Where it was to
-/// join: `BootNotNew`, where its boot isn't above that of the snapshot that it gathered;
-/// `BadSnapshot`, where that is none of its scene.
+/// Fails with `TurnsUsedUp` if its turns were not enough, with `Port` if a send or a receive fails,
+/// with `Memory` if memory is refused, and with `Spoiled` if it was refused to the viewer earlier.
+/// A viewer that joins also fails with `BootNotNew` if its boot isn't above that of the gathered
+/// snapshot, and with `BadSnapshot` if what it gathered is not a snapshot of its scene.
 pub fn view_job<P: Port>(
     alloc: Global,
     seat: &mut Seat,

@@ -1,23 +1,24 @@
-//! What is seen of a run at a port: who comes, what is refused and why, and how much passes.
+//! What is seen of a run at a port: which viewers come, what is refused and why, and how much
+//! passes.
 
 use crate::brief::{Brief, Came, brief_of, how_came};
 use std::fmt;
 use x3d_values::MAX_VIEWERS;
 
-/// After how many turns in which nothing came a viewer says so.
+/// After this many turns in which nothing came, a viewer reports that.
 const SILENT: u64 = 20;
 
-/// A place for each viewer.
+/// One place for each viewer.
 const PLACES: usize = MAX_VIEWERS as usize;
 
-/// How much passed, up to 2^64 - 1 of each.
+/// How much passed. Each count stops at 2^64 - 1.
 #[derive(Clone, Copy)]
 pub struct Tally {
     pub turns: u64,
-    /// Datagrams.
+    /// How many datagrams were received.
     pub received: u64,
     pub sent: u64,
-    /// Of a host: how many offers it numbered.
+    /// How many offers were numbered; counted at a host.
     pub points: u64,
 }
 
@@ -31,7 +32,7 @@ impl fmt::Display for Tally {
     }
 }
 
-/// Why a datagram is dropped, in the order in which that is looked for.
+/// Why a datagram is dropped, in the order of the tests.
 #[derive(Clone, Copy, PartialEq, Eq)]
 pub enum Refusal {
     Foreign,
@@ -60,14 +61,14 @@ impl Refusal {
     }
 }
 
-/// What is told of a run; a peer is its port.
+/// An event of a run. A peer is given by its port.
 #[derive(Clone, Copy, PartialEq, Eq)]
 pub enum Note {
     /// A host first hears of this viewer.
     Viewer(u8, u16),
-    /// A datagram of this peer is dropped, the first for that cause.
+    /// A datagram of this peer is dropped, the first for this reason.
     Dropped(Refusal, u16),
-    /// Nothing has come to a viewer.
+    /// Nothing has come to a viewer yet.
     NoAnswer,
 }
 
@@ -81,23 +82,23 @@ impl fmt::Display for Note {
     }
 }
 
-/// Whose port it is.
+/// The node that has the port.
 #[derive(Clone, Copy)]
 pub enum Node {
-    /// A host of so many viewers.
+    /// A host of this many viewers.
     Host(u8),
-    /// A viewer as this boot.
+    /// A viewer with this boot.
     Viewer(u32),
 }
 
-/// What was seen of a run of the scene with a mark.
+/// What was seen of a run of the scene with this mark.
 #[derive(Clone, Copy)]
 pub struct Watch {
     mark: [u8; 32],
     node: Node,
     heard: [bool; PLACES],
-    /// The highest boot of an offer of each viewer, and how many offers of its boot are numbered,
-    /// as the host's acks say.
+    /// The highest boot of each viewer's offers; and the boot and the count of the last ack that
+    /// was sent to each viewer.
     boots: [u32; PLACES],
     acked: [(u32, u32); PLACES],
     told: [bool; 4],
@@ -105,7 +106,7 @@ pub struct Watch {
 }
 
 impl Watch {
-    /// Nothing was seen.
+    /// Returns a watch that has seen nothing, for a run of the scene with this mark.
     pub fn new(mark: [u8; 32], node: Node) -> Watch {
         Watch {
             mark,
@@ -123,11 +124,13 @@ impl Watch {
         }
     }
 
+    /// Returns how much passed until now.
     pub fn tally(&self) -> Tally {
         self.tally
     }
 
-    /// Whether an offer's boot is below one that came before; else it is the highest.
+    /// Reports whether an offer's boot is below an earlier one of the viewer; else records it as
+    /// the highest.
     fn is_old(&mut self, who: u8, boot: u32) -> bool {
         match self.boots.get_mut(who as usize) {
             Some(highest) if boot < *highest => true,
@@ -139,7 +142,7 @@ impl Watch {
         }
     }
 
-    /// Why a host of so many viewers drops what a datagram of its scene says.
+    /// Returns why a host of `viewers` viewers drops what a datagram of its scene says.
     fn host_refusal(&mut self, brief: Brief, viewers: u8) -> Option<Refusal> {
         match brief {
             Brief::Ask { who, .. } | Brief::Offer { who, .. } if who >= viewers => {
@@ -150,7 +153,7 @@ impl Watch {
         }
     }
 
-    /// Why the bytes of a datagram are dropped.
+    /// Returns why the bytes of a datagram are dropped.
     fn refusal(&mut self, bytes: &[u8]) -> Option<Refusal> {
         let brief = match how_came(bytes, &self.mark) {
             Came::Foreign => return Some(Refusal::Foreign),
@@ -164,7 +167,7 @@ impl Watch {
         }
     }
 
-    /// Tells of a refusal, the first of its kind.
+    /// Returns the note of a refusal, if it is the first for this reason.
     fn dropped(&mut self, why: Refusal, peer: u16) -> Option<Note> {
         let told = self.told.get_mut(why.place())?;
         if *told {
@@ -174,7 +177,8 @@ impl Watch {
         Some(Note::Dropped(why, peer))
     }
 
-    /// Tells of the viewer that sent these bytes to a host, where it first hears of it.
+    /// Returns the note of the viewer that sent these bytes to a host, if the host first hears of
+    /// it.
     fn first_heard(&mut self, bytes: &[u8], peer: u16) -> Option<Note> {
         let Node::Host(_) = self.node else {
             return None;
@@ -191,7 +195,7 @@ impl Watch {
         Some(Note::Viewer(who, peer))
     }
 
-    /// A datagram comes from a peer: what is told of that.
+    /// Records a datagram from a peer, and returns the note that it causes.
     pub fn comes(&mut self, peer: u16, bytes: &[u8]) -> Option<Note> {
         self.tally.received = self.tally.received.saturating_add(1);
         match self.refusal(bytes) {
@@ -200,7 +204,8 @@ impl Watch {
         }
     }
 
-    /// An ack is sent: more offers of a viewer may be numbered than it said before.
+    /// Records an ack that is sent, which may say that more offers of a viewer are numbered than
+    /// before.
     fn acks(&mut self, who: u8, boot: u32, count: u32) {
         let Some(acked) = self.acked.get_mut(who as usize) else {
             return;
@@ -211,7 +216,7 @@ impl Watch {
         self.tally.points = self.tally.points.saturating_add(more);
     }
 
-    /// A datagram is sent.
+    /// Records a datagram that is sent.
     pub fn goes(&mut self, bytes: &[u8]) {
         self.tally.sent = self.tally.sent.saturating_add(1);
         if let Brief::Ack { who, boot, count } = brief_of(bytes) {
@@ -219,7 +224,7 @@ impl Watch {
         }
     }
 
-    /// A turn is over: what is told of that.
+    /// Records the end of a turn, and returns the note that it causes.
     pub fn rests(&mut self) -> Option<Note> {
         self.tally.turns = self.tally.turns.saturating_add(1);
         match self.node {

@@ -1,4 +1,4 @@
--- Why boxes are not those of a scene's scripts.
+-- Why boxes do not fit the scripts of a scene.
 use Rattle.std.specs.Prelude.{⊤, List}
 use Rattle.scene_core.specs.Scene.{SceneView}
 use Rattle.script_running.specs.Scripts.{script_list}
@@ -9,7 +9,8 @@ use Rattle.script_host.specs.declared.fault.AttachFault.TheVariants as attach
 use Rattle.share_io.specs.declared.fault.RunFault.{RunFault}
 use Rattle.share_io.specs.declared.fault.RunFault.TheVariants as run_fault
 
--- the boxes aren't those that the scene's scripts ask for, for this reason; want of memory is none
+-- the boxes are not those that the scene's scripts ask for, for this reason. A refusal of memory is
+-- not such a reason
 abbrev pub RefusesBoxes : AttachFault → SceneView → List SlotView → Type 0
 RefusesBoxes attach.Memory scene boxes = ⊥
 RefusesBoxes fault scene boxes = Refuses fault (script_list scene) boxes

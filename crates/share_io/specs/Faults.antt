@@ -1,4 +1,4 @@
--- What a fault of reading, of writing or of boxes is to a job and to its run.
+-- The faults of reading, of writing and of boxes, as faults of a job and of its run.
 use Rattle.script_host.specs.declared.fault.AttachFault.{AttachFault}
 use Rattle.script_host.specs.declared.fault.AttachFault.TheVariants as attach
 use Rattle.share_jobs.specs.declared.fault.JobFault.{JobFault}
@@ -16,7 +16,7 @@ abbrev pub run_fault_of : StreamFault → RunFault
 run_fault_of stream.Device = run.Device
 run_fault_of stream.Memory = run.Memory
 
--- the fault of boxes as one of a run: want of memory is the run's own
+-- the fault of boxes as one of a run. A refusal of memory becomes the run's own
 abbrev pub run_fault_of_boxes : AttachFault → RunFault
 run_fault_of_boxes attach.Memory = run.Memory
 run_fault_of_boxes fault = run.Attach fault

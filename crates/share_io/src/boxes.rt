@@ -1,4 +1,4 @@
-//! The boxes of a scene's scripts.
+//! Boxes for the scripts of a scene.
 
 ghost use Rattle.std.specs.Prelude.{◌≡◌, OnOk, IfOk, IfErr, map};
 ghost use Rattle.cascade_core.specs.Scripts.{scripts_in};
@@ -14,8 +14,11 @@ use script_host::{Behaviour, Scripts};
 use script_running::script_list;
 use std::alloc::Global;
 
-/// The scripts of a scene with these boxes, none of which is initialized, as a stage of the scene
-/// takes them. Where they are refused the boxes are dropped.
+/// Returns the scripts of a scene with these boxes, none of which is initialized, as a stage of the
+/// scene takes them.
+///
+/// Fails with `Attach` if the boxes are not those that the scene's scripts ask for, and with
+/// `Memory` if memory is refused. On failure the boxes are dropped.
 pub fn attach<B: Behaviour>(
     alloc: Global,
     scene: &Scene,

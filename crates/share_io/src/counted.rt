@@ -1,22 +1,22 @@
-//! A reader that counts how often it was read.
+//! A reader that counts its reads.
 
 ghost use Rattle.std.specs.Prelude.{◌≡◌, ◌+◌, ◌-◌, ◌^◌, ◌<◌, ◌≤◌, ◌||◌, false, length};
 ghost use Rattle.share_io.specs.Came.{Comes, IsWithin, is_end, is_failed};
 
 use std::io::{ErrorKind, Read};
 
-/// What one read came to.
+/// The result of one read.
 #[derive(Clone, Copy)]
 pub enum Came {
-    /// So many bytes, one or more.
+    /// This many bytes, one or more.
     Bytes(usize),
     End,
     Interrupted,
     Failed,
 }
 
-/// A reader, how often it was read, whether one of these reads failed, and whether the last of them
-/// came to the end. Who holds one reads by `read` alone, so that every read is counted.
+/// A reader with the number of its reads, whether one of them failed, and whether the last of them
+/// reached the end. A holder reads by `read` alone, so every read is counted.
 #[derive(Drop)]
 pub struct Counted<'r, R> {
     reader: &'r mut R,
@@ -26,7 +26,7 @@ pub struct Counted<'r, R> {
 }
 
 impl<'r, R: Read> Counted<'r, R> {
-    /// A reader before the first read.
+    /// Returns a reader that has not been read.
     pub fn new(reader: &'r mut R) -> Counted<'r, R>
         ensures same_reference { result.reader.ghost_name ≡ reader.entry.ghost_name }
         ensures value { result.reader.now ≡ reader.old }
@@ -42,14 +42,14 @@ impl<'r, R: Read> Counted<'r, R> {
         }
     }
 
-    /// How often it was read.
+    /// Returns the number of reads.
     pub fn reads(&self) -> u32
         ensures { result ≡ self.now.reads }
     {
         self.reads
     }
 
-    /// Reads once.
+    /// Reads once into `part`, and counts the read. `part` has room for at least one byte.
     pub fn read(&mut self, part: &mut [u8]) -> Came
         requires room { self.old.reads < 2 ^ 32 - 1 }
         requires part { 0 < length part.old }
@@ -87,7 +87,7 @@ fn is_end(came: Came) -> bool
     }
 }
 
-/// What a read comes to.
+/// Reads once, and returns the result.
 fn came_of<R: Read>(reader: &mut R, part: &mut [u8]) -> Came
     requires { 0 < length part.old }
     ensures bytes { Comes (R.remaining reader.old) (R.remaining reader.new) part.new result }

@@ -1,4 +1,4 @@
-//! Why a run comes to no end: the faults of its input, its output and its boxes.
+//! Why a run ends early: the faults of its input, its output and its boxes.
 
 ghost use Rattle.std.specs.Prelude.{◌≡◌};
 ghost use Rattle.share_io.specs.Faults.{job_fault_of, run_fault_of, run_fault_of_boxes};

@@ -1,5 +1,5 @@
-//! The ends of a run: an input read whole, an output written whole, the boxes of a scene's scripts,
-//! and the texts that a run writes.
+//! The input and the output of a run: an input read whole, an output written whole, the boxes of a
+//! scene's scripts, and the texts that a run writes.
 #![tactic(auto)]
 
 mod boxes;

@@ -9,10 +9,10 @@ use std::alloc::{AllocError, Global};
 use std::io::{Read, Write};
 use thiserror::Error;
 
-/// No call reads more often, so that an input without an end ends with `Device`.
+/// The limit of reads of one call. An input without an end fails with `Device`.
 pub const MAX_READS: u32 = 1 << 27;
 
-/// The bytes that one read asks for.
+/// How many bytes one read asks for.
 const PART: usize = 4096;
 
 /// Why an input is not read, or an output not written.
@@ -32,19 +32,23 @@ impl From<AllocError> for StreamFault {
     }
 }
 
-/// All bytes that the reader has left. A read that was interrupted is tried again.
+/// Reads to the end, and returns all bytes. An interrupted read is tried again, and counts as a
+/// read.
+///
+/// Fails with `Device` if a read fails or if the end is not reached in `MAX_READS` reads, and with
+/// `Memory` if memory is refused.
 pub fn read_whole<R: Read>(alloc: Global, reader: &mut R) -> Result<Vec<u8>, StreamFault>
     ensures bytes { IfOk result
         (λ v. Consumes (R.remaining reader.old) (R.remaining reader.new) v.items) }
     ensures end { OnOk result (IsAtEnd (R.remaining reader.new)) }
-    // It gave no more than so many reads do.
+    // No more bytes than `MAX_READS` reads give.
     ensures few { IfOk result (λ v. length v.items ≤ 2 ^ 27 * 4096) }
 {
     let mut counted = Counted::new(reader);
     read_counted(alloc, &mut counted)
 }
 
-/// The same of a reader that counts, by 2^27 reads at most.
+/// Like `read_whole`, for a reader that counts its reads.
 fn read_counted<R: Read>(alloc: Global, reader: &mut Counted<'_, R>) -> Result<Vec<u8>, StreamFault>
     requires unread { reader.old.reads ≡ 0 }
     requires good { reader.old.failed ≡ false }
@@ -55,17 +59,17 @@ fn read_counted<R: Read>(alloc: Global, reader: &mut Counted<'_, R>) -> Result<V
     ensures end { OnOk result (IsAtEnd (R.remaining reader.new.reader.now)) }
     ensures long { IfOk result (λ v. length v.items ≤ reader.new.reads * 4096) }
     ensures few { reader.new.reads ≤ 2 ^ 27 }
-    // The last read came to the end, and none before it failed.
+    // The last read reached the end, and none before it failed.
     ensures ended { OnOk result (reader.new.ended ≡ true) }
     ensures good { OnOk result (reader.new.failed ≡ false) }
-    // A read failed, or all reads were made and none came to the end.
+    // A read failed, or all reads were made and none reached the end.
     ensures device { IfErr result (λ f. f ≡ Device → (reader.new.failed ≡ true)
         ⊎ ((reader.new.reads ≡ 2 ^ 27) × (reader.new.ended ≡ false))) }
 {
     read_up_to(alloc, MAX_READS, reader)
 }
 
-/// The same by so many reads at most.
+/// Like `read_counted`, by at most `limit` reads.
 fn read_up_to<R: Read>(
     alloc: Global,
     limit: u32,
@@ -98,7 +102,8 @@ fn read_up_to<R: Read>(
     Err(StreamFault::Device)
 }
 
-/// Writes all bytes, and leaves none in a buffer. It takes no memory.
+/// Writes all bytes and flushes the writer. Allocates no memory. Fails with `Device` if the writer
+/// fails.
 pub fn write_whole<W: Write>(writer: &mut W, bytes: &[u8]) -> Result<(), StreamFault>
     ensures ok { OnOk result (Appends (W.contents writer.old) (W.contents writer.new) bytes.now) }
     ensures device { IfErr result (λ f. f ≡ Device) }

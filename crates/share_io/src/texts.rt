@@ -1,4 +1,4 @@
-//! What a run writes of its stage, and that nothing is written where it is refused.
+//! What a run writes of its stage. Nothing is written if the text was refused.
 
 ghost use Rattle.std.specs.Prelude.{◌≡◌, ◌++◌, Err, OnOk, IfErr, MatchResult};
 ghost use Rattle.std.specs.Io.KnownBytes.{Appends, Keeps};
@@ -13,7 +13,8 @@ use script_host::Behaviour;
 use share_jobs::JobFault;
 use std::io::Write;
 
-/// Appends the trace and then the scene of a stage; a spoiled one has no texts.
+/// Appends the trace and then the scene of a stage. Fails with `Spoiled` if the stage is spoiled,
+/// which has no texts, and with `Memory` if memory is refused.
 pub fn push_texts<B: Behaviour>(stage: &Stage<B>, out: &mut Vec<u8>) -> Result<(), TextFault>
     ensures refused { IfSpoiled stage.now.held (result ≡ Err TextFault.Spoiled) }
     ensures ok { IfRunning stage.now.held (λ w.
@@ -26,7 +27,8 @@ pub fn push_texts<B: Behaviour>(stage: &Stage<B>, out: &mut Vec<u8>) -> Result<(
     Ok(())
 }
 
-/// Writes a text that was made; where it was refused, nothing.
+/// Writes a text that was made. If the text was refused, writes nothing and returns that fault.
+/// Fails with `Device` if the writer fails.
 pub fn write_made<W: Write>(writer: &mut W, made: Result<Vec<u8>, JobFault>) -> Result<(), JobFault>
     ensures { MatchResult made
         (λ text. MatchResult result

@@ -1,4 +1,4 @@
--- The faults of the layers, as faults of a job: each want of memory is the job's own.
+-- The faults of the layers, as faults of a job. A layer's refusal of memory becomes the job's own.
 use Rattle.std.specs.Prelude.{if◌then◌else◌}
 use denote.Enum.Bare.{sameb}
 use Rattle.classic_text.specs.declared.fault.ReadFault.{ReadFault}

@@ -13,13 +13,13 @@ unfoldable pub use Rattle.share_rules.specs.Words.{word, behind}
 
 -- ---- numbers
 
--- the whole units of a numeral, where they are below a limit
+-- the whole units of a numeral, if they are below a limit
 abbrev pub units_below : ℕ → Option ℤ → Option ℕ
 units_below limit (Some (pos n)) = if nat_lt (n / 1000000) limit then Some (n / 1000000) else None
 units_below limit (Some (negsuc n)) = None
 units_below limit None = None
 
--- a number in decimal digits, below a limit
+-- a number in decimal digits, if it is below a limit
 unfoldable pub number_below : ℕ → List ℕ → Option ℕ
 number_below limit text = if is_digits 10 text then units_below limit (result_ok (numeral text))
     else None
@@ -36,7 +36,7 @@ vector_of x y z = vector (result_ok (numeral x)) (result_ok (numeral y)) (result
 
 -- ---- the line
 
--- a ray, where its coordinates are in their range and its direction isn't 0 0 0
+-- a ray, if its coordinates are in range and its direction isn't 0 0 0
 abbrev pub sight : Option Vec3 → Option Vec3 → Option RayView
 sight (Some origin) (Some dir) = ray_of origin dir
 sight (Some origin) None = None
@@ -49,7 +49,7 @@ pointing (Some who) (Some down) None = None
 pointing (Some who) None ray = None
 pointing None down ray = None
 
--- the origin is three words, and the direction three more, of which the last ends the text
+-- the origin is three words, and the direction three more; the last word is the rest of the text
 unfoldable pub sight_of : List ℕ → Option RayView
 sight_of text =
     let y = behind text in
@@ -59,32 +59,32 @@ sight_of text =
     sight (vector_of (word text) (word y) (word z))
     (vector_of (word dir) (word dir_y) (behind dir_y))
 
--- the words behind `point `
+-- the pointer that the words after `point ` describe
 unfoldable pub pointing_of : List ℕ → Option PointerView
 pointing_of text =
     pointing (number_below max_viewers (word text)) (number_below 2 (word (behind text)))
     (sight_of (behind (behind text)))
 
--- what a line points with, where it begins with `point `
+-- the pointer of a line that begins with `point `
 unfoldable pub pointed : List ℕ → Option PointerView
 pointed line = if bytes_eq (take 6 line) (codes "point ") then pointing_of (drop 6 line) else None
 
--- ---- what holds of a line
+-- -- what a line satisfies
 
--- decimal digits of a number
+-- the text is the decimal digits of the number
 pub record IsNumber (text : List ℕ) (n : ℕ) : Type 0 where
   pub digits : is_digits 10 text ≡ true
   pub millionths : ℕ
   pub numeral : IsNumeral text (pos millionths)
   pub units : n ≡ millionths / 1000000
 
--- numerals of the three coordinates
+-- the texts are numerals of the three coordinates
 pub record AreNumerals (x y z : List ℕ) (v : Vec3) : Type 0 where
   pub x_is : IsNumeral x v.x
   pub y_is : IsNumeral y v.y
   pub z_is : IsNumeral z v.z
 
--- the words of a line, which single spaces part, and what they stand for
+-- the words of the line, parted by single spaces, are those of the pointer
 pub record IsPoint (line : List ℕ) (p : PointerView) : Type 0 where
   pub who : List ℕ
   pub down : List ℕ

@@ -23,17 +23,17 @@ use Rattle.share_jobs.specs.declared.fault.JobFault.{JobFault}
 use Rattle.share_jobs.specs.declared.fault.JobFault.TheVariants.{BadJob}
 use Rattle.share_jobs.specs.declared.schedule.Schedule.{Schedule}
 
--- ---- the words behind a name
+-- -- the words after a name
 
--- a number in decimal digits, below 2^32
+-- a number in decimal digits, if it is below 2^32
 unfoldable pub number : List ℕ → Option ℕ
 number text = number_below (2 ^ 32) text
 
--- a time in seconds: its millionths are microseconds
+-- the clock of a time in seconds; the step has it in microseconds
 unfoldable pub clock_step : List ℕ → Option Step
 clock_step text = option_map (λ t. HostClock t) (result_ok (numeral text))
 
--- who takes the packet of this number: the host, or the viewer of a number
+-- who takes the packet of this number: the host, or the viewer of this number
 abbrev pub given : Option ℕ → List ℕ → Option Step
 given (Some packet) who =
     if bytes_eq who (codes "host") then Some (HostTake packet)
@@ -48,7 +48,7 @@ paired (Some first) (Some second) = Some (first, second)
 paired (Some first) None = None
 paired None second = None
 
--- two numbers
+-- the two numbers of a text
 unfoldable pub two_numbers : List ℕ → Option (ℕ × ℕ)
 two_numbers text = paired (number (word text)) (number (behind text))
 
@@ -70,7 +70,7 @@ point (Some down) (Some origin) None = None
 point (Some down) None dir = None
 point None origin dir = None
 
--- whether the button is down, and six numerals, of which the last ends the text
+-- whether the button is down, and six numerals; the last is the rest of the text
 unfoldable pub point_of : List ℕ → Option Point
 point_of text =
     let x = behind text in
@@ -91,7 +91,7 @@ offer_step text = offered (number (word text)) (point_of (behind text))
 
 -- ---- the line
 
--- the step of a name and the words behind it, if it is one of the host or a packet's
+-- the step of a name and the words after it, if it is a step of the host or of a packet
 unfoldable pub host_step : List ℕ → List ℕ → Option Step
 host_step name text =
     if bytes_eq name (codes "clock") then clock_step text
@@ -101,7 +101,7 @@ host_step name text =
     else (if bytes_eq name (codes "floor") then option_map (λ f. HostDropBelow f) (number text)
     else None))))
 
--- the same, if it is one of a viewer
+-- like `host_step`, for steps of a viewer
 unfoldable pub viewer_step : List ℕ → List ℕ → Option Step
 viewer_step name text =
     if bytes_eq name (codes "offer") then offer_step text
@@ -111,7 +111,7 @@ viewer_step name text =
     else (if bytes_eq name (codes "save") then option_map (λ v. ViewerSave v) (number text)
     else (if bytes_eq name (codes "rewind") then rewind_step text else None))))
 
--- the same, if it is about pieces of a snapshot
+-- like `host_step`, for steps about pieces of a snapshot
 unfoldable pub piece_step : List ℕ → List ℕ → Option Step
 piece_step name text =
     if bytes_eq name (codes "piece") then option_map (λ p. PiecePacket p.0 p.1) (two_numbers text)
@@ -126,7 +126,7 @@ abbrev pub named_step : List ℕ → List ℕ → Option Step
 named_step name text =
     option_or (host_step name text) (option_or (viewer_step name text) (piece_step name text))
 
--- the step of a line, if it is one; `notice` has nothing behind it
+-- the step of a line, if there is one; `notice` has no words after it
 unfoldable pub step_of : List ℕ → Option Step
 step_of line =
     if bytes_eq line (codes "notice") then Some HostFloorPacket
@@ -134,40 +134,40 @@ step_of line =
 
 -- ---- the schedule
 
--- the number of the line behind so many, as far as 32 bits count
+-- the number of the line after n lines, but at most 2^32 - 1
 abbrev pub line_behind : ℕ → ℕ
 line_behind n = if nat_lt n (2 ^ 32 - 1) then n + 1 else 2 ^ 32 - 1
 
--- a step before others, or the line behind so many that is none
+-- a step before others; or, if there is no step, the line after n lines
 abbrev pub with_step : ℕ → Option Step → Result (List Step) JobFault → Result (List Step) JobFault
 with_step n (Some step) (Ok steps) = Ok (step ∷ steps)
 with_step n (Some step) (Err fault) = Err fault
 with_step n None steps = Err (BadJob (line_behind n))
 
--- the steps before the first line `scene`, or the first line that is none: so many lines stand
--- before these
+-- the steps before the first line `scene`, or the first line that is not a step; n lines precede
+-- these
 abbrev pub steps_of : ℕ → List (List ℕ) → Result (List Step) JobFault
 steps_of n [] = Err (BadJob (line_behind n))
 steps_of n (line ∷ more) =
     if is_scene line then Ok [] else with_step n (step_of line) (steps_of (suc n) more)
 
--- the schedule of these steps and the bytes behind the line `scene`
+-- the schedule of these steps and the bytes after the line `scene`
 abbrev pub with_bytes : List ℕ → Result (List Step) JobFault → Result Schedule JobFault
 with_bytes bytes (Ok steps) =
     Ok (record { steps = steps; scene = behind_lines (length steps + 1) bytes })
 with_bytes bytes (Err fault) = Err fault
 
--- the schedule of a byte list; without a line `scene` that is missing behind the last
+-- the schedule of a byte list. If there is no line `scene`, it is missing after the last line
 unfoldable pub schedule_lines : List ℕ → Result Schedule JobFault
 schedule_lines bytes = with_bytes bytes (steps_of 0 (lines bytes))
 
--- ---- what holds of a line
+-- -- what a line satisfies
 
--- words, which single spaces part
+-- words parted by single spaces
 abbrev pub spaced : List (List ℕ) → List ℕ
 spaced words = join_with_byte 32 words
 
--- the decimal digits of numbers below 2^32
+-- the texts are decimal digits of these numbers, all below 2^32
 abbrev pub AreNumbers : List (List ℕ) → List ℕ → Type 0
 AreNumbers [] [] = ⊤
 AreNumbers (text ∷ texts) (n ∷ numbers) =
@@ -175,25 +175,25 @@ AreNumbers (text ∷ texts) (n ∷ numbers) =
 AreNumbers [] (n ∷ numbers) = ⊥
 AreNumbers (text ∷ texts) [] = ⊥
 
--- a name and numbers
+-- the line is a name and numbers
 pub record IsCall (line name : List ℕ) (numbers : List ℕ) : Type 0 where
   pub texts : List (List ℕ)
   pub words : line ≡ spaced (name ∷ texts)
   pub each : AreNumbers texts numbers
 
--- `clock T`, where T is a numeral of seconds that is the time in microseconds
+-- the line is `clock T`, and T is a numeral of seconds: the time in microseconds
 pub record IsClockAt (line : List ℕ) (t : ℤ) : Type 0 where
   pub text : List ℕ
   pub words : line ≡ spaced (codes "clock" ∷ text ∷ [])
   pub time : IsNumeral text t
 
--- `give P host`
+-- the line is `give P host`
 pub record IsGivenHost (line : List ℕ) (packet : ℕ) : Type 0 where
   pub text : List ℕ
   pub words : line ≡ spaced (codes "give" ∷ text ∷ codes "host" ∷ [])
   pub number : AreNumbers (text ∷ []) (packet ∷ [])
 
--- `offer V D ox oy oz dx dy dz`; any numerals make a point
+-- the line is `offer V D ox oy oz dx dy dz`; any numerals make a point
 pub record IsOffer (line : List ℕ) (viewer : ℕ) (p : Point) : Type 0 where
   pub who : List ℕ
   pub down : List ℕ
@@ -212,7 +212,7 @@ pub record IsOffer (line : List ℕ) (viewer : ℕ) (p : Point) : Type 0 where
   pub origin : AreNumerals ox oy oz p.origin
   pub direction : AreNumerals dx dy dz p.dir
 
--- the line is the step
+-- the line spells the step
 abbrev pub IsStepLine : List ℕ → Step → Type 0
 IsStepLine line (HostClock t) = IsClockAt line t
 IsStepLine line (HostPacket input) = IsCall line (codes "packet") (input ∷ [])

@@ -12,9 +12,9 @@ use script_host::AttachFault;
 use std::alloc::{AllocError, AllocFailed};
 use thiserror::Error;
 
-/// Why bytes are no job or no scene, or the scripts of the scene are not run, in the order in which
-/// a job is tested: the whole input is read first, then its lines, then its scene, then its
-/// scripts.
+/// Why bytes are not a job or not a scene, or why the scripts of the scene are not run. The
+/// variants are in the order of the tests: the whole input is read first, then its lines, then its
+/// scene, then its scripts.
 #[derive(Clone, Copy, Debug, PartialEq, Eq, Error)]
 pub enum JobFault {
     #[error("the input or the output failed, or the input had no end")]

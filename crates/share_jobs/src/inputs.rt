@@ -7,7 +7,7 @@ use std::marker::Model;
 use x3d_lists::Items;
 use x3d_values::Stamped;
 
-/// JobInputs that a world takes from its start: numbered from 1, each later than the one before it.
+/// Inputs that a world takes from its start: numbered from 1, each later than the one before it.
 #[derive(Drop)]
 pub struct JobInputs {
     inputs: Items<Stamped>,
@@ -26,6 +26,8 @@ impl Model for JobInputs {
 }
 
 impl JobInputs {
+    /// Returns `inputs` as the inputs of a job. They are numbered from 1, each later than the one
+    /// before.
     pub fn new(inputs: Items<Stamped>) -> JobInputs
         requires { AreInOrder inputs }
         ensures { result ≡ inputs }
@@ -33,6 +35,7 @@ impl JobInputs {
         JobInputs { inputs }
     }
 
+    /// Returns the inputs as a slice, in order.
     pub fn as_slice(&self) -> &[Stamped]
         ensures value { result.now ≡ self.now }
         ensures in_order { AreInOrder self.now }

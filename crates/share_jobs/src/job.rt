@@ -22,11 +22,11 @@ use x3d_values::{Cause, MAX_INPUTS, Stamped, is_input_time};
 #[derive(Drop)]
 pub struct Steps<'a> {
     pub inputs: JobInputs,
-    /// The bytes behind the line `scene`.
+    /// The bytes after the line `scene`.
     pub scene: &'a [u8],
 }
 
-/// The time of a line `clock T`: T seconds in millionths, which are microseconds.
+/// Returns the time of a line `clock T` in microseconds. T is a numeral of seconds.
 #[tactic(auto, using(crate::proofs::Passed::passed), unfolding(crate::specs::Job::clock_time))]
 fn clock_time(line: &[u8]) -> Option<i64>
     ensures { result ≡ clock_time line.now }
@@ -37,7 +37,7 @@ fn clock_time(line: &[u8]) -> Option<i64>
     }
 }
 
-/// The time of the last input, at first 0.
+/// Returns the time of the last input, or 0 if there is none.
 #[tactic(auto, using(crate::proofs::Passed::passed), unfolding(crate::specs::Job::last_time))]
 fn last_time(inputs: &[Stamped]) -> i64
     ensures value { result ≡ last_time inputs.now }
@@ -49,7 +49,7 @@ fn last_time(inputs: &[Stamped]) -> i64
     }
 }
 
-/// Whether a host would number an input of this time behind these.
+/// Reports whether a host would number an input of this time after `inputs`.
 #[tactic(auto, using(crate::proofs::Passed::passed))]
 fn is_taken(inputs: &[Stamped], time: i64) -> bool
     ensures { result ≡ is_taken inputs.now time }
@@ -57,7 +57,7 @@ fn is_taken(inputs: &[Stamped], time: i64) -> bool
     inputs.len() < MAX_INPUTS as usize && last_time(inputs) < time && is_input_time(time)
 }
 
-/// The input of this time behind these, if a host would number it.
+/// Returns the input of this time and cause after `inputs`, if a host would number it.
 #[tactic(auto, using(crate::proofs::Passed::passed))]
 fn input_at(inputs: &[Stamped], time: i64, cause: Cause) -> Option<Stamped>
     ensures { result ≡ input_at inputs.now time cause }
@@ -69,14 +69,15 @@ fn input_at(inputs: &[Stamped], time: i64, cause: Cause) -> Option<Stamped>
     Some(Stamped::new(number, time, cause))
 }
 
-/// One microsecond after the last input.
+/// Returns the time one microsecond after the last input.
 fn time_behind(inputs: &[Stamped]) -> i64
     ensures { result ≡ last_time inputs.now +ℤ pos 1 }
 {
     last_time(inputs) + 1
 }
 
-/// The input that a line asks for behind these.
+/// Returns the input that a line asks for after `inputs`, if the line is a step and a host would
+/// number its input.
 #[tactic(auto, using(crate::proofs::Passed::passed), unfolding(crate::specs::Job::next_input))]
 fn next_input(inputs: &[Stamped], line: &[u8]) -> Option<Stamped>
     ensures { result ≡ next_input inputs.now line.now }
@@ -90,18 +91,23 @@ fn next_input(inputs: &[Stamped], line: &[u8]) -> Option<Stamped>
     }
 }
 
+/// Reports whether the line is `scene`.
 pub fn is_scene(line: &[u8]) -> bool
     ensures { result ≡ is_scene line.now }
 {
     line == b"scene".as_slice()
 }
 
-/// The steps of a job's lines, and its scene.
+/// Returns the inputs that the lines of a job ask for, and the bytes of its scene.
+///
+/// Fails with `BadJob` and the number, from 1, of the first line that is not a step, or of the line
+/// after the last if no line is `scene`. A line whose input a host would not number is not a step.
+/// Fails with `Memory` if memory is refused.
 pub fn job_of(alloc: Global, bytes: &[u8]) -> Result<Steps<'_>, JobFault>
-    // The steps and the scene, or the first line that isn't one, memory aside.
+    // The steps and the scene, or the first line that isn't a step, unless memory runs out.
     ensures exact { Gives Memory (λ s. record { inputs = s.inputs; scene = s.scene.now }) result
         (job_lines bytes.now) }
-    // Each line before `scene` is a step, and gives one input.
+    // Each line before `scene` is a step and gives one input.
     ensures found { IfOk result
         (λ s. IsJob bytes.now (record { inputs = s.inputs; scene = s.scene.now })) }
     ensures in_order { IfOk result (λ s. AreInOrder s.inputs) }

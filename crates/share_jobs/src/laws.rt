@@ -1,4 +1,4 @@
-//! What holds of the lines of a job and of a schedule, whatever is read.
+//! Laws of the lines of a job and of a schedule, whatever is read.
 
 ghost use Rattle.std.specs.Prelude.{◌≡◌, List, ℕ, ℤ, Ok};
 ghost use Rattle.x3d_values.specs.Stamp.{StampedView};
@@ -7,9 +7,10 @@ ghost use Rattle.share_jobs.specs.Job.{Lined, job_lines, IsJobStep, IsJob};
 ghost use Rattle.share_jobs.specs.Schedule.{schedule_lines, IsStepLine, IsSchedule};
 ghost use Rattle.share_jobs.specs.declared.schedule.Schedule.{Schedule as ScheduleOf};
 
-/// A line is one step at most, and bytes that are a schedule are answered as it: `schedule_of` then
-/// refuses them for memory alone, and bytes are one schedule at most. So it is with the lines of a
-/// job, by so many inputs before them and the time of the last, and with `job_of`.
+/// A line is at most one step. Bytes that are a schedule are read as that schedule: bytes are at
+/// most one schedule, and `schedule_of` refuses a schedule for memory alone. The same holds of the
+/// lines of a job, given the number of inputs before them and the time of the last, and of
+/// `job_of`.
 pub fn lines_are_one_step()
     ensures step { (line : List ℕ) (some other : StepOf)
         → IsStepLine line some → IsStepLine line other

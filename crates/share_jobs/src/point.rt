@@ -8,7 +8,7 @@ use share_rules::cut_word;
 use x3d_numerals::millionths;
 use x3d_values::{MAX_VIEWERS, Pointer, Ray, Vec3, ray_of};
 
-/// Three numerals of units, as millionths.
+/// Returns the vector of three numerals of units, in millionths.
 #[tactic(auto, using(crate::proofs::Passed::passed), unfolding(crate::specs::Points::vector_of))]
 pub fn vector_of(x: &[u8], y: &[u8], z: &[u8]) -> Option<Vec3>
     ensures { result ≡ spec.vector_of x.now y.now z.now }
@@ -25,7 +25,7 @@ pub fn vector_of(x: &[u8], y: &[u8], z: &[u8]) -> Option<Vec3>
     Some(Vec3 { x, y, z })
 }
 
-/// Three words, of which the last ends the text.
+/// Returns the vector of three words, in millionths. The third word is the rest of the text.
 pub fn last_vector(text: &[u8]) -> Option<Vec3>
     ensures { result
         ≡ spec.vector_of (spec.word text.now) (spec.word (spec.behind text.now))
@@ -36,7 +36,7 @@ pub fn last_vector(text: &[u8]) -> Option<Vec3>
     vector_of(x, y, z)
 }
 
-/// The origin is three words, and the direction three more.
+/// Returns the ray of six words: three for its origin, then three for its direction.
 #[tactic(auto, unfolding(crate::specs::Points::sight_of))]
 fn sight_of(text: &[u8]) -> Option<Ray>
     ensures { result ≡ spec.sight_of text.now }
@@ -53,7 +53,7 @@ fn sight_of(text: &[u8]) -> Option<Ray>
     ray_of(origin, dir)
 }
 
-/// The words behind `point `.
+/// Returns the pointer that the words after `point ` describe.
 #[tactic(auto, unfolding(crate::specs::Points::pointing_of, crate::specs::Points::number_below))]
 fn pointing_of(text: &[u8]) -> Option<Pointer>
     ensures { result ≡ spec.pointing_of text.now }
@@ -72,7 +72,10 @@ fn pointing_of(text: &[u8]) -> Option<Pointer>
     Some(Pointer::new(who, down == 1, ray))
 }
 
-/// What a line points with, where it begins with `point `. Coordinates are numerals of units.
+/// Returns the pointer of a line `point V D ox oy oz dx dy dz`. Coordinates are numerals of units.
+///
+/// Returns `None` if the line is something else, V is not below `MAX_VIEWERS`, D is neither 0 nor
+/// 1, a coordinate is out of range, or the direction is 0 0 0.
 #[tactic(auto, unfolding(crate::specs::Points::pointed))]
 pub fn pointed(line: &[u8]) -> Option<Pointer>
     ensures { result ≡ spec.pointed line.now }

@@ -16,13 +16,13 @@ use x3d_lists::Items;
 /// What the lines of a schedule ask for.
 #[derive(Drop)]
 pub struct Schedule {
-    /// One step a line, in their order.
+    /// One step per line, in the order of the lines.
     pub steps: Items<Step>,
-    /// The bytes behind the line `scene`.
+    /// The bytes after the line `scene`.
     pub scene: Items<u8>,
 }
 
-/// The number of the line behind so many, from 1; 2^32 - 1 where 32 bits don't hold it.
+/// Returns the number, from 1, of the line after `lines` lines, but at most 2^32 - 1.
 fn line_behind(lines: usize) -> u32
     ensures { result ≡ line_behind lines }
 {
@@ -33,11 +33,13 @@ fn line_behind(lines: usize) -> u32
     }
 }
 
-/// The steps and the scene of a schedule's lines. `BadJob` is the first line that is no step, or
-/// the one behind the last where no line is `scene`; `Memory` is answered where it was refused.
-/// What a host or a viewer would refuse is not looked at.
+/// Returns the steps that the lines of a schedule ask for, and its scene. What a host or a viewer
+/// would refuse is not checked.
+///
+/// Fails with `BadJob` and the number, from 1, of the first line that is not a step, or of the line
+/// after the last if no line is `scene`. Fails with `Memory` if memory is refused.
 pub fn schedule_of(alloc: Global, bytes: &[u8]) -> Result<Schedule, JobFault>
-    // The steps and the scene, or the first line that isn't one, memory aside.
+    // The steps and the scene, or the first line that isn't a step, unless memory runs out.
     ensures exact { Gives Memory (λ s. s) result (schedule_lines bytes.now) }
     // Each line before `scene` is a step.
     ensures found { IfOk result (λ s. IsSchedule bytes.now s) }

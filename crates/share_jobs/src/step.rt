@@ -11,7 +11,7 @@ use share_rules::cut_word;
 use x3d_numerals::millionths;
 use x3d_values::Point;
 
-/// `T` behind `clock `: a numeral of seconds, whose millionths are microseconds.
+/// Returns the step of `T` after `clock `: a numeral of seconds, as a time in microseconds.
 #[tactic(auto, using(crate::proofs::Passed::passed), unfolding(crate::specs::Schedule::clock_step))]
 fn clock_step(text: &[u8]) -> Option<Step>
     ensures { result ≡ spec.clock_step text.now }
@@ -22,7 +22,7 @@ fn clock_step(text: &[u8]) -> Option<Step>
     }
 }
 
-/// `P host` or `P V` behind `give `.
+/// Returns the step of `P host` or `P V` after `give `.
 #[tactic(auto, unfolding(crate::specs::Schedule::give_step))]
 fn give_step(text: &[u8]) -> Option<Step>
     ensures { result ≡ spec.give_step text.now }
@@ -40,7 +40,7 @@ fn give_step(text: &[u8]) -> Option<Step>
     }
 }
 
-/// Two numbers.
+/// Returns the two numbers of a text.
 #[tactic(auto, unfolding(crate::specs::Schedule::two_numbers))]
 fn two_numbers(text: &[u8]) -> Option<(u32, u32)>
     ensures { result ≡ spec.two_numbers text.now }
@@ -55,7 +55,7 @@ fn two_numbers(text: &[u8]) -> Option<(u32, u32)>
     }
 }
 
-/// `V S B` behind `rewind `.
+/// Returns the step of `V S B` after `rewind `.
 #[tactic(auto, unfolding(crate::specs::Schedule::rewind_step))]
 fn rewind_step(text: &[u8]) -> Option<Step>
     ensures { result ≡ spec.rewind_step text.now }
@@ -78,7 +78,7 @@ fn rewind_step(text: &[u8]) -> Option<Step>
     }
 }
 
-/// `D ox oy oz dx dy dz`: any numerals make a point.
+/// Returns the point of `D ox oy oz dx dy dz`. Any numerals make a point.
 #[tactic(auto, unfolding(crate::specs::Schedule::point_of))]
 fn point_of(text: &[u8]) -> Option<Point>
     ensures { result ≡ spec.point_of text.now }
@@ -103,7 +103,7 @@ fn point_of(text: &[u8]) -> Option<Point>
     })
 }
 
-/// `V D ox oy oz dx dy dz` behind `offer `.
+/// Returns the step of `V D ox oy oz dx dy dz` after `offer `.
 #[tactic(auto, unfolding(crate::specs::Schedule::offer_step))]
 fn offer_step(text: &[u8]) -> Option<Step>
     ensures { result ≡ spec.offer_step text.now }
@@ -118,14 +118,14 @@ fn offer_step(text: &[u8]) -> Option<Step>
     }
 }
 
-/// Whether a line begins with this word.
+/// Reports whether a name is this word.
 fn is(name: &[u8], word: &[u8]) -> bool
     ensures { result ≡ bytes_eq name.now word.now }
 {
     name == word
 }
 
-/// The step of a name and the words behind it, if it is one of the host or a packet's.
+/// Returns the step of a name and the words after it, if it is a step of the host or of a packet.
 #[tactic(auto, unfolding(crate::specs::Schedule::host_step))]
 fn host_step(name: &[u8], text: &[u8]) -> Option<Step>
     ensures { result ≡ spec.host_step name.now text.now }
@@ -145,7 +145,7 @@ fn host_step(name: &[u8], text: &[u8]) -> Option<Step>
     }
 }
 
-/// The step of a name and the words behind it, if it is one of a viewer.
+/// Returns the step of a name and the words after it, if it is a step of a viewer.
 #[tactic(auto, unfolding(crate::specs::Schedule::viewer_step))]
 fn viewer_step(name: &[u8], text: &[u8]) -> Option<Step>
     ensures { result ≡ spec.viewer_step name.now text.now }
@@ -165,7 +165,7 @@ fn viewer_step(name: &[u8], text: &[u8]) -> Option<Step>
     }
 }
 
-/// The step of a name and the words behind it, if it is about pieces of a snapshot.
+/// Returns the step of a name and the words after it, if it is about pieces of a snapshot.
 #[tactic(auto, unfolding(crate::specs::Schedule::piece_step))]
 fn piece_step(name: &[u8], text: &[u8]) -> Option<Step>
     ensures { result ≡ spec.piece_step name.now text.now }
@@ -183,7 +183,7 @@ fn piece_step(name: &[u8], text: &[u8]) -> Option<Step>
     }
 }
 
-/// The step of a name and the words behind it, if it is one.
+/// Returns the step of a name and the words after it, if there is one.
 fn named_step(name: &[u8], text: &[u8]) -> Option<Step>
     ensures { result ≡ spec.named_step name.now text.now }
 {
@@ -196,7 +196,7 @@ fn named_step(name: &[u8], text: &[u8]) -> Option<Step>
     }
 }
 
-/// The step of a line, if it is one.
+/// Returns the step of a line, or `None` if the line is not a step.
 #[tactic(auto, unfolding(crate::specs::Schedule::step_of))]
 pub fn step_of(line: &[u8]) -> Option<Step>
     ensures { result ≡ spec.step_of line.now }

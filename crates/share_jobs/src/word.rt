@@ -1,4 +1,4 @@
-//! The numbers that words write.
+//! Numbers in decimal digits.
 
 ghost use Rattle.std.specs.Prelude.{◌≡◌, ◌<◌, IfSome};
 ghost use Rattle.x3d_numerals.specs.Reading.{is_digits as are_digits, run};
@@ -7,10 +7,10 @@ ghost use Rattle.share_jobs.specs.Schedule.{number};
 
 use x3d_numerals::millionths;
 
-/// The numbers of a schedule are below this.
+/// All numbers of a schedule are below this limit.
 const ALL_NUMBERS: u64 = 1 << 32;
 
-/// How many digits the text begins with.
+/// Returns how many decimal digits the text begins with.
 fn digits_len(text: &[u8]) -> usize
     ensures { result ≡ run 10 text.now }
 {
@@ -19,7 +19,7 @@ fn digits_len(text: &[u8]) -> usize
         .count()
 }
 
-/// Whether a text is decimal digits, one or more.
+/// Reports whether a text is one or more decimal digits.
 fn is_digits(text: &[u8]) -> bool
     ensures { result ≡ are_digits 10 text.now }
 {
@@ -29,7 +29,7 @@ fn is_digits(text: &[u8]) -> bool
     digits_len(text) == text.len()
 }
 
-/// A number in decimal digits, below a limit.
+/// Returns a number in decimal digits, if it is below the limit.
 #[tactic(auto, using(crate::proofs::Passed::passed), unfolding(crate::specs::Points::number_below))]
 fn units_below(limit: u64, text: &[u8]) -> Option<u64>
     ensures value { result ≡ spec.number_below limit text.now }
@@ -48,7 +48,7 @@ fn units_below(limit: u64, text: &[u8]) -> Option<u64>
     if units < limit { Some(units) } else { None }
 }
 
-/// A number in decimal digits, below a small limit.
+/// Returns a number in decimal digits, if it is below a small limit.
 pub fn number_below(limit: u8, text: &[u8]) -> Option<u8>
     ensures { result ≡ spec.number_below limit text.now }
 {
@@ -58,7 +58,7 @@ pub fn number_below(limit: u8, text: &[u8]) -> Option<u8>
     }
 }
 
-/// A number in decimal digits, below 2^32.
+/// Returns a number in decimal digits, if it is below 2^32.
 #[tactic(auto, unfolding(crate::specs::Schedule::number))]
 pub fn number(text: &[u8]) -> Option<u32>
     ensures { result ≡ number text.now }

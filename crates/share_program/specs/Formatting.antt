@@ -15,49 +15,48 @@ use Rattle.share_jobs.specs.declared.fault.JobFault.TheVariants.{Device}
 abbrev pub document_of : List ℕ → Result Document JobFault
 document_of text = next of_read (read_text text) (λ d. Ok d)
 
--- a reader, from the one state to the other, was read to its end, and what it had spells the
--- document
+-- a reader was read to its end, from state old to state new, and its bytes spell the document
 pub record IsDocumentRead (old new : Option (List ℕ)) (d : Document) : Type 0 where
   pub bytes : List ℕ
   pub consumed : Consumes old new bytes
   pub ended : IsAtEnd new
   pub spelled : Spells bytes d
 
--- a reader was read to its end, and what it had spells no document for this reason
+-- a reader was read to its end, and its bytes spell no document, for this reason
 pub record IsNoText (old new : Option (List ℕ)) (fault : JobFault) : Type 0 where
   pub bytes : List ℕ
   pub consumed : Consumes old new bytes
   pub ended : IsAtEnd new
   pub refused : document_of bytes ≡ Err fault
 
--- what a reader had spells a document, and a writer took the text of that document, which spells it
--- again, whatever its length and but for the lines in it
+-- a reader's bytes spell a document, and the text of that document was appended to a writer. That
+-- text spells the document again, whatever its length and except for line numbers
 pub record IsFormatted (old_read new_read old_written new_written : Option (List ℕ)) : Type 0 where
   pub document : Document
   pub read : IsDocumentRead old_read new_read document
   pub written : Appends old_written new_written (document_text document)
   pub again : SpellsAtAnyLength (document_text document) document
 
--- nothing was written; or the writer failed, and then all that the reader had spells a document
+-- nothing was written; or the writer failed, and the reader's bytes spell a document
 abbrev pub IsUnwritten : Option (List ℕ) → Option (List ℕ) → Option (List ℕ) → Option (List ℕ)
     → JobFault → Type 0
 IsUnwritten old_read new_read old_written new_written fault =
     Keeps old_written new_written
     ⊎ ((fault ≡ Device) × ((d : Document) × IsDocumentRead old_read new_read d))
 
--- ---- what is written is read again
+-- -- written texts can be read again
 
--- a scene of these bytes is written as those
+-- the first bytes are a scene that is written as the second
 abbrev pub IsFormattedAs : List ℕ → List ℕ → Type 0
 IsFormattedAs text written = IsFormatted (Some text) (Some []) (Some []) (Some written)
 
--- bytes that are written as themselves and as nothing else, and that are no scene for no reason
+-- the bytes are written as themselves and as nothing else, and are never refused as a text
 pub record IsFormattedAlike (text : List ℕ) : Type 0 where
   pub same : IsFormattedAs text text
   pub only : (other : List ℕ) → IsFormattedAs text other → other ≡ text
   pub taken : (fault : JobFault) → ¬ IsNoText (Some text) (Some []) fault
 
--- so are all bytes that a scene is written as, within the limit of 16 MiB
+-- all bytes that a scene is written as stay the same, within the limit of 16 MiB
 abbrev pub FormattedTextsStay : Type 0
 FormattedTextsStay =
     (text written : List ℕ) → IsFormattedAs text written → length written ≤ 2 ^ 24

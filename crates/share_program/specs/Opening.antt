@@ -1,5 +1,4 @@
--- The scene of a text, and the job of a byte list: what each layer makes of it, one after the
--- other.
+-- The scene of a text and the job of a byte list, as a sequence of layers.
 use Rattle.std.specs.Prelude.{◌≡◌, ◌⊎◌, Option, ℕ, List, Result, Ok, Err}
 use Rattle.x3d_values.specs.Stamp.{StampedView}
 use Rattle.classic_text.specs.Reading.{read_text}
@@ -18,7 +17,7 @@ use Rattle.share_jobs.specs.declared.fault.JobFault.TheVariants.{Device, Memory}
 use Rattle.share_program.specs.declared.open.OpenedScene.{OpenedScene}
 use Rattle.share_program.specs.declared.open.Job.{Job}
 
--- the answer of a layer, with its fault as one of the job; and then what the next layer answers
+-- the next layer's answer to a layer's result; or the layer's fault as one of the job
 abbrev pub next : {X Y E : Type 0} → (E → JobFault) → Result X E → (X → Result Y JobFault)
     → Result Y JobFault
 next fault (Ok x) f = f x
@@ -52,7 +51,7 @@ opened text = next same (flattened text) built
 abbrev pub with_inputs : List StampedView → OpenedScene → Result Job JobFault
 with_inputs inputs o = Ok (record { inputs = inputs; scene = o.scene; routes = o.routes })
 
--- the steps of the lines before the first line `scene`, and the scene behind it
+-- the steps of the lines before the first line `scene`, and the scene after that line
 unfoldable pub opened_job : List ℕ → Result Job JobFault
 opened_job bytes =
     next same (job_lines bytes) (λ l. next same (opened l.scene) (with_inputs l.inputs))
@@ -61,12 +60,12 @@ opened_job bytes =
 abbrev pub IsDeviceOrMemory : JobFault → Type 0
 IsDeviceOrMemory fault = (fault ≡ Device) ⊎ (fault ≡ Memory)
 
--- a reader was read to its end, and what it had is no job for this reason
+-- a reader was read to its end, and its bytes are not a job, for this reason
 abbrev pub IsNoJob : Option (List ℕ) → Option (List ℕ) → JobFault → Type 0
 IsNoJob old new fault = (bytes : List ℕ) × Consumes old new bytes × IsAtEnd new
     × (opened_job bytes ≡ Err fault)
 
--- a reader was read to its end, and what it had is no schedule for this reason
+-- a reader was read to its end, and its bytes are not a schedule, for this reason
 abbrev pub IsNoSchedule : Option (List ℕ) → Option (List ℕ) → JobFault → Type 0
 IsNoSchedule old new fault =
     (bytes : List ℕ) × Consumes old new bytes × IsAtEnd new

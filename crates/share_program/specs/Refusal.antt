@@ -78,7 +78,7 @@ status (Job fault) = job_status fault
 status (Run fault) = run_status fault
 status (Share fault) = share_status fault
 
--- ---- names: that of the innermost fault
+-- -- names: the name of the innermost fault
 
 abbrev pub job_fault_name : JobFault → List ℕ
 job_fault_name job.Device = codes "Device"
@@ -110,7 +110,7 @@ failure_name (Job fault) = job_fault_name fault
 failure_name (Run fault) = run_fault_name fault
 failure_name (Share fault) = share_fault_name fault
 
--- ---- lines, and 0 for a fault without one
+-- -- lines; 0 for a fault without a line
 
 abbrev pub job_fault_line : JobFault → ℕ
 job_fault_line (job.BadJob line) = line
@@ -124,7 +124,7 @@ abbrev pub failure_line : Failure → ℕ
 failure_line (Job fault) = job_fault_line fault
 failure_line _ = 0
 
--- `refused NAME`, and ` line N` where there is a line other than 0
+-- `refused NAME`, followed by ` line N` if there is a line other than 0
 abbrev pub refusal_text : Failure → List ℕ
 refusal_text f =
     codes "refused " ++ failure_name f

@@ -27,8 +27,8 @@ run_text job = texts job.scene job.routes (world job.scene job.routes job.inputs
 abbrev pub FitsJob : Job → List SlotView → Type 0
 FitsJob job boxes = Fits (script_list job.scene) boxes
 
--- why a run with these boxes ended early: they aren't those that the scene's scripts ask for, or
--- memory was refused, and nothing was written; or they are, and the writer's device failed
+-- why a run with these boxes ended early: the boxes are not those that the scene's scripts ask for,
+-- or memory was refused, and nothing was written; or the boxes fit, and the writer's device failed
 abbrev pub IsUnrun : Job → List SlotView → (old new : Option (List ℕ)) → RunFault → Type 0
 IsUnrun job boxes old new (run_fault.Attach fault) =
     RefusesBoxes fault job.scene boxes × Keeps old new
@@ -41,14 +41,14 @@ IsUnrun job boxes old new run_fault.Device = FitsJob job boxes
 abbrev pub job_scripts_fault : Job → Option AttachFault
 job_scripts_fault job = scripts_fault (script_list job.scene)
 
--- why a run with boxes of the stock ended early
+-- like `IsUnrun`, for boxes of the stock
 abbrev pub IsUnrunStock : Job → (old new : Option (List ℕ)) → RunFault → Type 0
 IsUnrunStock job old new (run_fault.Attach fault) =
     (job_scripts_fault job ≡ Some fault) × Keeps old new
 IsUnrunStock job old new run_fault.Memory = Keeps old new
 IsUnrunStock job old new run_fault.Device = job_scripts_fault job ≡ None
 
--- the same of a failure of the whole program
+-- like `IsUnrunStock`, for a failure of the whole program
 abbrev pub IsFailed : Job → (old new : Option (List ℕ)) → Failure → Type 0
 IsFailed job old new (failure.Run fault) = IsUnrunStock job old new fault
 IsFailed job old new fault = ⊥
@@ -59,31 +59,31 @@ abbrev pub unless_refused : List ℕ → Option AttachFault → Result (List ℕ
 unless_refused text None = Ok text
 unless_refused text (Some fault) = Err (failure.Run (run_fault.Attach fault))
 
--- what a job's run comes to, where there is a job
+-- what the run of a job writes, if there is a job
 abbrev pub written : Result Job JobFault → Result (List ℕ) Failure
 written (Ok job) = unless_refused (run_text job) (job_scripts_fault job)
 written (Err fault) = Err (failure.Job fault)
 
--- what a run writes whose input has these bytes, or why they are no job, or the scripts of its
--- scene refused
+-- what a run writes if its input is these bytes; or why the bytes are not a job, or why the scripts
+-- of its scene are refused
 abbrev pub output_of : List ℕ → Result (List ℕ) Failure
 output_of bytes = written (opened_job bytes)
 
--- the reader was read to its end, and this is what its bytes come to
+-- the reader was read to its end, and its bytes give this output
 pub record Comes (old new : Option (List ℕ)) (output : Result (List ℕ) Failure) : Type 0 where
   pub bytes : List ℕ
   pub consumed : Consumes old new bytes
   pub ended : IsAtEnd new
   pub is : output_of bytes ≡ output
 
--- and the writer took it
+-- the reader's bytes give a text, and that text was appended to the writer
 pub record IsRun (reader_old reader_new writer_old writer_new : Option (List ℕ)) : Type 0 where
   pub text : List ℕ
   pub comes : Comes reader_old reader_new (Ok text)
   pub appended : Appends writer_old writer_new text
 
--- why a run from the reader's bytes ended early: where there is no job, its scripts are refused or
--- memory was, nothing was written; where the writer's device failed there was something to write
+-- why a run from the reader's bytes ended early. If there is no job, its scripts are refused or
+-- memory is refused, nothing was written. If the writer's device failed, there was a text to write
 abbrev pub IsNoRun :
     (reader_old reader_new writer_old writer_new : Option (List ℕ)) → Failure → Type 0
 IsNoRun old new kept left (failure.Job fault) =

@@ -1,4 +1,4 @@
-//! Whether a text is a scene that can be run.
+//! Checks that a text is a scene that can be run.
 
 ghost use Rattle.std.specs.Prelude.{◌≡◌, ◌⊎◌, [], IfOk, IfErr, OnOk};
 ghost use Rattle.share_program.specs.Checking.{IsSceneOpened, IsNoScene, IsChecked, IsUnchecked, counts_text};
@@ -12,8 +12,12 @@ use share_jobs::JobFault;
 use std::alloc::{AllocError, Global};
 use std::io::{Read, Write};
 
-/// Reads a scene to its end, and writes `good`, how many nodes it has and how many routes. No
-/// script is looked for. It is refused for the device after 2^27 reads.
+/// Reads a scene to its end, and writes one line: `good`, the number of its nodes and the number of
+/// its routes. Boxes for its scripts are not looked for.
+///
+/// Fails with `Device` if the reader or the writer fails or if the end is not reached in 2^27
+/// reads, with `Memory` if memory is refused, or else with the first fault of the scene. On failure
+/// nothing is written, unless the writer fails.
 pub fn check_text<R: Read, W: Write>(
     alloc: Global,
     reader: &mut R,
@@ -29,7 +33,7 @@ pub fn check_text<R: Read, W: Write>(
     write_made(writer, read_counts(alloc, reader))
 }
 
-/// The line that tells of the scene that a reader has left.
+/// Returns the line about the scene that a reader has left.
 fn read_counts<R: Read>(alloc: Global, reader: &mut R) -> Result<Vec<u8>, JobFault>
     ensures line { IfOk result (λ v. (o : OpenedOf)
         × IsSceneOpened (R.remaining reader.old) (R.remaining reader.new) o
@@ -39,12 +43,12 @@ fn read_counts<R: Read>(alloc: Global, reader: &mut R) -> Result<Vec<u8>, JobFau
 {
     let opened = read_scene(alloc, reader)?;
     let line = counts_line(alloc, &opened);
-    // A scene is dropped by a call: left to the exits, its drop is proved once for each of them.
+    // For the prover: an explicit call. The drop of a scene would be proved at each exit.
     drop(opened);
     Ok(line?)
 }
 
-/// The scene that a reader has left, with its routes.
+/// Returns the scene that a reader has left, with its routes.
 fn read_scene<R: Read>(alloc: Global, reader: &mut R) -> Result<OpenedScene, JobFault>
     ensures read { IfOk result (IsSceneOpened (R.remaining reader.old) (R.remaining reader.new)) }
     ensures refused { IfErr result (λ f. IsDeviceOrMemory f
@@ -54,7 +58,7 @@ fn read_scene<R: Read>(alloc: Global, reader: &mut R) -> Result<OpenedScene, Job
     open_scene(alloc, bytes.as_slice())
 }
 
-/// The line that tells of a scene.
+/// Returns the line about a scene.
 fn counts_line(alloc: Global, opened: &OpenedScene) -> Result<Vec<u8>, AllocError>
     ensures { IfOk result (λ v. v.items ≡ counts_text opened.now) }
 {
@@ -63,8 +67,8 @@ fn counts_line(alloc: Global, opened: &OpenedScene) -> Result<Vec<u8>, AllocErro
     Ok(line)
 }
 
-/// Writes that line into an empty buffer, which is lent: each exit of a function that owns it would
-/// have its drop proved.
+/// Writes the line about a scene into an empty buffer. The buffer is lent: if this function owned
+/// it, its drop would be proved at each exit.
 #[tactic(auto, unfolding(crate::specs::Checking::counts_text))]
 fn write_counts(opened: &OpenedScene, line: &mut Vec<u8>) -> Result<(), AllocError>
     requires { line.old.items ≡ [] }

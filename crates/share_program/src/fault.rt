@@ -1,4 +1,4 @@
-//! Why a job is not done by several nodes.
+//! Why a host and viewers don't finish a job.
 
 use thiserror::Error;
 

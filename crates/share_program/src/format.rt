@@ -1,4 +1,4 @@
-//! A scene's text as it is written.
+//! Writes the text of a scene's document.
 
 ghost use Rattle.std.specs.Prelude.{◌≡◌, ◌⊎◌, IfOk, IfErr, OnOk, List, ℕ};
 ghost use Rattle.classic_tree.specs.Writing.{document_text};
@@ -16,8 +16,12 @@ use share_jobs::JobFault;
 use std::alloc::{AllocError, Global};
 use std::io::{Read, Write};
 
-/// Reads a scene to its end, and writes the text of its document: the whole text is made before the
-/// first byte is written. It is refused for the device after 2^27 reads.
+/// Reads a scene to its end, and writes the text of its document. The whole text is made before the
+/// first byte is written.
+///
+/// Fails with `Device` if the reader or the writer fails or if the end is not reached in 2^27
+/// reads, with `Memory` if memory is refused, or else with the first fault of the text. On failure
+/// nothing is written, unless the writer fails.
 pub fn format_text<R: Read, W: Write>(
     alloc: Global,
     reader: &mut R,
@@ -33,7 +37,7 @@ pub fn format_text<R: Read, W: Write>(
     write_made(writer, read_text(alloc, reader))
 }
 
-/// The text of the document that a reader has left.
+/// Returns the text of the document that a reader has left.
 fn read_text<R: Read>(alloc: Global, reader: &mut R) -> Result<Vec<u8>, JobFault>
     ensures text { IfOk result (λ v. (d : DocumentOf)
         × IsDocumentRead (R.remaining reader.old) (R.remaining reader.new) d
@@ -44,12 +48,12 @@ fn read_text<R: Read>(alloc: Global, reader: &mut R) -> Result<Vec<u8>, JobFault
 {
     let document = read_document(alloc, reader)?;
     let text = text_of(alloc, &document);
-    // A document is dropped by a call: left to the exits, its drop is proved once for each of them.
+    // For the prover: an explicit call. The drop of a document would be proved at each exit.
     drop(document);
     Ok(text?)
 }
 
-/// The document that a reader has left.
+/// Returns the document that a reader has left.
 fn read_document<R: Read>(alloc: Global, reader: &mut R) -> Result<Document, JobFault>
     ensures read { IfOk result (IsDocumentRead (R.remaining reader.old) (R.remaining reader.new)) }
     ensures refused { IfErr result (λ f. IsDeviceOrMemory f
@@ -59,7 +63,7 @@ fn read_document<R: Read>(alloc: Global, reader: &mut R) -> Result<Document, Job
     Ok(read(alloc, bytes.as_slice())?)
 }
 
-/// The text of a document. Where some text spells the document, this one does.
+/// Returns the text of a document. If any text spells the document, the returned one does.
 fn text_of(alloc: Global, document: &Document) -> Result<Vec<u8>, AllocError>
     ensures text { IfOk result (λ v. v.items ≡ document_text document.now) }
     ensures again { (text : List ℕ) → Spells text document.now

@@ -1,4 +1,4 @@
-//! The program's calls: a job's scene and its run, and what a refusal prints.
+//! The program's calls: opening and running a job, and what a refusal prints.
 #![tactic(auto)]
 
 mod check;

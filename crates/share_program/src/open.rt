@@ -34,13 +34,13 @@ pub struct Job {
     pub routes: Routes,
 }
 
-/// A scene with the routes of its document.
+/// Returns a scene with the routes of its document.
 fn routed(alloc: Global, flat: &Flat, scene: Scene) -> Result<OpenedScene, JobFault>
     ensures { Gives Memory (λ o. o) result (routed flat.now scene) }
 {
     match Routes::resolve(alloc, flat, &scene) {
         Ok(routes) => Ok(OpenedScene { scene, routes }),
-        // A scene is dropped by a call: left to an exit, its drop is proved in place.
+        // For the prover: an explicit call. At an exit, the drop of a scene is proved in place.
         Err(fault) => {
             drop(scene);
             Err(JobFault::from(fault))
@@ -48,7 +48,7 @@ fn routed(alloc: Global, flat: &Flat, scene: Scene) -> Result<OpenedScene, JobFa
     }
 }
 
-/// The scene of a document, and its routes.
+/// Returns the scene of a document, and its routes.
 fn built(alloc: Global, flat: &Flat) -> Result<OpenedScene, JobFault>
     ensures { Gives Memory (λ o. o) result (built flat.now) }
 {
@@ -56,7 +56,7 @@ fn built(alloc: Global, flat: &Flat) -> Result<OpenedScene, JobFault>
     routed(alloc, flat, scene)
 }
 
-/// The nodes of a text's document, by number.
+/// Returns the nodes of a text's document, by number.
 #[tactic(auto, unfolding(crate::specs::Opening::flattened))]
 fn flattened(alloc: Global, text: &[u8]) -> Result<Flat, JobFault>
     ensures { Gives Memory (λ f. f) result (flattened text.now) }
@@ -65,19 +65,21 @@ fn flattened(alloc: Global, text: &[u8]) -> Result<Flat, JobFault>
     Ok(expand(alloc, document)?)
 }
 
-/// The scene of a text, and its routes.
+/// Returns the scene of a text, and its routes. Fails with the first fault of the text, or with
+/// `Memory` if memory is refused.
 #[tactic(auto, unfolding(crate::specs::Opening::opened))]
 pub fn open_scene(alloc: Global, text: &[u8]) -> Result<OpenedScene, JobFault>
     ensures { Gives Memory (λ o. o) result (opened text.now) }
 {
     let flat = flattened(alloc, text)?;
     let opened = built(alloc, &flat);
-    // Left to the end of its scope, the drop of a flat document is proved in place.
+    // For the prover: an explicit call. At an exit, the drop of `flat` is proved in place.
     drop(flat);
     opened
 }
 
-/// The job of these bytes: first its lines, then its scene.
+/// Returns the job of these bytes. Fails with the first fault of its lines, or else of its scene,
+/// or with `Memory` if memory is refused.
 #[tactic(auto, unfolding(crate::specs::Opening::opened_job))]
 pub fn open_job(alloc: Global, bytes: &[u8]) -> Result<Job, JobFault>
     ensures exact { Gives Memory (λ j. j) result (opened_job bytes.now) }
@@ -92,7 +94,10 @@ pub fn open_job(alloc: Global, bytes: &[u8]) -> Result<Job, JobFault>
     })
 }
 
-/// The job that a reader has left, which is read to its end first.
+/// Reads to the reader's end, and returns the job of the bytes.
+///
+/// Fails with `Device` if the reader fails or has no end, with `Memory` if memory is refused, or
+/// with the first fault of the job.
 pub fn read_job<R: Read>(alloc: Global, reader: &mut R) -> Result<Job, JobFault>
     ensures job { IfOk result (λ j. (bytes : List ℕ)
         × Consumes (R.remaining reader.old) (R.remaining reader.new) bytes
@@ -105,7 +110,10 @@ pub fn read_job<R: Read>(alloc: Global, reader: &mut R) -> Result<Job, JobFault>
     open_job(alloc, bytes.as_slice())
 }
 
-/// The schedule that a reader has left, which is read to its end first.
+/// Reads to the reader's end, and returns the schedule of the bytes.
+///
+/// Fails with `Device` if the reader fails or has no end, with `Memory` if memory is refused, or
+/// with the first fault of the schedule.
 pub fn read_schedule<R: Read>(alloc: Global, reader: &mut R) -> Result<Schedule, JobFault>
     ensures schedule { IfOk result (λ s. (bytes : List ℕ)
         × Consumes (R.remaining reader.old) (R.remaining reader.new) bytes

@@ -1,4 +1,4 @@
-//! What a refusal prints, and the status that the program then ends with.
+//! The line that the program prints for a refusal, and its exit status.
 
 ghost use Rattle.std.specs.Prelude.{◌≡◌, ◌≤◌, length};
 ghost use Rattle.share_program.specs.Refusal.{status, attach_status, job_status, run_status, share_status, refusal_text};
@@ -17,7 +17,7 @@ use share_jobs::JobFault;
 use share_words::OrderFault;
 use thiserror::Error;
 
-/// Every fault of the program: of its words, of its job and of the work itself.
+/// Every fault of the program: of its words, of its job and of its work.
 #[derive(Clone, Copy, Debug, PartialEq, Eq, Error)]
 pub enum Failure {
     #[error(transparent)]
@@ -81,8 +81,8 @@ fn share_status(fault: ShareFault) -> u8
     }
 }
 
-/// 1 for a scene that is refused, its scripts or a snapshot, 2 for words, boots and jobs, 3 for
-/// turns that are used up, 4 for devices, 5 for memory.
+/// Returns the exit status: 1 for a refused scene, its scripts or a snapshot; 2 for words, boots
+/// and jobs; 3 for turns that are used up; 4 for devices; 5 for memory.
 pub fn status_of(failure: &Failure) -> u8
     ensures { result ≡ status failure.now }
 {
@@ -162,7 +162,7 @@ fn line_of(failure: &Failure) -> u32
     }
 }
 
-/// `refused NAME`, and ` line N` where there is a line other than 0.
+/// Returns `refused NAME`, followed by ` line N` if the fault has a line other than 0.
 pub fn refusal_line(failure: &Failure) -> ArrayString<64>
     ensures { result.bytes ≡ refusal_text failure.now }
 {

@@ -28,18 +28,21 @@ use share_jobs::JobInputs;
 use std::alloc::{AllocError, Global};
 use std::io::{Read, Write};
 
-/// Reads a job to the reader's end, applies its inputs to its scene, whose scripts get boxes of the
-/// stock, and writes the trace and then the scene. Both texts are made before the first byte is
-/// written.
+/// Reads a job to the reader's end, applies its inputs to its scene, and writes the trace and then
+/// the scene. The scripts of the scene get boxes of the stock. Both texts are made before the first
+/// byte is written.
+///
+/// Fails with a fault of the job, of its scripts, of a device or of memory. On failure nothing is
+/// written, unless the writer fails.
 pub fn run_job<R: Read, W: Write>(
     alloc: Global,
     reader: &mut R,
     writer: &mut W,
 ) -> Result<(), Failure>
-    // Bytes in, bytes out.
+    // The reader's bytes give the writer's bytes.
     ensures ok { OnOk result (IsRun (R.remaining reader.old) (R.remaining reader.new)
         (W.contents writer.old) (W.contents writer.new)) }
-    // A job that is refused writes nothing, nor does one for which memory was refused.
+    // Nothing is written if the job is refused or if memory is refused.
     ensures refused { IfErr result (IsNoRun (R.remaining reader.old) (R.remaining reader.new)
         (W.contents writer.old) (W.contents writer.new)) }
 {
@@ -49,7 +52,7 @@ pub fn run_job<R: Read, W: Write>(
     }
 }
 
-/// Why inputs in turn were not applied.
+/// Returns why inputs in order were not applied: memory was refused.
 fn memory_alone(fault: ApplyFault) -> RunFault
     requires { fault ≡ ApplyFault.Memory }
     ensures { result ≡ Memory }
@@ -60,7 +63,7 @@ fn memory_alone(fault: ApplyFault) -> RunFault
     }
 }
 
-/// The stage of a scene after inputs in turn.
+/// Returns the stage of a scene after inputs in order.
 fn stage_of<B: Behaviour>(
     alloc: Global,
     scene: Scene,
@@ -84,7 +87,7 @@ fn stage_of<B: Behaviour>(
     }
 }
 
-/// The trace and then the scene of a stage that isn't spoiled.
+/// Returns the trace and then the scene of a stage that isn't spoiled.
 fn texts_of<B: Behaviour>(alloc: Global, stage: &Stage<B>) -> Result<Vec<u8>, RunFault>
     requires { IfSpoiled stage.now.held ⊥ }
     ensures ok { IfRunning stage.now.held (λ w.
@@ -99,7 +102,7 @@ fn texts_of<B: Behaviour>(alloc: Global, stage: &Stage<B>) -> Result<Vec<u8>, Ru
     }
 }
 
-/// The trace and then the scene of a job's world after its inputs.
+/// Returns the trace and then the scene of a job's world after its inputs.
 #[tactic(auto, unfolding(crate::specs::Running::run_text))]
 fn text_of<B: Behaviour>(alloc: Global, job: Job, scripts: Scripts<B>) -> Result<Vec<u8>, RunFault>
     requires fits { Fits (script_list job.scene) scripts }
@@ -114,14 +117,18 @@ fn text_of<B: Behaviour>(alloc: Global, job: Job, scripts: Scripts<B>) -> Result
     } = job;
     let stage = stage_of(alloc, scene, routes, scripts, &inputs)?;
     let text = texts_of(alloc, &stage);
-    // Left to the end of its scope, the drop of a stage is proved in place.
+    // For the prover: an explicit call. At an exit, the drop of a stage is proved in place.
     stage.close();
     text
 }
 
-/// Applies the inputs of a job to its scene, with these boxes for its scripts in the order of their
-/// nodes, and writes the trace and then the scene. Both texts are made before the first byte is
-/// written. Where it is refused the boxes are dropped.
+/// Applies the inputs of a job to its scene, with these boxes for its scripts, and writes the trace
+/// and then the scene. The boxes are in the order of the script nodes. Both texts are made before
+/// the first byte is written.
+///
+/// Fails with `Attach` if the boxes are not those that the scene's scripts ask for, with `Device`
+/// if the writer fails, and with `Memory` if memory is refused. On failure the boxes are dropped,
+/// and nothing is written unless the writer fails.
 pub fn run<B: Behaviour, W: Write>(
     alloc: Global,
     job: Job,
@@ -130,8 +137,8 @@ pub fn run<B: Behaviour, W: Write>(
 ) -> Result<(), RunFault>
     ensures ok { OnOk result
         (Appends (W.contents writer.old) (W.contents writer.new) (run_text job)) }
-    // Boxes that aren't those that the scene's scripts ask for are refused, and others for memory
-    // and devices alone.
+    // Boxes are refused if they aren't those that the scene's scripts ask for. With other boxes the
+    // run fails for memory and devices alone.
     ensures fits { OnOk result (FitsJob job (map (fresh_record B.kind_of B.numbers) boxes.items)) }
     ensures takes { FitsJob job (map (fresh_record B.kind_of B.numbers) boxes.items)
         → IfErr result (λ f. (f ≡ Device) ⊎ (f ≡ Memory)) }
@@ -140,7 +147,7 @@ pub fn run<B: Behaviour, W: Write>(
 {
     let scripts = match attach(alloc, &job.scene, boxes) {
         Ok(scripts) => scripts,
-        // A job is dropped by a call: left to an exit, its drop is proved in place.
+        // For the prover: an explicit call. At an exit, the drop of a job is proved in place.
         Err(fault) => {
             drop(job);
             return Err(fault);
@@ -151,7 +158,7 @@ pub fn run<B: Behaviour, W: Write>(
     Ok(())
 }
 
-/// A box of the stock for each script of a scene.
+/// Returns a box of the stock for each script of a scene.
 fn stock_of(alloc: Global, scene: &Scene) -> Result<Vec<StockScript>, AllocError>
     ensures { IfOk result
         (λ boxes. map made_of boxes.items ≡ stock_for (script_list scene.now)) }
@@ -160,7 +167,9 @@ fn stock_of(alloc: Global, scene: &Scene) -> Result<Vec<StockScript>, AllocError
     boxes_of(alloc, specs.as_slice())
 }
 
-/// Runs a job as `run` does, with boxes of the stock for the scripts of its scene.
+/// Runs a job as `run` does, with boxes of the stock for the scripts of its scene. Fails with
+/// `Attach` and the first fault of the scripts, with `Device` if the writer fails, and with
+/// `Memory` if memory is refused.
 pub fn run_stock<W: Write>(alloc: Global, job: Job, writer: &mut W) -> Result<(), RunFault>
     ensures ok { OnOk result
         (Appends (W.contents writer.old) (W.contents writer.new) (run_text job)) }
@@ -169,14 +178,14 @@ pub fn run_stock<W: Write>(alloc: Global, job: Job, writer: &mut W) -> Result<()
         (IsUnrunStock job (W.contents writer.old) (W.contents writer.new)) }
 {
     let Ok(boxes) = stock_of(alloc, &job.scene) else {
-        // A job is dropped by a call: left to an exit, its drop is proved in place.
+        // For the prover: an explicit call. At an exit, the drop of a job is proved in place.
         drop(job);
         return Err(RunFault::Memory);
     };
     run(alloc, job, boxes, writer)
 }
 
-/// The same, with a failure of the whole program for its fault.
+/// Like `run_stock`, with a failure of the whole program as its fault.
 fn run_read<W: Write>(alloc: Global, job: Job, writer: &mut W) -> Result<(), Failure>
     ensures ok { OnOk result
         (Appends (W.contents writer.old) (W.contents writer.new) (run_text job)) }

@@ -34,11 +34,11 @@ unless_refused x (Some fault) = Err fault
 abbrev pub staged : OpenedScene → Result StageView JobFault
 staged o = unless_refused (fresh o) (scripts_refusal o.scene)
 
--- a scene whose scripts are taken, or why they aren't
+-- a scene whose scripts are taken, or why they are refused
 abbrev pub scripted : OpenedScene → Result OpenedScene JobFault
 scripted o = unless_refused o (scripts_refusal o.scene)
 
--- the scene of a text, and its routes, where its scripts are taken
+-- the scene of a text, and its routes, if its scripts are taken
 unfoldable pub staged_scene : List ℕ → Result OpenedScene JobFault
 staged_scene text = next same (opened text) scripted
 

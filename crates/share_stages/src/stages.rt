@@ -17,7 +17,7 @@ use share_jobs::JobFault;
 use share_program::{OpenedScene, open_scene};
 use std::alloc::{AllocError, Global};
 
-/// Boxes of the stock for the scripts of a scene, none of which is initialized.
+/// Returns boxes of the stock for the scripts of a scene, none of which is initialized.
 fn scripts_of(alloc: Global, scene: &Scene) -> Result<Scripts<StockScript>, JobFault>
     ensures fits { IfOk result (λ scripts. Fits (script_list scene.now) scripts) }
     ensures fresh { IfOk result (λ scripts. scripts ≡ scripts_in scene.now) }
@@ -28,7 +28,7 @@ fn scripts_of(alloc: Global, scene: &Scene) -> Result<Scripts<StockScript>, JobF
     Ok(attach_stock(alloc, specs.as_slice())?)
 }
 
-/// The stage of a scene with these scripts before any input.
+/// Returns the stage of a scene with these scripts before any input.
 fn loaded(
     alloc: Global,
     opened: OpenedScene,
@@ -44,8 +44,8 @@ fn loaded(
     }
 }
 
-/// The stage of a scene before any input. It is refused for memory, or else for the first fault of
-/// its scripts.
+/// Returns the stage of a scene before any input, with boxes of the stock for its scripts. Fails
+/// with `Memory` if memory is refused, or else with the first fault of the scripts.
 pub fn fresh_stage(alloc: Global, opened: OpenedScene) -> Result<Stage<StockScript>, JobFault>
     ensures exact { Gives Memory (λ s. s) result (staged opened) }
     ensures ok { IfOk result (λ s. s ≡ fresh opened) }
@@ -54,7 +54,7 @@ pub fn fresh_stage(alloc: Global, opened: OpenedScene) -> Result<Stage<StockScri
 {
     match scripts_of(alloc, &opened.scene) {
         Ok(scripts) => Ok(loaded(alloc, opened, scripts)?),
-        // A scene is dropped by a call: left to an exit, its drop is proved in place.
+        // For the prover: an explicit call. At an exit, the drop of a scene is proved in place.
         Err(fault) => {
             drop(opened);
             Err(fault)
@@ -62,8 +62,9 @@ pub fn fresh_stage(alloc: Global, opened: OpenedScene) -> Result<Stage<StockScri
     }
 }
 
-/// The stage of a text's scene before any input. It is refused for memory, or else for the first
-/// fault of the text or of its scripts.
+/// Returns the stage of a text's scene before any input, with boxes of the stock for its scripts.
+/// Fails with `Memory` if memory is refused, or else with the first fault of the text or of its
+/// scripts.
 #[tactic(auto, unfolding(crate::specs::Stages::opened_stage, crate::specs::Stages::staged_scene))]
 pub fn stage_of(alloc: Global, text: &[u8]) -> Result<Stage<StockScript>, JobFault>
     ensures exact { Gives Memory (λ s. s) result (opened_stage text.now) }

@@ -1,4 +1,4 @@
--- The program as `clap` has it: its commands, each with its options.
+-- The program as a `clap` command: its commands, each with its options.
 use Rattle.std.specs.Prelude.{List, [], ◌∷◌, codes, true}
 use Rattle.std.specs.List.{fold}
 use Rattle.clap.specs.Words.{App, Rule, Text, new_app, with_rule, with_subcommand}
@@ -10,7 +10,7 @@ use Rattle.share_words.specs.declared.commands.CommandWords.{CommandWords}
 use Rattle.share_words.specs.declared.options.FlagOption.{FlagOption}
 use Rattle.share_words.specs.declared.options.NumberOption.{NumberOption}
 
--- the program without its commands: one of them has to be named, and all know `--version`
+-- the program without its commands. A command is required, and every command knows `--version`
 unfoldable pub bare_program : App
 bare_program =
     on_top (λ s. record s {
@@ -54,7 +54,8 @@ view_app = taking (codes "view")
     (port_rule ∷ who_rule ∷ boot_rule ∷ until_rule ∷ exactly_rule ∷ turns_rule ∷ at_rule
     ∷ give_rule ∷ join_rule ∷ verbose_rule ∷ [])
 
--- the program with the commands that take no options, then those of one process, then all
+-- the program with the commands that take no options; then with `rehearse` and `agree`; then with
+-- all
 unfoldable pub single_program : App
 single_program =
     with_subcommand (with_subcommand (with_subcommand bare_program run_app.top) format_app.top)
@@ -74,7 +75,7 @@ with_option a o = with_rule a (number_rule o)
 abbrev pub with_flag : App → FlagOption → App
 with_flag a o = with_rule a (flag_rule o)
 
--- a command of the program's table as `clap` has it
+-- a command of the program's table as a `clap` command
 abbrev pub app_with : CommandWords → App
 app_with w = fold with_flag (fold with_option (new_app w.name.now) w.options.now) w.flags.now
 

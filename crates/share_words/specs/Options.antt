@@ -1,5 +1,5 @@
--- The options of the commands, as `clap` has them: each has a name, and a range with a default, or
--- is required, or may be left out; or it is given or not.
+-- The options of the commands as `clap` options. An option has a name and a range; it has a
+-- default, is required, or may be left out. A flag has no value.
 use Rattle.std.specs.Prelude.{ℕ, ◌-◌, [], ◌∷◌, Some, codes, pos, true}
 use Rattle.clap.specs.Words.{Rule, Text, new_rule}
 use Rattle.clap.specs.declared.builder.action.ArgAction.TheVariants.{SetTrue}
@@ -10,7 +10,7 @@ use Rattle.share_words.specs.declared.options.NumberOption.{NumberOption}
 use Rattle.share_words.specs.declared.options.Unless.{Unless}
 use Rattle.share_words.specs.declared.options.Unless.TheVariants.{Refused, Has, Nothing}
 
--- the highest number of a viewer
+-- the highest number that a viewer can have
 abbrev pub max_who : ℕ
 max_who = max_viewers - 1
 
@@ -22,7 +22,7 @@ option name = record (new_rule name) { long = Some name; value_names = 1 }
 abbrev pub ranged : Text → (low high : ℕ) → Rule
 ranged name low high = record (option name) { parser = Some (Signed (pos low) (pos high)) }
 
--- `--viewers K`, from 1 to the most that a world may have, by default 2
+-- `--viewers K`, from 1 to the most that a world can have, by default 2
 abbrev pub viewers_rule : Rule
 viewers_rule = record (ranged (codes "viewers") 1 max_viewers) { defaults = codes "2" ∷ [] }
 
@@ -59,7 +59,7 @@ at_rule = ranged (codes "at") 1 65535
 abbrev pub give_rule : Rule
 give_rule = ranged (codes "give") 1 65535
 
--- `--NAME`, which is given or not
+-- `--NAME`, a flag
 abbrev pub flag : Text → Rule
 flag name = record (new_rule name) { long = Some name; action = Some SetTrue }
 
@@ -81,7 +81,7 @@ with_unless Refused r = record r { required = true }
 with_unless (Has text) r = record r { defaults = text.now ∷ [] }
 with_unless Nothing r = r
 
--- an option of the program's table as `clap` has it
+-- an option of the program's table as a `clap` option
 abbrev pub number_rule : NumberOption → Rule
 number_rule o = with_unless o.unless (ranged_rule o)
 

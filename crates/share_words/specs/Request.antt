@@ -11,6 +11,6 @@ abbrev pub IsRequest : List Text → Request → Type 0
 IsRequest words (request.Text text) = AsksForText words
 IsRequest words (request.Order order) = Means words order × IsInRange order
 
--- the words mean no order, and a text is not all that they ask for
+-- the words mean no order, and they do not ask for a text alone
 abbrev pub RequestsNothing : List Text → Type 0
 RequestsNothing words = ((order : Order) → ¬ Means words order) × (¬ AsksOnlyForText words)

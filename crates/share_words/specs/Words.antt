@@ -1,4 +1,4 @@
--- What the command words mean, by what `clap` makes of them.
+-- What the command words mean, given how `clap` parses them.
 use Rattle.std.specs.Prelude.{◌≡◌, ◌≢◌, ◌⊎◌, ◌<◌, ◌≤◌, ℕ, Bool, List, [], ◌∷◌, Option, Some, None, codes, ⊤}
 use Rattle.std.specs.Prelude.{IsSomeAnd, IfSome, false}
 use Rattle.std.specs.Option.{option_map_or}
@@ -21,29 +21,30 @@ use Rattle.share_words.specs.declared.order.ViewOrder.{ViewOrder}
 use Rattle.std.specs.declared.io.ErrorKind.{ErrorKind as IoErrorKind}
 use Rattle.std.specs.declared.io.ErrorKind.TheVariants.{OutOfMemory}
 
--- the option of this name has this number: it was given, or is the default
+-- the option of this name has this number, either given or by default
 pub record HasNumber (id : Text) (rows : List Row) (n : ℕ) : Type 0 where
   pub text : Text
   pub found : one_of id rows ≡ Some text
   pub numeral : IsNumeral 10 (without_leading_plus text)
   pub value : n ≡ digits_value 10 (without_leading_plus text)
 
--- a number of this option, from low to high
+-- the option has this number, and it is from low to high
 pub record HasNumberIn (id : Text) (rows : List Row) (low high n : ℕ) : Type 0 where
   pub number : HasNumber id rows n
   pub low_end : low ≤ n
   pub high_end : n ≤ high
 
--- the option of this name was not given, and has no default
+-- the option of this name was not given and has no default
 abbrev pub IsLeftOut : Text → List Row → Type 0
 IsLeftOut id rows = one_of id rows ≡ None
 
--- a number of this option, from low to high, or none where it was left out
+-- the option has this number, and it is from low to high; or the option was left out
 abbrev pub MayHaveNumberIn : (id : Text) → List Row → (low high : ℕ) → Option ℕ → Type 0
 MayHaveNumberIn id rows low high (Some n) = HasNumberIn id rows low high n
 MayHaveNumberIn id rows low high None = IsLeftOut id rows
 
--- whether the option of this name was given, which takes no value: `clap` has it as a text
+-- reports whether the option of this name, which takes no value, was given. `clap` has its value as
+-- a text
 abbrev pub is_given : Text → List Row → Bool
 is_given id rows = option_map_or (λ text. bytes_eq text (codes "true")) (one_of id rows) false
 
@@ -77,13 +78,12 @@ MayHaveAt rows at = MayHaveNumberIn (codes "at") rows 1 65535 at
 abbrev pub MayHaveGive : List Row → Option ℕ → Type 0
 MayHaveGive rows give = MayHaveNumberIn (codes "give") rows 1 65535 give
 
--- of `--until` and `--exactly` one was given, which says when a viewer ends
+-- one of `--until` and `--exactly` was given, and it says when a viewer ends
 abbrev pub IsEnd : List Row → ViewEnd → Type 0
 IsEnd rows (Until n) = MayHaveUntil rows (Some n) × MayHaveExactly rows None
 IsEnd rows (Exactly n) = MayHaveUntil rows None × MayHaveExactly rows (Some n)
 
--- the end that the numbers of the two options ask for, if one of them was left out and one was
--- given
+-- the end that the numbers of the two options ask for, if exactly one of them was given
 abbrev pub end_of : (until exactly : Option ℕ) → Option ViewEnd
 end_of (Some n) None = Some (Until n)
 end_of None (Some n) = Some (Exactly n)
@@ -128,12 +128,12 @@ pub record Means (words : List Text) (order : Order) : Type 0 where
 
 -- ---- ranges
 
--- with how many inputs a viewer ends
+-- how many inputs a viewer applies before it ends
 abbrev pub end_count : ViewEnd → ℕ
 end_count (Until n) = n
 end_count (Exactly n) = n
 
--- the numbers of a host are those that it takes
+-- the numbers of a host's order are in their ranges
 pub record HostInRange (o : HostOrder) : Type 0 where
   pub port_low : 1 ≤ o.port
   pub viewers_low : 1 ≤ o.viewers
@@ -143,7 +143,7 @@ pub record HostInRange (o : HostOrder) : Type 0 where
   pub turns_low : 1 ≤ o.turns
   pub turns_high : o.turns ≤ 10000000
 
--- the numbers of a viewer are those that it takes
+-- the numbers of a viewer's order are in their ranges
 pub record ViewInRange (o : ViewOrder) : Type 0 where
   pub port_low : 1 ≤ o.port
   pub who_high : o.who < max_viewers
@@ -154,7 +154,7 @@ pub record ViewInRange (o : ViewOrder) : Type 0 where
   pub at_low : IfSome o.at (λ q. 1 ≤ q)
   pub give_low : IfSome o.give (λ q. 1 ≤ q)
 
--- the numbers of an order are those that hosts and viewers take
+-- the numbers of an order are in the ranges that hosts and viewers take
 abbrev pub IsInRange : Order → Type 0
 IsInRange (Rehearse viewers) = (1 ≤ viewers) × (viewers ≤ max_viewers)
 IsInRange (Agree viewers turns) = (1 ≤ viewers) × (viewers ≤ max_viewers)
@@ -162,7 +162,7 @@ IsInRange (Host o) = HostInRange o
 IsInRange (View o) = ViewInRange o
 IsInRange _ = ⊤
 
--- why the process's own words can't be had: memory was refused, or one of them is no text
+-- why the process's own words can't be read: memory was refused, or one of them is not a text
 abbrev pub order_fault_of : IoErrorKind → OrderFault
 order_fault_of OutOfMemory = Memory
 order_fault_of _ = Words
@@ -173,14 +173,14 @@ order_fault_of _ = Words
 abbrev pub IsText : ErrorKind → Type 0
 IsText k = (k ≡ kind.DisplayHelp) ⊎ (k ≡ kind.DisplayVersion)
 
--- `clap` refuses the words, and not for memory
+-- `clap` refuses the words, for another reason than memory
 abbrev pub IsRefusal : ErrorKind → Type 0
 IsRefusal k = (k ≢ kind.DisplayHelp) × (k ≢ kind.DisplayVersion) × (k ≢ kind.OutOfMemory)
 
--- the words ask for help or version, among what else they come to
+-- the words ask for help or version, possibly among other faults
 abbrev pub AsksForText : List Text → Type 0
 AsksForText words = (k : ErrorKind) × IsText k × IsAmong k (fault_of program words)
 
--- the words ask for help or version, and come to nothing else
+-- the words ask for help or version, and have no other fault
 abbrev pub AsksOnlyForText : List Text → Type 0
 AsksOnlyForText words = (k : ErrorKind) × IsText k × (fault_of program words ≡ k ∷ [])

@@ -79,7 +79,8 @@ fn exactly_in(found: &ArgMatches<'_>) -> Option<Option<u32>>
     optional_in(found, "exactly", 0, MAX_INPUTS)
 }
 
-/// A port of 127.0.0.1 that may be named, 1 to 65,535.
+/// Returns the port of 127.0.0.1, 1 to 65,535, that an option names, or `Some(None)` if the option
+/// was left out.
 fn port_or_none(found: &ArgMatches<'_>, id: &str) -> Option<Option<u16>>
     ensures some { IfSome result
         (λ o. MayHaveNumberIn id.now (rows_of (found_of found.now)) 1 65535 o) }
@@ -109,7 +110,7 @@ fn give_in(found: &ArgMatches<'_>) -> Option<Option<u16>>
     port_or_none(found, "give")
 }
 
-/// The end that the numbers of `--until` and `--exactly` ask for.
+/// Returns the end that `--until` and `--exactly` ask for, if exactly one of them has a number.
 fn end_of(until: Option<u32>, exactly: Option<u32>) -> Option<ViewEnd>
     ensures { result ≡ end_of until exactly }
 {
@@ -121,7 +122,7 @@ fn end_of(until: Option<u32>, exactly: Option<u32>) -> Option<ViewEnd>
     }
 }
 
-/// The one of `--until` and `--exactly` that was given.
+/// Returns the end that the matches ask for, if exactly one of `--until` and `--exactly` was given.
 #[tactic(auto, using(crate::proofs::AskedLemmas::ends))]
 fn end_in(found: &ArgMatches<'_>) -> Option<ViewEnd>
     ensures some { IfSome result (λ e. IsEnd (rows_of (found_of found.now)) e) }
@@ -250,7 +251,7 @@ fn view_in(found: &ArgMatches<'_>) -> Option<Order>
     Some(Order::View(asked))
 }
 
-/// The order of the command of this name.
+/// Returns the order of the command of this name with these matches, or `None` if there is none.
 fn order_of(name: &str, found: &ArgMatches<'_>) -> Option<Order>
     ensures some { IfSome result (λ o. Asks o (name.now, rows_of (found_of found.now))) }
     ensures none { IfNone result
@@ -268,7 +269,7 @@ fn order_of(name: &str, found: &ArgMatches<'_>) -> Option<Order>
     }
 }
 
-/// The order of the command that the matches have.
+/// Returns the order of the subcommand that the matches have, or `None` if there is none.
 pub fn order_in(matches: &ArgMatches<'_>) -> Option<Order>
     ensures some { IfSome result (λ o. IsSomeAnd (subcommand_rows_of matches.now) (Asks o)) }
     ensures none { IfNone result

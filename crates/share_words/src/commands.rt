@@ -1,4 +1,4 @@
-//! The program and its commands, as `clap` has them, with their help.
+//! The program and its commands as `clap` commands, with their help.
 
 ghost use Rattle.std.specs.Prelude.{◌≡◌, [], ◌∷◌, false, map, IfOk};
 ghost use Rattle.std.specs.List.{fold};
@@ -143,7 +143,7 @@ Status:
   4  a device failed
   5  memory was refused";
 
-/// What help says of a command, and the options that it takes.
+/// What help says of a command, and the options of the command.
 struct CommandWords {
     name: &'static str,
     about: &'static str,
@@ -204,7 +204,7 @@ static COMMANDS: [CommandWords; 7] = [
     },
 ];
 
-/// The commands in the order of help.
+/// Returns the commands in the order of help.
 fn commands() -> &'static [CommandWords]
     ensures { map app_with result.now ≡ run_app ∷ format_app ∷ check_app ∷ rehearse_app ∷ agree_app
         ∷ host_app ∷ view_app ∷ [] }
@@ -212,7 +212,7 @@ fn commands() -> &'static [CommandWords]
     &COMMANDS
 }
 
-/// A command with its options.
+/// Builds a command with its options.
 fn command<'a>(alloc: Global, words: &CommandWords) -> Result<Command<'a>, AllocError>
     ensures app { IfOk result (λ c. app_of c ≡ app_with words.now) }
     ensures local { IfOk result (λ c. (fields_of c).has_globals ≡ false) }
@@ -229,7 +229,7 @@ fn command<'a>(alloc: Global, words: &CommandWords) -> Result<Command<'a>, Alloc
     Ok(command)
 }
 
-/// The program without its commands.
+/// Builds the program without its commands.
 #[tactic(auto, unfolding(crate::specs::Commands::bare_program))]
 fn bare_command<'a>(alloc: Global) -> Result<Command<'a>, AllocError>
     ensures app { IfOk result (λ c. app_of c ≡ bare_program) }
@@ -245,7 +245,7 @@ fn bare_command<'a>(alloc: Global) -> Result<Command<'a>, AllocError>
         .bin_name("x3d_share")
 }
 
-/// The program with one command more.
+/// Adds one command to the program.
 fn with_command<'a>(
     program: Command<'a>,
     alloc: Global,
@@ -257,7 +257,7 @@ fn with_command<'a>(
     program.subcommand(command(alloc, words)?)
 }
 
-/// The program with all its commands.
+/// Builds the program with all its commands. Fails if memory is refused.
 pub fn program_command<'a>(alloc: Global) -> Result<Command<'a>, AllocError>
     ensures { IfOk result (λ c. app_of c ≡ program) }
 {

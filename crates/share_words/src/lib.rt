@@ -1,4 +1,4 @@
-//! The words of the command line: what they ask for, and what help shows.
+//! The words of the command line: what they ask for, and the text of help.
 #![tactic(auto)]
 
 mod asked;

@@ -1,4 +1,4 @@
-//! The numbers that options have, and whether they are given.
+//! The numbers of options, and whether an option was given.
 
 ghost use Rattle.std.specs.Prelude.{◌≡◌, ◌<◌, ◌≤◌, ◌^◌, ℕ, true, false, Option, IfSome, IfNone};
 ghost use Rattle.clap.specs.Words.{rows_of, found_of};
@@ -7,7 +7,7 @@ ghost use Rattle.share_words.specs.Words.{is_given};
 
 use clap::ArgMatches;
 
-/// The number of an option.
+/// Returns the number of an option.
 fn number(matches: &ArgMatches<'_>, id: &str) -> Option<u32>
     ensures some { IfSome result (λ n. HasNumber id.now (rows_of (found_of matches.now)) n) }
     ensures none { IfNone result
@@ -16,7 +16,8 @@ fn number(matches: &ArgMatches<'_>, id: &str) -> Option<u32>
     matches.get_one::<u32>(id)
 }
 
-/// The number of an option, from `low` to `high`.
+/// Returns the number of an option, if it is from `low` to `high`. An option's default counts as
+/// its number.
 pub fn number_in(matches: &ArgMatches<'_>, id: &str, low: u32, high: u32) -> Option<u32>
     ensures some { IfSome result
         (λ n. HasNumberIn id.now (rows_of (found_of matches.now)) low high n) }
@@ -29,7 +30,7 @@ pub fn number_in(matches: &ArgMatches<'_>, id: &str, low: u32, high: u32) -> Opt
     }
 }
 
-/// Whether an option was not given, and has no default.
+/// Reports whether an option was not given and has no default.
 fn is_left_out(matches: &ArgMatches<'_>, id: &str) -> bool
     ensures yes { (result ≡ true) → IsLeftOut id.now (rows_of (found_of matches.now)) }
     ensures no { (result ≡ false) → ¬ IsLeftOut id.now (rows_of (found_of matches.now)) }
@@ -37,7 +38,8 @@ fn is_left_out(matches: &ArgMatches<'_>, id: &str) -> bool
     matches.get_str(id).is_none()
 }
 
-/// The number of an option, from `low` to `high`, or none where it was left out.
+/// Returns the number of an option, if it is from `low` to `high`, or `Some(None)` if the option
+/// was left out and has no default.
 pub fn optional_in(matches: &ArgMatches<'_>, id: &str, low: u32, high: u32) -> Option<Option<u32>>
     ensures some { IfSome result
         (λ o. MayHaveNumberIn id.now (rows_of (found_of matches.now)) low high o) }
@@ -53,7 +55,7 @@ pub fn optional_in(matches: &ArgMatches<'_>, id: &str, low: u32, high: u32) -> O
     }
 }
 
-/// Whether an option was given that takes no value.
+/// Reports whether an option that takes no value was given.
 pub fn is_named(matches: &ArgMatches<'_>, id: &str) -> bool
     ensures { result ≡ is_given id.now (rows_of (found_of matches.now)) }
 {

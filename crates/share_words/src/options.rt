@@ -10,14 +10,14 @@ use clap::{Arg, ArgAction};
 use std::alloc::Global;
 use x3d_values::{MAX_INPUTS, MAX_VIEWERS};
 
-/// What an option has where it is not given.
+/// What the value of an option is if the option is not given.
 #[derive(Clone, Copy)]
 pub enum Unless {
-    /// It has to be given.
+    /// The option is required.
     Refused,
-    /// It has this number.
+    /// The option has this number by default.
     Has(&'static str),
-    /// It has none.
+    /// The option has no number.
     Nothing,
 }
 
@@ -28,24 +28,24 @@ pub struct NumberOption {
     pub low: u32,
     pub high: u32,
     pub unless: Unless,
-    /// What help calls its number.
+    /// The name of the number in help.
     pub value: &'static str,
     pub help: &'static str,
 }
 
-/// An option that is given or not.
+/// An option without a value.
 #[derive(Clone, Copy)]
 pub struct FlagOption {
     pub name: &'static str,
-    /// The letter that it may be given by.
+    /// The option's short form.
     pub letter: Option<char>,
     pub help: &'static str,
 }
 
-/// The highest number of a viewer.
+/// The highest number that a viewer can have.
 pub const MAX_WHO: u32 = MAX_VIEWERS as u32 - 1;
 
-// The help of `VIEWERS` and of `WHO` says these numbers.
+// The help of `VIEWERS` and of `WHO` states these numbers.
 const _: () = prove!(MAX_VIEWERS == 64 && MAX_WHO == 63);
 
 pub const VIEWERS: NumberOption = NumberOption {
@@ -84,7 +84,7 @@ pub const KEEP: NumberOption = NumberOption {
     help: "Keeps the last N of the inputs that all viewers have, 0 to 1048576 [default: all]",
 };
 
-/// As `host` has it.
+/// The option `--until` of `host`.
 pub const HOST_UNTIL: NumberOption = NumberOption {
     name: "until",
     low: 0,
@@ -112,7 +112,7 @@ pub const BOOT: NumberOption = NumberOption {
     help: "How often this viewer has been started, this time too, 1 to 4294967295",
 };
 
-/// As `view` has it.
+/// The option `--until` of `view`.
 pub const VIEW_UNTIL: NumberOption = NumberOption {
     name: "until",
     low: 0,
@@ -161,14 +161,14 @@ pub const VERBOSE: FlagOption = FlagOption {
     help: "Tells on standard error what comes to pass",
 };
 
-/// The numbers that the option takes.
+/// Returns the parser for the range of the option.
 fn range_of<'a>(option: &NumberOption) -> ValueParser<'a>
     ensures { result ≡ Signed (pos option.now.low) (pos option.now.high) }
 {
     ValueParser::signed(option.low as i64, option.high as i64)
 }
 
-/// The option with its name and its range.
+/// Builds an option of `clap` with the name, the range and the help of `option`.
 fn ranged_arg<'a>(alloc: Global, option: &NumberOption) -> Arg<'a>
     ensures rule { rule_of result ≡ ranged_rule option.now }
     ensures local { result.global ≡ false }
@@ -180,7 +180,7 @@ fn ranged_arg<'a>(alloc: Global, option: &NumberOption) -> Arg<'a>
         .help(option.help)
 }
 
-/// The option as `clap` has it.
+/// Builds the option of `clap`, which is required or has a default where `option` says so.
 pub fn number_arg<'a>(alloc: Global, option: &NumberOption) -> Arg<'a>
     ensures rule { rule_of result ≡ number_rule option.now }
     ensures local { result.global ≡ false }
@@ -193,7 +193,7 @@ pub fn number_arg<'a>(alloc: Global, option: &NumberOption) -> Arg<'a>
     }
 }
 
-/// The option as `clap` has it.
+/// Builds the option of `clap`, a flag that is set if it is given.
 pub fn flag_arg<'a>(alloc: Global, option: &FlagOption) -> Arg<'a>
     ensures rule { rule_of result ≡ flag_rule option.now }
     ensures local { result.global ≡ false }

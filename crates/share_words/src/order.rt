@@ -9,51 +9,52 @@ use std::alloc::AllocError;
 use std::io;
 use thiserror::Error;
 
-/// What `host` is to do; its input is a job of clocks.
+/// What `host` does; its input is a job of clocks.
 #[derive(Clone, Copy, PartialEq, Eq)]
 pub struct HostOrder {
-    /// The UDP port of 127.0.0.1 that is bound, 1 to 65,535.
+    /// The UDP port of 127.0.0.1 to bind, 1 to 65,535.
     pub port: u16,
-    /// How many viewers there may be, 1 to `MAX_VIEWERS` of x3d_values.
+    /// How many viewers there can be, 1 to `MAX_VIEWERS` of x3d_values.
     pub viewers: u8,
-    /// How many turns at most, 1 to 10,000,000.
+    /// The limit of turns, 1 to 10,000,000.
     pub turns: u32,
-    /// How many of the last inputs are kept for viewers that have them, 0 to 2^20, or all.
+    /// How many of the last inputs are kept for viewers that have them, 0 to 2^20; `None` keeps
+    /// all.
     pub keep: Option<u32>,
-    /// How many inputs end it, 0 to 2^20, or none do.
+    /// After how many inputs the host ends, 0 to 2^20; `None` for no such end.
     pub until: Option<u32>,
-    /// It tells on standard error what comes to pass.
+    /// Reports events on standard error.
     pub verbose: bool,
 }
 
-/// With how many inputs applied a viewer ends, 0 to 2^20.
+/// How many inputs a viewer applies before it ends, 0 to 2^20.
 #[derive(Clone, Copy, PartialEq, Eq)]
 pub enum ViewEnd {
-    /// With so many or some more.
+    /// At least this many.
     Until(u32),
-    /// With so many, and none beyond them.
+    /// Exactly this many. Inputs beyond them are not applied.
     Exactly(u32),
 }
 
-/// What `view` is to do; its input is a job of this viewer's points.
+/// What `view` does; its input is a job of this viewer's points.
 #[derive(Clone, Copy, PartialEq, Eq)]
 pub struct ViewOrder {
     /// The host's UDP port on 127.0.0.1, 1 to 65,535.
     pub port: u16,
-    /// The viewer, below `MAX_VIEWERS` of x3d_values.
+    /// The number of the viewer, below `MAX_VIEWERS` of x3d_values.
     pub who: u8,
-    /// How often it has been started, this time too, 1 to 2^32 - 1.
+    /// How often the viewer has been started, counting this time, 1 to 2^32 - 1.
     pub boot: u32,
     pub end: ViewEnd,
-    /// How many turns at most, 1 to 10,000,000.
+    /// The limit of turns, 1 to 10,000,000.
     pub turns: u32,
-    /// The port that it binds, 1 to 65,535, or a free one.
+    /// The UDP port to bind, 1 to 65,535; `None` for a free port.
     pub at: Option<u16>,
-    /// The port of the viewer that its snapshot goes to, 1 to 65,535, or to none.
+    /// The port of the viewer that gets this viewer's snapshot, 1 to 65,535; `None` for no viewer.
     pub give: Option<u16>,
-    /// It joins by the pieces of another viewer's snapshot.
+    /// Joins from the pieces of another viewer's snapshot.
     pub join: bool,
-    /// It tells on standard error what comes to pass.
+    /// Reports events on standard error.
     pub verbose: bool,
 }
 
@@ -74,14 +75,14 @@ pub enum Order {
     View(ViewOrder),
 }
 
-/// What words ask for: the text that `--help` or `--version` shows, or a command.
+/// What words ask for: the text of `--help` or `--version`, or a command.
 #[derive(Drop)]
 pub enum Request {
     Text(String),
     Order(Order),
 }
 
-/// Why words give no command.
+/// Why words ask for nothing.
 #[derive(Clone, Copy, Debug, PartialEq, Eq, Error)]
 pub enum OrderFault {
     #[error("the words are no command")]
@@ -98,7 +99,7 @@ impl From<AllocError> for OrderFault {
     }
 }
 
-/// Why the process's own words could not be had.
+/// The fault if the process's own words can't be read.
 impl From<io::Error> for OrderFault {
     ghost from_gives = { λ error fault. fault ≡ order_fault_of (error_kind error) };
 

@@ -1,4 +1,4 @@
-//! What words ask for, by `clap`.
+//! What words ask for, as parsed by `clap`.
 
 ghost use Rattle.std.specs.Prelude.{◌≡◌, ◌⊎◌, map};
 ghost use Rattle.std.specs.Prelude.{IfOk, IfErr};
@@ -14,7 +14,10 @@ use clap::Error;
 use clap::error::ErrorKind;
 use std::alloc::Global;
 
-/// What the words ask for, the program's own name first.
+/// Returns what the words ask for. The first word is the program's own name.
+///
+/// Fails with `Words` if the words are not a command and not a request for help or version alone,
+/// and with `Memory` if memory is refused.
 pub fn request_of<'a>(alloc: Global, words: &'a [&'a str]) -> Result<Request, OrderFault>
     ensures asked { IfOk result (IsRequest (map (λ w. w.now) words.entry.now)) }
     ensures refused { IfErr result (λ f. (f ≡ fault.Memory)
@@ -30,7 +33,7 @@ pub fn request_of<'a>(alloc: Global, words: &'a [&'a str]) -> Result<Request, Or
     }
 }
 
-/// The text of an answer to `--help` or `--version`.
+/// Returns the text of an answer to `--help` or `--version`. Any other error of `clap` is a fault.
 fn shown(alloc: Global, error: &Error) -> Result<String, OrderFault>
     ensures text { IfOk result (λ _. IsText (kind_of error.now)) }
     ensures refused { IfErr result (λ f. (f ≡ fault.Memory)

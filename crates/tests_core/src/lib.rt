@@ -1,5 +1,5 @@
 //! Tests of the crates below the scene: lists, numerals, bytes, values, tokens, datagrams, parts of
-//! snapshots, reactions, sensors and typed values. It has nothing else.
+//! snapshots, reactions, sensors and typed values. The crate has nothing else.
 #![tactic(auto)]
 
 #[cfg(test)]

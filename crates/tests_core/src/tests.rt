@@ -1,4 +1,4 @@
-//! Tables and examples by hand, a file for each crate; and growths that are refused.
+//! Tables and examples by hand, one file per crate, and growths that are refused.
 
 mod clocks;
 mod datagrams;
@@ -23,25 +23,25 @@ use std::fmt::Display;
 use std::process::Abort;
 use x3d_values::Items;
 
-/// It is so.
+/// Asserts the answer.
 fn holds(rt: &impl Abort, answer: bool) {
     assert!(rt; answer);
 }
 
 /// A row of a table.
 trait Row {
-    /// Whether it is as the row says; it isn't where memory is refused.
+    /// Reports whether the row is right. It is wrong if memory is refused.
     fn holds(&self, alloc: Global) -> bool;
 }
 
-/// Each row of a table holds.
+/// Asserts each row of a table.
 fn all_hold<R: Row>(rt: &impl Abort, alloc: Global, rows: &[R]) {
     for (number, row) in rows.iter().enumerate() {
         assert!(rt; row.holds(alloc), "row {number}");
     }
 }
 
-/// The items, or none where memory is refused.
+/// Returns a list of the items, or an empty list if memory is refused.
 fn list_of<T: Copy>(alloc: Global, items: &[T]) -> Items<T> {
     match Items::from_slice(alloc, items) {
         Ok(list) => list,
@@ -49,7 +49,7 @@ fn list_of<T: Copy>(alloc: Global, items: &[T]) -> Items<T> {
     }
 }
 
-/// A fault, and what it says.
+/// A fault, and its message.
 struct Said<T>(T, &'static str);
 
 impl<T: Display> Row for Said<T> {

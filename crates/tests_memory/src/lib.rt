@@ -1,4 +1,4 @@
-//! For tests: memory that is used up, so that the next growth is refused.
+//! For tests: uses up memory, so that the next growth is refused.
 #![tactic(auto)]
 
 mod sparing;

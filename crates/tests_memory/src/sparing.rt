@@ -1,19 +1,20 @@
-//! Work with ever more memory left, until there is enough.
+//! Runs work with more and more memory, until there is enough.
 
 use crate::used_up::UsedUp;
 use std::alloc::Global;
 
-/// What came of work with little memory.
+/// The result of work with little memory.
 #[derive(Clone, Copy, PartialEq, Eq)]
 pub enum Outcome {
     Done,
-    /// Memory was refused, and all stood then as it is to stand.
+    /// Memory was refused, and the state afterwards was as expected.
     Refused,
     Wrong,
 }
 
 impl Outcome {
-    /// What came of work that was done, or else was refused for memory.
+    /// Returns `Done` if the work was done, else `Refused` if it was refused for memory, else
+    /// `Wrong`.
     pub fn of(is_done: bool, is_refused: bool) -> Outcome {
         if is_done {
             Outcome::Done
@@ -24,7 +25,7 @@ impl Outcome {
         }
     }
 
-    /// The same, if all stands as it is to stand.
+    /// Returns this outcome if the state is as expected, else `Wrong`.
     pub fn where_so(self, stands: bool) -> Outcome {
         if stands { self } else { Outcome::Wrong }
     }
@@ -32,18 +33,18 @@ impl Outcome {
 
 /// Work on a subject that may be refused memory.
 pub trait Spared<T> {
-    /// Makes ready while there is memory, works behind `memory.run_short()`, and looks behind
-    /// `memory.come_back()` whether all stands as it is to stand.
+    /// Prepares while there is memory, works after `memory.run_short()`, and checks after
+    /// `memory.come_back()` that the state is as expected.
     fn work(&self, alloc: Global, subject: &mut T, memory: &mut UsedUp) -> Outcome;
 }
 
-/// By how many bytes each turn has more than the one before.
+/// How many more bytes each turn has than the one before.
 const STEP: usize = 16;
 
-/// More turns than any work takes.
+/// More turns than any work needs.
 const MOST: usize = 1 << 15;
 
-/// What comes of work with so many bytes; it is repeated where there was no such piece.
+/// Runs the work with `bytes` bytes left. If there was no piece of that size, runs it once more.
 fn turn<T, S: Spared<T>>(
     alloc: Global,
     work: &S,
@@ -62,7 +63,8 @@ fn turn<T, S: Spared<T>>(
     again.where_so(memory.is_exact())
 }
 
-/// In how many turns memory is refused, each of which has more than the one before.
+/// Returns in how many turns memory is refused, each with more memory than the one before, or
+/// `None` if a turn goes wrong.
 fn refusals<T, S: Spared<T>>(
     alloc: Global,
     work: &S,
@@ -79,9 +81,9 @@ fn refusals<T, S: Spared<T>>(
     None
 }
 
-/// Whether work is refused memory in turns, at least so many, until there is enough: the first has
-/// none, and each other one 16 bytes more than the one before. So each growth by which the work
-/// comes to hold more than it held before is the first that is refused in some turn.
+/// Reports whether work is refused memory in at least `least` turns, until there is enough. The
+/// first turn has no memory, and each further one 16 bytes more than the one before. So each growth
+/// that makes the work hold more than it held before is the first to be refused in some turn.
 pub fn is_refused_until_enough<T, S: Spared<T>>(
     alloc: Global,
     work: &S,

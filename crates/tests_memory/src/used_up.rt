@@ -1,31 +1,30 @@
-//! Memory that is used up, but for some bytes.
+//! Memory that is used up, except for some bytes.
 
 use std::alloc::{AllocError, Global};
 
 /// The largest block that is tried, in bytes: half of what a process can address.
 const LARGEST: usize = 1 << 46;
 
-/// More blocks than it takes.
+/// More blocks than are needed to take all memory.
 const MOST_BLOCKS: usize = 1 << 17;
 
-/// How much comes back while a test makes ready, in bytes, and more blocks than it takes to fill
-/// that.
+/// How many bytes come back while a test prepares; and more blocks than are needed to fill them.
 const ROOM: usize = 1 << 22;
 
 const ROOM_BLOCKS: usize = 1 << 14;
 
-/// Blocks up to this size, in bytes, are kept apart by their sizes when they are given back, so
-/// that each of these sizes is tried.
+/// Blocks up to this size, in bytes, are kept apart by size when they are freed, so each of these
+/// sizes is tried.
 const LARGEST_SMALL: usize = 2048;
 
-/// How much the sizes of small blocks differ.
+/// The step between the sizes of small blocks, in bytes.
 const STEP: usize = 16;
 
-/// The size of a block that is not kept apart when it is given back, in bytes: what is left is cut
-/// from such a block, and so goes to any request that it holds.
+/// The size, in bytes, of a block that is not kept apart when it is freed. The bytes to leave are
+/// cut from such a block, so any request that fits in them gets them.
 const COVER: usize = 2040;
 
-/// The size that is tried when no block of this size is left; 0 is the end.
+/// Returns the size to try when no block of `size` bytes is left; 0 ends the search.
 fn next_size(size: usize) -> usize {
     if size > LARGEST_SMALL {
         size / 2
@@ -34,8 +33,8 @@ fn next_size(size: usize) -> usize {
     }
 }
 
-/// Takes all the memory that there is, in blocks of that size at most. They are never written, so
-/// they cost little.
+/// Takes all memory, in blocks of at most `largest` bytes. The blocks are never written, so they
+/// cost little.
 fn fill(alloc: Global, blocks: &mut Vec<Vec<u8>>, largest: usize) -> Result<(), AllocError> {
     let mut size = largest;
     for _ in 0..MOST_BLOCKS {
@@ -50,14 +49,14 @@ fn fill(alloc: Global, blocks: &mut Vec<Vec<u8>>, largest: usize) -> Result<(), 
     Ok(())
 }
 
-/// Takes all the memory that there is, the room in one block.
+/// Takes all memory, with the room in one block.
 fn take_all(blocks: &mut Vec<Vec<u8>>, room: &mut Vec<Vec<u8>>) -> Result<(), AllocError> {
     let alloc = *room.allocator();
     room.push(Vec::with_capacity(alloc, ROOM)?)?;
     fill(alloc, blocks, LARGEST)
 }
 
-/// Takes all the memory that there is, but for so many bytes in one piece.
+/// Takes all memory except for `bytes` bytes in one piece.
 fn fill_but_for(room: &mut Vec<Vec<u8>>, bytes: usize) -> Result<(), AllocError> {
     let alloc = *room.allocator();
     let piece: Vec<u8> = Vec::with_capacity(alloc, bytes.saturating_add(COVER))?;
@@ -67,20 +66,20 @@ fn fill_but_for(room: &mut Vec<Vec<u8>>, bytes: usize) -> Result<(), AllocError>
     Ok(())
 }
 
-/// Memory that a test holds, so that nobody else gets any. It comes back where this is dropped.
+/// Memory that a test holds, so that no one else gets any. Dropping it frees the memory.
 #[derive(Drop)]
 pub struct UsedUp {
     blocks: Vec<Vec<u8>>,
-    /// What comes back while a test makes ready.
+    /// The blocks that are freed while a test prepares.
     room: Vec<Vec<u8>>,
-    /// How much is left.
+    /// How many bytes are to be left.
     bytes: usize,
-    /// Whether it was so at each call.
+    /// Whether that many bytes were left at each call.
     is_exact: bool,
 }
 
 impl UsedUp {
-    /// Takes all the memory that there is.
+    /// Takes all memory. Fails if memory is refused for the lists of blocks.
     pub fn new(alloc: Global) -> Result<UsedUp, AllocError> {
         let mut blocks = Vec::with_capacity(alloc, MOST_BLOCKS)?;
         let mut room = Vec::with_capacity(alloc, ROOM_BLOCKS)?;
@@ -93,51 +92,52 @@ impl UsedUp {
         })
     }
 
-    /// The same, but for so many bytes in one piece, a multiple of 16: each growth that is given is
-    /// cut from it, with 8 bytes more, up to a multiple of 16.
+    /// Takes all memory except for `bytes` bytes in one piece, a multiple of 16. Each granted
+    /// growth is cut from that piece: its size plus 8 bytes, rounded up to a multiple of 16. Fails
+    /// if memory is refused for the lists of blocks.
     pub fn but_for(alloc: Global, bytes: usize) -> Result<UsedUp, AllocError> {
         let mut used_up = UsedUp::new(alloc)?;
         used_up.leave(bytes);
         Ok(used_up)
     }
 
-    /// Four mebibytes come back.
+    /// Frees four mebibytes.
     pub fn come_back(&mut self) {
         self.room.clear();
     }
 
-    /// All is taken again, but for what is to be left.
+    /// Takes all memory again, except for the bytes to leave.
     pub fn run_short(&mut self) {
         self.come_back();
         self.is_exact &= fill_but_for(&mut self.room, self.bytes).is_ok();
     }
 
-    /// The same, but for so many bytes.
+    /// Takes all memory again, except for `bytes` bytes.
     pub(crate) fn leave(&mut self, bytes: usize) {
         self.bytes = bytes;
         self.run_short();
     }
 
-    /// Four mebibytes come back, until it runs short of all but so many bytes.
+    /// Frees four mebibytes; the next `run_short` leaves `bytes` bytes.
     pub(crate) fn is_to_leave(&mut self, bytes: usize) {
         self.bytes = bytes;
         self.come_back();
     }
 
-    /// Gives all back, and takes it again: the room is in one piece then, which small blocks that
-    /// malloc keeps part in the course of many turns.
+    /// Frees all blocks and takes all memory again. The room is then in one piece; over many turns,
+    /// small blocks that malloc keeps split it.
     pub(crate) fn take_anew(&mut self) {
         self.room.clear();
         self.blocks.clear();
         self.is_exact = take_all(&mut self.blocks, &mut self.room).is_ok();
     }
 
-    /// Whether there was as much left as was to be, each time.
+    /// Reports whether as much as intended was left each time.
     pub(crate) fn is_exact(&self) -> bool {
         self.is_exact
     }
 
-    /// How many blocks are held.
+    /// Returns how many blocks are held.
     pub fn count(&self) -> usize {
         self.blocks.len()
     }

@@ -1,5 +1,5 @@
 //! What the cases of cases/ can't show: devices that fail, memory that is refused, faults in words,
-//! what a ray hits; and scripts by boxes that tell what is done with them.
+//! what a ray hits, and scripts whose boxes log what is done with them.
 
 mod by_hand;
 mod commands;
@@ -15,18 +15,18 @@ mod texts;
 use std::alloc::{AllocError, Global};
 use std::process::Abort;
 
-/// It is so, and no memory was refused.
+/// Asserts the answer, and that no memory was refused.
 fn holds(rt: &impl Abort, answer: Result<bool, AllocError>) {
     assert!(rt; answer == Ok(true));
 }
 
 /// A row of a table.
 trait Row {
-    /// Whether it is as the row says.
+    /// Reports whether the row is right.
     fn holds(&self, alloc: Global) -> Result<bool, AllocError>;
 }
 
-/// Each row of a table holds.
+/// Asserts each row of a table.
 fn all_hold<R: Row>(rt: &impl Abort, alloc: Global, rows: &[R]) {
     for (number, row) in rows.iter().enumerate() {
         assert!(rt; row.holds(alloc) == Ok(true), "row {number}");

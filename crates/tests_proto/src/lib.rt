@@ -1,4 +1,4 @@
-//! Tests of the prototypes in sight, over texts; and nothing else.
+//! Tests of which prototypes are in scope, on texts. The crate has nothing else.
 #![tactic(auto)]
 
 #[cfg(test)]

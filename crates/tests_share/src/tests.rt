@@ -1,6 +1,6 @@
-//! What the cases of cases/ can't show of several nodes: a host and its viewers over a bad cable,
-//! over one that fails, and one of them by its command; hosts, viewers and their snapshots by
-//! themselves, damaged bytes, and memory that is refused.
+//! What the cases of cases/ can't show of several nodes: a host and its viewers over a lossy cable
+//! and over one that fails, with one of them run by its command; hosts, viewers and their snapshots
+//! alone; damaged bytes; and memory that is refused.
 
 mod agreeing;
 mod cable;
@@ -15,11 +15,11 @@ use std::process::Abort;
 
 /// A row of a table.
 trait Row {
-    /// Whether it is as the row says.
+    /// Reports whether the row is right.
     fn holds(&self, alloc: Global) -> Result<bool, AllocError>;
 }
 
-/// Each row of a table holds.
+/// Asserts each row of a table.
 fn all_hold<R: Row>(rt: &impl Abort, alloc: Global, rows: &[R]) {
     for (number, row) in rows.iter().enumerate() {
         assert!(rt; row.holds(alloc) == Ok(true), "row {number}");

@@ -1,4 +1,4 @@
-//! Tests of snapshots that are stored as bytes; and nothing else.
+//! Tests of snapshots that are stored as bytes. The crate has nothing else.
 #![tactic(auto)]
 
 #[cfg(test)]

@@ -1,5 +1,4 @@
-//! Snapshots by their bytes: `save` makes those of version 2, and those of both versions are
-//! loaded.
+//! Snapshots as bytes: `save` writes version 2, and both versions can be loaded.
 
 ghost use Rattle.std.specs.Prelude.{◌≡◌, IfOk};
 ghost use Rattle.cascade_core.specs.Scripts.{scripts_in};
@@ -22,7 +21,7 @@ use std::alloc::Global;
 use std::process::Abort;
 use stored::{CLOCKED, DRAGGING, EMPTY, EVERYTHING, OPENING, Stored};
 
-/// Boxes of the stock for the scripts of a scene.
+/// Returns boxes of the stock for the scripts of a scene.
 fn scripts_of(alloc: Global, scene: &Scene) -> Result<Scripts<StockScript>, RunFault>
     ensures fits { IfOk result (λ scripts. Fits (script_list scene.now) scripts) }
     ensures fresh { IfOk result (λ scripts. scripts ≡ scripts_in scene.now) }
@@ -32,7 +31,7 @@ fn scripts_of(alloc: Global, scene: &Scene) -> Result<Scripts<StockScript>, RunF
     attach(alloc, scene, boxes)
 }
 
-/// A stage before any input, with the inputs that are to come, and the mark of its scene.
+/// A stage before any input, with the inputs that follow, and the mark of its scene.
 #[derive(Drop)]
 struct Begun {
     stage: Stage<StockScript>,
@@ -40,7 +39,7 @@ struct Begun {
     mark: [u8; 32],
 }
 
-/// What a job begins with; none where memory is refused.
+/// Returns what a job begins with, or `None` if memory is refused.
 fn begin(alloc: Global, job: &str) -> Option<Begun> {
     let Ok(job) = shared_job(alloc, job.as_bytes(), &Order::Run) else {
         return None;
@@ -79,7 +78,7 @@ fn applies_all(stage: &mut Stage<StockScript>, inputs: &JobInputs) -> bool {
     true
 }
 
-/// Whether the snapshot of a stage, of boot 1, has these bytes.
+/// Reports whether the snapshot of a stage, of boot 1, has these bytes.
 fn is_saved(alloc: Global, stage: &Stage<StockScript>, mark: &[u8; 32], shot: &[u8]) -> bool {
     let mut out = Vec::new(alloc);
     let saved = save(stage, mark, 1, &mut out).is_ok();
@@ -94,7 +93,7 @@ fn push_texts(stage: &Stage<StockScript>, out: &mut Vec<u8>) -> Result<(), TextF
     stage.scene_text(out)
 }
 
-/// Whether two stages have the same texts.
+/// Reports whether two stages have the same texts.
 fn are_alike(alloc: Global, one: &Stage<StockScript>, other: &Stage<StockScript>) -> bool {
     let mut first = Vec::new(alloc);
     let mut second = Vec::new(alloc);
@@ -105,8 +104,8 @@ fn are_alike(alloc: Global, one: &Stage<StockScript>, other: &Stage<StockScript>
     pushed && same
 }
 
-/// Whether a stage loads a snapshot of boot 1, as boot 2, and is then left as one that applied all
-/// inputs, and saved as the same bytes.
+/// Reports whether a stage loads a snapshot of boot 1 as boot 2, then has the texts of a stage that
+/// applied all inputs, and is saved as the same bytes.
 fn is_loaded(alloc: Global, one: &Begun, other: &mut Begun, stored: &Stored, shot: &[u8]) -> bool {
     let saved = Saved {
         boot: 1,
@@ -117,7 +116,7 @@ fn is_loaded(alloc: Global, one: &Begun, other: &mut Begun, stored: &Stored, sho
         && is_saved(alloc, &other.stage, &other.mark, stored.shot)
 }
 
-/// Whether it is so of the snapshot of version 1, if there is one.
+/// Like `is_loaded`, for the snapshot of version 1, if there is one.
 fn is_old_loaded(alloc: Global, one: &Begun, other: &mut Begun, stored: &Stored) -> bool {
     match stored.old {
         Some(old) => is_loaded(alloc, one, other, stored, old),
@@ -125,8 +124,8 @@ fn is_old_loaded(alloc: Global, one: &Begun, other: &mut Begun, stored: &Stored)
     }
 }
 
-/// Whether a stage that applies all inputs is saved as the snapshot of version 2; and it is so of
-/// that as well.
+/// Reports whether a stage that applies all inputs is saved as the snapshot of version 2, and the
+/// snapshots of both versions are loaded.
 fn are_exact(alloc: Global, one: &mut Begun, other: &mut Begun, stored: &Stored) -> bool {
     applies_all(&mut one.stage, &one.inputs)
         && is_saved(alloc, &one.stage, &one.mark, stored.shot)
@@ -174,7 +173,7 @@ fn a_drag_in_progress(rt: HostRuntime) {
     holds(&rt, rt.alloc(), &DRAGGING);
 }
 
-/// Whether the snapshots of version 1 and of version 2 have so many bytes.
+/// Reports whether the snapshots of version 1 and of version 2 have these numbers of bytes.
 fn have_sizes(stored: &Stored, old: usize, new: usize) -> bool {
     match stored.old {
         Some(shot) => shot.len() == old && stored.shot.len() == new,
@@ -189,7 +188,7 @@ fn sizes(rt: HostRuntime) {
     assert!(&rt; have_sizes(&CLOCKED, 308, 314));
 }
 
-/// What the flipping of a bit of that byte is refused as.
+/// Returns the fault of a snapshot in which a bit of byte `at` is flipped.
 fn flip_fault(at: usize) -> SnapFault {
     match at {
         0..=3 => SnapFault::BadMagic,
@@ -205,7 +204,7 @@ fn flip(bytes: &mut [u8], at: usize, bits: u8) {
     }
 }
 
-/// Whether no bit of one byte can be flipped.
+/// Reports whether each flip of a bit of byte `at` is refused.
 fn refuses_byte(begun: &mut Begun, shot: &mut [u8], at: usize) -> bool {
     for bits in [1, 2, 4, 8, 16, 32, 64, 128] {
         flip(shot, at, bits);
@@ -218,7 +217,8 @@ fn refuses_byte(begun: &mut Begun, shot: &mut [u8], at: usize) -> bool {
     true
 }
 
-/// Whether no bit of a snapshot can be flipped; as it is it is then loaded.
+/// Reports whether each flip of a bit of a snapshot is refused. The unchanged snapshot must then be
+/// loaded.
 fn refuses_flips(begun: &mut Begun, shot: &mut [u8]) -> bool {
     for at in 0..shot.len() {
         if !refuses_byte(begun, shot, at) {
@@ -228,7 +228,7 @@ fn refuses_flips(begun: &mut Begun, shot: &mut [u8]) -> bool {
     load_into(&mut begun.stage, &begun.mark, 2, shot).is_ok()
 }
 
-/// Whether that is so of the snapshot of version 1.
+/// Like `refuses_flips`, for the snapshot of version 1.
 fn is_unflipped(alloc: Global, begun: &mut Begun, stored: &Stored) -> bool {
     let Some(old) = stored.old else {
         return false;

@@ -1,4 +1,4 @@
-//! What a host and a viewer tell on standard error, where they are to.
+//! What a host and a viewer report on standard error if they are verbose.
 
 use share_commands::{Tally, number_of};
 use share_port::UdpPort;
@@ -15,7 +15,7 @@ impl fmt::Display for BoundAt {
     }
 }
 
-/// What came of a host's run, in words.
+/// The result of a host's run, in words.
 #[derive(Drop)]
 struct HostEnd {
     inputs: u32,
@@ -33,7 +33,7 @@ impl fmt::Display for HostEnd {
     }
 }
 
-/// What came of a viewer's run, in words.
+/// The result of a viewer's run, in words.
 #[derive(Drop)]
 struct ViewEnd {
     inputs: u32,
@@ -46,22 +46,22 @@ impl fmt::Display for ViewEnd {
     }
 }
 
-/// Says on standard error, where that is asked for, which port is bound. A standard error that
-/// fails is nothing to a run.
+/// Reports the bound port on standard error if `verbose` is set. A standard error that fails
+/// doesn't affect the run.
 pub fn tell_port<R: Eprint>(rt: &R, verbose: bool, port: &UdpPort) {
     if verbose && let Ok(number) = number_of(port) {
         let _told = rt.eprintln(BoundAt(number));
     }
 }
 
-/// How many of a host's clocks were dropped: of those that its turns had, the ones that are no
-/// inputs. The inputs that are no clocks are the points that it numbered.
+/// Returns how many of a host's clocks were dropped: the clocks that its turns had, less those that
+/// became inputs. The inputs that aren't clocks are the points that it numbered.
 fn dropped(clocks: usize, inputs: u32, tally: &Tally) -> u64 {
     let handed = tally.turns.min(clocks as u64);
     handed.saturating_sub(u64::from(inputs).saturating_sub(tally.points))
 }
 
-/// Says, where that is asked for, what came of a host's run with so many clocks.
+/// Reports the result of a host's run with this many clocks, if `verbose` is set.
 pub fn tell_host_end<R: Eprint>(rt: &R, verbose: bool, clocks: usize, inputs: u32, tally: Tally) {
     if verbose {
         let dropped = dropped(clocks, inputs, &tally);
@@ -73,7 +73,7 @@ pub fn tell_host_end<R: Eprint>(rt: &R, verbose: bool, clocks: usize, inputs: u3
     }
 }
 
-/// Says, where that is asked for, what came of a viewer's run.
+/// Reports the result of a viewer's run, if `verbose` is set.
 pub fn tell_view_end<R: Eprint>(rt: &R, verbose: bool, inputs: u32, tally: Tally) {
     if verbose {
         let _told = rt.eprintln(ViewEnd { inputs, tally });

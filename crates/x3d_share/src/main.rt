@@ -21,7 +21,7 @@ use std::process::ExitCode;
 use std::rt::Env;
 use std::time::Clock;
 
-/// The program's own name and its words.
+/// Returns the program's own name and its words.
 fn own_words<R: Env + AllocGlobal>(rt: &R) -> Result<Vec<String>, OrderFault> {
     let words = std::env::args(rt)?;
     words.collect(rt.alloc()).map_err(|_| OrderFault::Memory)
@@ -31,12 +31,12 @@ fn views<'a>(alloc: Global, words: &'a [String]) -> Result<Vec<&'a str>, AllocEr
     words.iter().map(|word| word.as_str()).collect(alloc)
 }
 
-/// What a fault of the output is to a run.
+/// Returns a fault of the output as a failure of the run.
 fn output_failure(fault: StreamFault) -> Failure {
     Failure::Run(RunFault::from(fault))
 }
 
-/// Reads a job, runs it with boxes of the stock and prints what came of it.
+/// Reads a job, runs it with boxes of the stock, and prints the trace and the scene.
 fn run_own<R: AllocGlobal + Input + Print>(rt: &R) -> Result<(), Failure> {
     run_job(rt.alloc(), &mut rt.reader(), &mut io::writer(rt))
 }
@@ -58,7 +58,7 @@ fn print_text<R: Print>(rt: &R, text: &str) -> Result<(), Failure> {
     write_whole(&mut io::writer(rt), text.as_bytes()).map_err(output_failure)
 }
 
-/// Does what a command with its numbers says.
+/// Carries out a command.
 fn obey<R: AllocGlobal + Input + Print + Net + Eprint + Clock>(
     rt: &R,
     order: Order,
@@ -76,7 +76,7 @@ fn obey<R: AllocGlobal + Input + Print + Net + Eprint + Clock>(
     }
 }
 
-/// Prints the text that words ask for, or obeys them.
+/// Prints the text that words ask for, or carries out their command.
 fn answer<R: AllocGlobal + Input + Print + Net + Eprint + Clock>(
     rt: &R,
     words: &[&str],

@@ -1,4 +1,4 @@
-//! The commands by which several nodes do a job: in memory, each at a port of this machine, or each
+//! The commands in which several nodes do a job: in memory, each at a port of this machine, or each
 //! in a process of its own.
 
 ghost use Rattle.std.specs.Prelude.{◌≡◌, ◌≤◌, IfOk, length};
@@ -19,7 +19,7 @@ use std::io::{self, Eprint};
 use std::net::Net;
 use std::time::Clock;
 
-/// Reads the job of a command by which several nodes do it.
+/// Reads the job of a command in which several nodes do it.
 fn read_shared<R: AllocGlobal + Input>(rt: &R, order: &Order) -> Result<SharedJob, JobFault> {
     let bytes = read_whole(rt.alloc(), &mut rt.reader())?;
     shared_job(rt.alloc(), bytes.as_slice(), order)
@@ -29,7 +29,7 @@ fn print<R: Print>(rt: &R, text: &[u8]) -> Result<(), RunFault> {
     Ok(write_whole(&mut io::writer(rt), text)?)
 }
 
-/// The log of a schedule that is read.
+/// Reads a schedule, and returns its log.
 fn read_log<R: AllocGlobal + Input>(rt: &R, viewers: u8) -> Result<Vec<u8>, JobFault>
     requires some { 1 ≤ viewers }
     requires most { viewers ≤ max_viewers }
@@ -38,7 +38,7 @@ fn read_log<R: AllocGlobal + Input>(rt: &R, viewers: u8) -> Result<Vec<u8>, JobF
     rehearse_job(rt.alloc(), bytes.as_slice(), viewers)
 }
 
-/// Reads a schedule, has a host and viewers in memory go through it, and prints its log.
+/// Reads a schedule, runs a host and viewers in memory through it, and prints its log.
 pub fn rehearse<R: AllocGlobal + Input + Print>(rt: &R, viewers: u8) -> Result<(), Failure>
     requires some { 1 ≤ viewers }
     requires most { viewers ≤ max_viewers }
@@ -62,7 +62,8 @@ fn read_joint<R: AllocGlobal + Input>(
     joint_job(rt.alloc(), bytes.as_slice(), order, viewers)
 }
 
-/// Has the host and the viewers of a job do it, each at a free port of this machine.
+/// Runs the host and the viewers of a job, each at a free port of this machine, and returns the
+/// text.
 fn agreed<R: AllocGlobal + Net>(
     rt: &R,
     job: &mut JointJob,
@@ -77,7 +78,7 @@ fn agreed<R: AllocGlobal + Net>(
     agree_job(rt.alloc(), job, turns, own, &mut port, &mut ports)
 }
 
-/// Reads a job, has a host and viewers do it over UDP, and prints what came of it.
+/// Reads a job, runs a host and viewers over UDP, and prints `agreed`, the trace and the scene.
 pub fn agree<R: AllocGlobal + Input + Print + Net>(
     rt: &R,
     order: &Order,
@@ -89,13 +90,13 @@ pub fn agree<R: AllocGlobal + Input + Print + Net>(
 {
     let mut job = read_joint(rt, order, viewers)?;
     let text = agreed(rt, &mut job, turns);
-    // Left to the exits, the drop of a job is proved once for each of them.
+    // For the prover: an explicit call. The drop of a job would be proved at each exit.
     job.close();
     print(rt, text?.as_slice())?;
     Ok(())
 }
 
-/// What a host keeps of its inputs, and when it is done.
+/// Returns which inputs a host keeps, and when it is done.
 fn host_plan(asked: &HostOrder) -> HostPlan {
     HostPlan {
         keep: asked.keep,
@@ -103,7 +104,7 @@ fn host_plan(asked: &HostOrder) -> HostPlan {
     }
 }
 
-/// Numbers the clocks of a job and what viewers offer at a port.
+/// Runs a host at a port: numbers the clocks of a job and the offers of viewers.
 fn hosted<R: AllocGlobal + Net + Eprint + Clock>(
     rt: &R,
     job: &SharedJob,
@@ -131,7 +132,7 @@ fn hosted<R: AllocGlobal + Net + Eprint + Clock>(
     done
 }
 
-/// Reads a job of clocks, and numbers them and what viewers offer at a port.
+/// Reads a job of clocks, and runs its host at a port.
 pub fn host<R: AllocGlobal + Input + Net + Eprint + Clock>(
     rt: &R,
     order: &Order,
@@ -158,7 +159,7 @@ fn read_seated<R: AllocGlobal + Input>(
     seated_job(rt.alloc(), bytes.as_slice(), order, asked.who, boot)
 }
 
-/// What a viewer is to do.
+/// Returns what a viewer is asked to do.
 fn view_plan(asked: &ViewOrder) -> ViewPlan {
     let until = match asked.end {
         ViewEnd::Until(until) => until,
@@ -173,7 +174,7 @@ fn view_plan(asked: &ViewOrder) -> ViewPlan {
     }
 }
 
-/// The last input that a viewer takes, if there is a last one.
+/// Returns the last input that a viewer takes, if there is a last one.
 fn last_input(asked: &ViewOrder) -> Option<u32> {
     match asked.end {
         ViewEnd::Until(_) => None,
@@ -181,7 +182,7 @@ fn last_input(asked: &ViewOrder) -> Option<u32> {
     }
 }
 
-/// The port that a viewer binds; a free one where it asks for none.
+/// Returns the port that a viewer binds, or 0, a free one, if it asks for none.
 fn own_port(asked: &ViewOrder) -> u16 {
     match asked.at {
         Some(port) => port,
@@ -189,7 +190,7 @@ fn own_port(asked: &ViewOrder) -> u16 {
     }
 }
 
-/// Offers the points of a viewer to a host: what came of the inputs.
+/// Runs a viewer, which offers its points to a host, and returns its trace and its scene.
 fn viewed<R: AllocGlobal + Net + Eprint + Clock>(
     rt: &R,
     seat: &mut Seat,
@@ -207,7 +208,7 @@ fn viewed<R: AllocGlobal + Net + Eprint + Clock>(
     done
 }
 
-/// Reads a job of points, and offers them to a host: what came of the inputs.
+/// Reads a job of points, runs its viewer, and returns the trace and the scene.
 fn read_viewed<R: AllocGlobal + Input + Net + Eprint + Clock>(
     rt: &R,
     order: &Order,
@@ -221,7 +222,7 @@ fn read_viewed<R: AllocGlobal + Input + Net + Eprint + Clock>(
     Ok(text?)
 }
 
-/// Reads a job of points, offers them to a host, and prints what came of the inputs.
+/// Reads a job of points, runs its viewer, and prints the trace and the scene.
 pub fn view<R: AllocGlobal + Input + Print + Net + Eprint + Clock>(
     rt: &R,
     order: &Order,

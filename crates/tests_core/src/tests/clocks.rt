@@ -1,4 +1,4 @@
-//! The worked examples' TimeSensors, and ticks and events by hand from the rules.
+//! The TimeSensors of the worked examples, and ticks and events computed by hand from the rules.
 
 use super::sending::{Given, fields, is_sent, value_of};
 use super::{Row, all_hold, holds};
@@ -8,10 +8,10 @@ use std::alloc::Global;
 use std::process::Abort;
 use x3d_values::{Fields, MAX_TIME, Value};
 
-/// An enabled sensor's cycle interval, whether it loops, its start and its stop.
+/// An enabled sensor's cycle interval, whether it loops, its start and its stop, in microseconds.
 type Setting = (i64, bool, i64, i64);
 
-/// Sets a TimeSensor's fields; the others have their defaults.
+/// Sets the fields of a TimeSensor; the others have their defaults.
 fn set_all(fields: &mut Fields, given: Setting) {
     fields.set(1, Value::SFTime(given.0));
     fields.set(2, Value::SFBool(true));
@@ -37,11 +37,11 @@ fn state_of(cycle: Option<u64>) -> TimeState {
     }
 }
 
-/// How a sensor stands before a tick, the cycle that runs, the time, the cycle that runs after it,
-/// and what is sent.
+/// A sensor's setting before a tick, the cycle that runs, the time, the cycle that runs after the
+/// tick, and what is sent.
 struct Tick(Setting, Option<u64>, i64, Option<u64>, &'static str);
 
-/// Whether the sensor sends that at a tick.
+/// Reports whether the sensor sends `wanted` at a tick.
 fn sends(alloc: Global, state: &mut TimeState, timing: &TimeFields, t: i64, wanted: &str) -> bool {
     let mut out = Outbox::new();
     if t >= 0 && t <= MAX_TIME && out.is_empty() {
@@ -109,7 +109,7 @@ fn two_clocks(rt: HostRuntime) {
 }
 
 static TICKS: [Tick; 18] = [
-    // the start lies ahead
+    // the start is in the future
     Tick((4, false, 9, 0), None, 8, None, ""),
     Tick(
         (4, false, 9, 0),
@@ -118,7 +118,7 @@ static TICKS: [Tick; 18] = [
         Some(0),
         "8 TRUE;10 0.000009;11 0.25;12 0.000001;13 0.00001;",
     ),
-    // the one cycle is over before the sensor starts
+    // the only cycle is over before the sensor starts
     Tick((4, false, 9, 0), None, 13, None, ""),
     // a loop starts late, in a later cycle
     Tick(
@@ -187,7 +187,7 @@ static TICKS: [Tick; 18] = [
         None,
         "11 0.25;12 0.000005;13 0.000014;8 FALSE;",
     ),
-    // a stop that doesn't count, and one that keeps a sensor from starting
+    // a stop that is ignored, and one that keeps a sensor from starting
     Tick(
         (4, true, 9, 9),
         None,
@@ -233,7 +233,7 @@ fn ticks_by_hand(rt: HostRuntime) {
     all_hold(&rt, rt.alloc(), &TICKS);
 }
 
-/// Whether fields that were written are read again.
+/// Reports whether fields that were written are read back.
 fn are_read_again(alloc: Global) -> bool {
     let Some(timing) = timing(alloc, (5, true, -1, 7)) else {
         return false;
@@ -250,10 +250,11 @@ fn fields_are_written_and_read(rt: HostRuntime) {
     holds(&rt, are_read_again(rt.alloc()));
 }
 
-/// Input, value, whether the sensor runs before; what is sent, and whether it runs afterwards.
+/// An input, its value, whether the sensor runs before, what is sent, and whether it runs
+/// afterwards.
 struct Change(u16, Given, bool, &'static str, bool);
 
-/// Whether that is sent at an event.
+/// Reports whether the sensor sends the row's text at the row's event.
 fn tells(alloc: Global, state: &mut TimeState, timing: &mut TimeFields, row: &Change) -> bool {
     let mut out = Outbox::new();
     let value = value_of(row.1);

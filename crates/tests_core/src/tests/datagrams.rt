@@ -1,4 +1,4 @@
-//! Datagrams by hand, and damaged ones.
+//! Datagrams written by hand, and damaged ones.
 
 mod damaged;
 mod faults;
@@ -18,8 +18,8 @@ const MARK: [u8; 32] = *b"abcdefghijklmnopqrstuvwxyzABCDEF";
 const CLOCK: &[u8] = b"X3DS\x01\x01abcdefghijklmnopqrstuvwxyzABCDEF\
     \x00\x00\x00\x01\x00\x00\x00\x00\x00\x0f\x42\x40\x00";
 
-/// Input 2 at 1 second and 1 microsecond: viewer 3 with its button down, from 0.5 -1 10 along
-/// 0 0 -1.
+/// Input 2 at 1 second and 1 microsecond: viewer 3 with its button down, from 0.5 -1 10 in
+/// direction 0 0 -1.
 const POINTER: &[u8] = b"X3DS\x01\x01abcdefghijklmnopqrstuvwxyzABCDEF\
     \x00\x00\x00\x02\x00\x00\x00\x00\x00\x0f\x42\x41\x01\x03\x01\
     \x00\x00\x00\x00\x00\x07\xa1\x20\xff\xff\xff\xff\xff\xf0\xbd\xc0\
@@ -38,7 +38,7 @@ const OFFER: &[u8] = b"X3DS\x01\x02abcdefghijklmnopqrstuvwxyzABCDEF\
 /// Viewer 1 asks for the inputs from 4 on.
 const ASK: &[u8] = b"X3DS\x01\x03abcdefghijklmnopqrstuvwxyzABCDEF\x01\x00\x00\x00\x04";
 
-/// Viewer 63 had 16909060 of its offers numbered in its boot 4294967295.
+/// Viewer 63, in boot 4294967295, has 16909060 of its offers numbered.
 const ACK: &[u8] = b"X3DS\x01\x04abcdefghijklmnopqrstuvwxyzABCDEF\
     \x3f\xff\xff\xff\xff\x01\x02\x03\x04";
 
@@ -50,7 +50,7 @@ const LAST: &[u8] = b"X3DS\x01\x06abcdefghijklmnopqrstuvwxyzABCDEF\
     \x00\x00\x00\x01\x00\x00\x00\x02\x00\x00\x01\x88\x00\x00\x00\x02\
     snapshot";
 
-/// The second piece of it, 192 bytes.
+/// The second piece of that snapshot, 192 bytes.
 const FULL: &[u8] = b"X3DS\x01\x06abcdefghijklmnopqrstuvwxyzABCDEF\
     \x00\x00\x00\x01\x00\x00\x00\x02\x00\x00\x01\x88\x00\x00\x00\x01\
     abcdefghijklmnopqrstuvwxyz0123456789ABCDEFGHIJKL\
@@ -58,7 +58,7 @@ const FULL: &[u8] = b"X3DS\x01\x06abcdefghijklmnopqrstuvwxyzABCDEF\
     abcdefghijklmnopqrstuvwxyz0123456789ABCDEFGHIJKL\
     abcdefghijklmnopqrstuvwxyz0123456789ABCDEFGHIJKL";
 
-/// From 0.5 -1 10 along 0 0 -1.
+/// Returns the ray from 0.5 -1 10 in direction 0 0 -1.
 fn ray() -> Ray {
     let origin = Vec3 {
         x: 500_000,
@@ -73,14 +73,14 @@ fn ray() -> Ray {
     Ray::new(origin, dir)
 }
 
-/// Whether the message has these bytes, and is read from them.
+/// Reports whether the message is written as these bytes and read from them.
 fn is_both_ways(body: Body, bytes: &[u8]) -> bool {
     let message = Message { mark: MARK, body };
     let written = encode(&message).as_slice() == bytes;
     written && decode(bytes) == Ok(message)
 }
 
-/// The piece of this number, with these bytes, of the snapshot of 392 bytes.
+/// Returns the piece of this number, with these bytes, of the snapshot of 392 bytes.
 fn piece_of(index: u32, bytes: &[u8]) -> Option<Body> {
     if !is_piece(1, 2, 392, index) {
         return None;
@@ -91,7 +91,7 @@ fn piece_of(index: u32, bytes: &[u8]) -> Option<Body> {
     Some(Body::Piece(Piece::new(1, 2, 392, index, bytes)))
 }
 
-/// Whether that piece has these bytes as a datagram, and is read from them.
+/// Reports whether that piece is written as these bytes of a datagram and read from them.
 fn is_piece_both_ways(index: u32, bytes: &[u8], datagram: &[u8]) -> bool {
     match piece_of(index, bytes) {
         Some(body) => is_both_ways(body, datagram),
@@ -118,7 +118,7 @@ fn each_message_has_its_bytes(rt: HostRuntime) {
     );
 }
 
-/// A length of a snapshot, and how many pieces it has.
+/// The length of a snapshot, and the number of its pieces.
 struct Counted(u32, u32);
 
 impl Row for Counted {
@@ -141,13 +141,13 @@ fn a_snapshot_has_as_many_pieces(rt: HostRuntime) {
     all_hold(&rt, rt.alloc(), &COUNTED);
 }
 
-/// The length of the datagram of the piece of this number with these bytes.
+/// Returns the length of the datagram of the piece of this number with these bytes.
 fn datagram_len(index: u32, bytes: &[u8]) -> Option<usize> {
     let body = piece_of(index, bytes)?;
     Some(encode(&Message { mark: MARK, body }).len())
 }
 
-/// A snapshot of 392 bytes has pieces of 246, 246 and 62 bytes as datagrams.
+/// The pieces of a snapshot of 392 bytes have datagrams of 246, 246 and 62 bytes.
 #[test]
 fn piece_sizes(rt: HostRuntime) {
     holds(&rt, datagram_len(0, &[7; 192]) == Some(246));
@@ -183,7 +183,7 @@ pub(super) fn bytes_of(datagram: Of) -> &'static [u8] {
     }
 }
 
-/// The datagram with other bytes from `at` on.
+/// Returns the datagram with other bytes from `at` on.
 pub(super) fn with(datagram: &[u8], at: usize, other: &[u8]) -> Packet {
     let mut out = Packet::new();
     for (place, byte) in datagram.iter().enumerate() {

@@ -1,4 +1,4 @@
-//! A TimeSensor's state by its parts, and a text that is given back.
+//! A TimeSensor's state from its parts, and a text that returns its string.
 
 use super::{Row, all_hold, holds};
 use sensor_core::{TimeParts, TimeState};
@@ -7,7 +7,7 @@ use std::process::Abort;
 use x3d_lists::Text;
 
 /// Whether a sensor is active, the number of its cycle, and the cycle of the state that has these
-/// parts, if one has.
+/// parts, if there is such a state.
 struct Parts(bool, i64, Option<Option<u64>>);
 
 impl Row for Parts {
@@ -35,7 +35,7 @@ fn parts_make_states(rt: HostRuntime) {
     all_hold(&rt, rt.alloc(), &PARTS);
 }
 
-/// Whether a text gives back what it was made of.
+/// Reports whether a text returns the string that it was made from.
 fn is_given_back(alloc: Global) -> bool {
     let Ok(text) = Text::from_str(alloc, "door") else {
         return false;

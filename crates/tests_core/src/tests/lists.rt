@@ -1,4 +1,4 @@
-//! Lists and texts: each call that takes memory, with memory and with memory used up.
+//! Lists and texts: each call that takes memory, with memory and without.
 
 use super::{holds, list_of};
 use std::alloc::{AllocError, Global};
@@ -10,7 +10,7 @@ fn push_word(alloc: Global, words: &mut Items<Text>, word: &str) -> Result<(), A
     words.push(Text::from_str(alloc, word)?)
 }
 
-/// Two texts, or fewer where memory is refused.
+/// Returns two texts, or fewer if memory is refused.
 pub(super) fn words(alloc: Global) -> Items<Text> {
     let mut words = Items::new(alloc);
     let _both = push_word(alloc, &mut words, "door").is_ok()
@@ -18,7 +18,7 @@ pub(super) fn words(alloc: Global) -> Items<Text> {
     words
 }
 
-/// Whether a copy equals the list, and has its second text.
+/// Reports whether a copy equals the list, and has its second text.
 fn is_copied(alloc: Global, words: &Items<Text>) -> bool {
     let Ok(copy) = words.duplicate(alloc) else {
         return false;
@@ -32,7 +32,7 @@ fn is_copied(alloc: Global, words: &Items<Text>) -> bool {
     same && second
 }
 
-/// Whether a copy, a push, a list and a text are refused where no memory is left.
+/// Reports whether a copy, a push, a list and a text are refused if no memory is left.
 fn are_refused(alloc: Global, words: &Items<Text>) -> bool {
     let Ok(used_up) = UsedUp::new(alloc) else {
         return false;
@@ -55,7 +55,7 @@ fn are_so(alloc: Global) -> bool {
     copied && refused
 }
 
-/// Whether a list has the items of a slice.
+/// Reports whether a list has the items of a slice.
 fn has_its_numbers(alloc: Global) -> bool {
     let numbers = list_of(alloc, &[1, 2, 3]);
     let same = numbers.as_slice() == [1, 2, 3].as_slice();

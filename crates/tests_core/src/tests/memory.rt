@@ -1,11 +1,11 @@
-//! Memory that is used up: a growth is refused, and given where so many bytes are left.
+//! Memory that is used up: a growth is refused, and granted if enough bytes are left.
 
 use super::holds;
 use std::alloc::{AllocError, Global};
 use std::process::Abort;
 use tests_memory::{Outcome, Spared, UsedUp, is_refused_until_enough};
 
-/// Whether a growth is refused while memory is used up, and given behind that.
+/// Reports whether a growth is refused while memory is used up, and granted afterwards.
 fn refuses_and_gives(alloc: Global) -> bool {
     let Ok(used_up) = UsedUp::new(alloc) else {
         return false;
@@ -18,7 +18,8 @@ fn refuses_and_gives(alloc: Global) -> bool {
     refused && given
 }
 
-/// Whether growths are given that together fit what is left, and no further one.
+/// Reports whether growths that together fit in the remaining memory are granted, and no further
+/// one.
 fn gives_what_is_left(alloc: Global) -> bool {
     let Ok(used_up) = UsedUp::but_for(alloc, 160) else {
         return false;
@@ -41,7 +42,7 @@ fn nothing_is_left_but_what_is_to_be(rt: HostRuntime) {
     holds(&rt, gives_what_is_left(rt.alloc()));
 }
 
-/// How many lists of 100 bytes there are, of as many as may be, and whether all are given.
+/// Adds `count` lists of 100 bytes. Fails at the first that is refused memory.
 fn pushed(lists: &mut Vec<Vec<u8>>, count: usize) -> Result<(), AllocError> {
     let alloc = *lists.allocator();
     for _list in 0..count {
@@ -50,11 +51,11 @@ fn pushed(lists: &mut Vec<Vec<u8>>, count: usize) -> Result<(), AllocError> {
     Ok(())
 }
 
-/// Lists are made, of which each one takes a block of 112 bytes; and they have room of their own.
-/// What each turn comes to is counted: so many lists were made when memory was refused.
+/// Makes lists, each in a block of 112 bytes, with room for the list of them made before. Counts
+/// the turns by how many lists were made when memory was refused.
 struct Lists(usize);
 
-/// In how many turns each number of lists was made.
+/// The number of turns in which each number of lists was made.
 type Made = [u32; 4];
 
 impl Spared<Made> for Lists {
@@ -72,7 +73,8 @@ impl Spared<Made> for Lists {
     }
 }
 
-/// Each list is the first that is refused in 7 turns, of which each has 16 bytes more.
+/// Each list is the first to be refused in 7 turns; each turn has 16 bytes more than the one
+/// before.
 #[test]
 fn each_growth_is_the_first_that_is_refused(rt: HostRuntime) {
     let mut made: Made = [0; 4];

@@ -1,4 +1,4 @@
-//! Numerals by hand, both ways.
+//! Numerals written by hand, both ways.
 
 use super::{Row, all_hold, holds};
 use std::alloc::Global;
@@ -6,7 +6,7 @@ use std::process::Abort;
 use tests_memory::UsedUp;
 use x3d_numerals::{NumeralFault, millionths, push_number};
 
-/// A text, and the number of millionths that it stands for, or why it stands for none.
+/// A text, and its number in millionths, or why it has none.
 struct Read(&'static str, Result<i64, NumeralFault>);
 
 impl Row for Read {
@@ -33,7 +33,7 @@ static NUMERALS: [Read; 73] = [
     Read("25.e-1", Ok(2_500_000)),
     Read("2e9", Ok(2_000_000_000_000_000)),
     Read("0e5", Ok(0)),
-    // they are rounded half away from zero
+    // numbers are rounded half away from zero
     Read("1e-7", Ok(0)),
     Read("5e-7", Ok(1)),
     Read("0.0000005", Ok(1)),
@@ -53,7 +53,7 @@ static NUMERALS: [Read; 73] = [
     Read("0xFFFFFFFF", Ok(-1_000_000)),
     Read("-0xFFFFFFFF", Ok(1_000_000)),
     Read("0x1e5", Ok(485_000_000)),
-    // at the limit, and beyond it
+    // at the limit, and beyond the limit
     Read("1e12", Ok(1_000_000_000_000_000_000)),
     Read("-1e12", Ok(-1_000_000_000_000_000_000)),
     Read("999999999999.9999994", Ok(999_999_999_999_999_999)),
@@ -109,8 +109,8 @@ fn numerals_are_read(rt: HostRuntime) {
     all_hold(&rt, rt.alloc(), &NUMERALS);
 }
 
-/// A million digits: the first ones, and the one that follows to their end; what stands behind
-/// them, and the answer.
+/// A million digits: the first ones, and the digit that fills the rest; then the text after them,
+/// and the answer.
 struct Long(&'static [u8], u8, &'static [u8], Result<i64, NumeralFault>);
 
 impl Row for Long {
@@ -138,7 +138,7 @@ fn a_million_digits(rt: HostRuntime) {
     all_hold(&rt, rt.alloc(), &LONG);
 }
 
-/// A number of millionths, and its text.
+/// A number in millionths, and its text.
 struct Written(i64, &'static str);
 
 impl Row for Written {

@@ -7,7 +7,7 @@ use std::alloc::Global;
 use std::process::Abort;
 use x3d_values::{NodeType, Text, Value};
 
-/// An event at a node of seven fields, the third FALSE, and what is sent.
+/// An event at a node of seven fields, the third of which is FALSE, and what is sent.
 struct Plain(NodeType, u16, Given, &'static str);
 
 impl Row for Plain {
@@ -57,7 +57,7 @@ fn passes_on_truth_values_and_times(rt: HostRuntime) {
     all_hold(&rt, rt.alloc(), &PLAIN);
 }
 
-/// Whether a title is sent on.
+/// Reports whether a title is sent on.
 fn sends_a_title(alloc: Global) -> bool {
     let Ok(title) = Text::from_str(alloc, "here") else {
         return false;

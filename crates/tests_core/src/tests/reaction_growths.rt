@@ -9,7 +9,7 @@ use std::process::Abort;
 use tests_memory::{Outcome, Spared, UsedUp, is_refused_until_enough};
 use x3d_values::{Fields, Items, NodeType, Value};
 
-/// An event at a node of this type. Where memory is refused the node may hold the new value.
+/// An event at a node of this type. If memory is refused the node may hold the new value.
 #[derive(Clone, Copy)]
 struct Reaction<'a>(NodeType, u16, &'a Value);
 
@@ -25,7 +25,7 @@ impl<'a> Spared<Fields> for Reaction<'a> {
     }
 }
 
-/// A list of 200 keys, or of none where memory is refused.
+/// Returns a list of 200 keys, or an empty list if memory is refused.
 fn keys(alloc: Global) -> Value {
     match vec![in alloc; 7; 200] {
         Ok(keys) => Value::MFFloat(Items::from_vec(keys)),
@@ -33,7 +33,7 @@ fn keys(alloc: Global) -> Value {
     }
 }
 
-/// A CoordinateInterpolator of two keys with a hundred vectors each.
+/// Returns a CoordinateInterpolator of two keys with a hundred vectors each.
 fn interpolator(alloc: Global) -> Option<Fields> {
     let Ok(vectors) = vec![in alloc; ONE; 200] else {
         return None;
@@ -44,8 +44,8 @@ fn interpolator(alloc: Global) -> Option<Fields> {
     Some(node)
 }
 
-/// The input of a CoordinateInterpolator, and in how many turns memory is refused at least: input 1
-/// gets 200 keys, and another one a fraction.
+/// An input of a CoordinateInterpolator, and the least number of turns in which memory is refused.
+/// Input 1 gets 200 keys, and any other a fraction.
 struct Refused(u16, usize);
 
 impl Row for Refused {
@@ -67,8 +67,8 @@ impl Row for Refused {
     }
 }
 
-/// A set of a list copies it twice, 1,600 bytes each; a CoordinateInterpolator makes one list of
-/// 2,400.
+/// Setting a list copies it twice, 1,600 bytes each. A CoordinateInterpolator makes one list of
+/// 2,400 bytes.
 static REFUSED: [Refused; 2] = [Refused(1, 200), Refused(3, 150)];
 
 #[test]
@@ -76,7 +76,7 @@ fn a_reaction_is_refused_until_there_is_enough(rt: HostRuntime) {
     all_hold(&rt, rt.alloc(), &REFUSED);
 }
 
-/// A value is copied.
+/// Copies a value.
 struct Copy;
 
 impl Spared<Value> for Copy {

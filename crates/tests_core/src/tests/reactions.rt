@@ -1,4 +1,4 @@
-//! Each row of the reactions by hand.
+//! Rows of the table of reactions, by hand.
 
 use super::sending::{Given, fields, is_sent, value_of};
 use super::{Row, all_hold, list_of};
@@ -7,7 +7,7 @@ use std::alloc::Global;
 use std::process::Abort;
 use x3d_values::{Fields, NodeType, Position, Value, Vec2, Vec3};
 
-/// Whether a node sends that at one event.
+/// Reports whether a node sends `wanted` at one event.
 pub(super) fn reacts(
     alloc: Global,
     node_type: NodeType,
@@ -24,7 +24,7 @@ pub(super) fn reacts(
     answered && sent
 }
 
-/// What a node holds in its field 2.
+/// The value of a node's field 2.
 #[derive(Clone, Copy)]
 enum Held {
     Int32(i32),
@@ -46,8 +46,8 @@ fn held_value(alloc: Global, held: Held) -> Value {
     }
 }
 
-/// A node with keys and what it holds, where it stands, an event, what is sent, and where it stands
-/// then.
+/// A node with its keys and its value, its position, an event, what is sent, and its position
+/// afterwards.
 #[derive(Clone, Copy)]
 struct Keyed {
     node_type: NodeType,
@@ -80,8 +80,8 @@ impl Row for Keyed {
     }
 }
 
-/// An event at an IntegerSequencer of three values: where it stands, what comes, what is sent, and
-/// where it stands then.
+/// An event at an IntegerSequencer of three values: its position, the event, what is sent, and its
+/// position afterwards.
 struct Step(Option<u32>, u16, Given, &'static str, Option<u32>);
 
 impl Row for Step {
@@ -110,14 +110,14 @@ static SEQUENCE: [Step; 8] = [
     Step(Some(0), 5, Given::Truth(true), "", Some(0)),
 ];
 
-/// An IntegerSequencer of three keys: what it sends at these events, in turn.
+/// What an IntegerSequencer of three keys sends at these events in order.
 #[test]
 fn sequencer(rt: HostRuntime) {
     all_hold(&rt, rt.alloc(), &SEQUENCE);
 }
 
-/// A BooleanSequencer that stands past its end counts as one that has not begun; with fewer keys
-/// than values it sends nothing and stays. An IntegerTrigger sends its number.
+/// A BooleanSequencer whose position is past its end counts as one that has not begun. With fewer
+/// keys than values it sends nothing and stays. An IntegerTrigger sends its number.
 static HELD: [Keyed; 3] = [
     Keyed {
         node_type: NodeType::BooleanSequencer,

@@ -1,4 +1,4 @@
-//! Values by one plain part, and what a node sends as text.
+//! Values of one plain part, and what a node sends, as text.
 
 use react_core::{Outbox, SentEvent};
 use std::alloc::Global;
@@ -24,7 +24,7 @@ pub fn value_of(given: Given) -> Value {
     }
 }
 
-/// A node that holds nothing, with so many fields, or fewer where memory is refused.
+/// Returns a node with `count` fields without values, or fewer if memory is refused.
 pub fn fields(alloc: Global, count: usize) -> Fields {
     let mut values = Items::new(alloc);
     for _ in 0..count {
@@ -36,7 +36,7 @@ pub fn fields(alloc: Global, count: usize) -> Fields {
     }
 }
 
-/// Whether that is sent: the field and the value of each reply, in order.
+/// Reports whether `wanted` is sent: the field and the value of each reply, in order.
 pub fn is_sent(alloc: Global, out: &Outbox, wanted: &str) -> bool {
     let mut text = Vec::new(alloc);
     let mut is_whole = true;
@@ -48,7 +48,7 @@ pub fn is_sent(alloc: Global, out: &Outbox, wanted: &str) -> bool {
     is_whole && same
 }
 
-/// Whether memory is given for the field and the value.
+/// Appends the field and the value of a reply. Reports whether memory is granted.
 fn push_reply(reply: &SentEvent, text: &mut Vec<u8>) -> bool {
     let field = i32::from(reply.field).show(text).is_ok();
     let space = text.extend_from_slice(b" ").is_ok();

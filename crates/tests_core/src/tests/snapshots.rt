@@ -1,4 +1,4 @@
-//! Parts of a world with their bytes by hand.
+//! Parts of a world, with their bytes by hand.
 
 use super::{Row, all_hold, holds};
 use arrayvec::ArrayVec;
@@ -19,12 +19,12 @@ const MARK: [u8; 32] = *b"abcdefghijklmnopqrstuvwxyzABCDEF";
 const EMPTY: &[u8] = b"\x00\x00\x00\x01\x00\x00\x00\x00\x00\x00\x00\x00\x00\x00\x00\x00\
     \x00\x00\x00\x00\x00\x00\x00\x00\x00\x00";
 
-/// The same of 64 viewers: 6 bytes more.
+/// Like `EMPTY`, for 64 viewers: 6 bytes more.
 const EMPTY_OF_64: &[u8] = b"\x00\x00\x00\x01\x00\x00\x00\x00\
     \x00\x00\x00\x00\x00\x00\x00\x00\x00\x00\x00\x00\x00\x00\x00\x00\
     \x00\x00\x00\x00\x00\x00\x00\x00";
 
-/// Whether memory is given for it.
+/// Appends the snapshot of an empty world. Reports whether memory is granted.
 fn push_empty(version: u8, of: Viewers, out: &mut Vec<u8>) -> bool {
     let progress = Progress {
         boot: 1,
@@ -39,7 +39,8 @@ fn push_empty(version: u8, of: Viewers, out: &mut Vec<u8>) -> bool {
     front & middle & viewers & count & digest
 }
 
-/// Why bytes are no snapshot of a version with this body; another body has another digest.
+/// Returns why bytes are not a snapshot of a version with this body. Another body counts as another
+/// digest.
 fn opened(version: u8, shot: &[u8], body: &[u8]) -> Option<HeadFault> {
     match open(version, &MARK, shot) {
         Ok(found) if found == body => None,
@@ -48,10 +49,11 @@ fn opened(version: u8, shot: &[u8], body: &[u8]) -> Option<HeadFault> {
     }
 }
 
-/// A version and its viewers, the body of the snapshot of an empty world, and the length of that.
+/// A version and its viewers, the body of the snapshot of an empty world, and the length of the
+/// snapshot.
 struct Empty(u8, Viewers, &'static [u8], usize);
 
-/// Whether it is opened to that body by its own version, and by no other.
+/// The snapshot opens to that body in its own version, and in no other.
 impl Row for Empty {
     fn holds(&self, alloc: Global) -> bool {
         let mut out = Vec::new(alloc);
@@ -82,10 +84,10 @@ fn a_mark_is_the_digest_of_the_text(rt: HostRuntime) {
     holds(&rt, mark.as_slice() == digest.as_slice());
 }
 
-/// No value, a time and a truth value.
+/// No value, a time and a truth value, as bytes.
 const KEPT: &[u8] = b"\x00\x00\x00\x00\x00\x00\x00\x01\x01";
 
-/// Whether fields are read from these bytes, and written again.
+/// Reports whether fields are read from these bytes, and written as the same bytes.
 fn are_kept(alloc: Global) -> bool {
     let kept = [
         KeptField::Absent,
@@ -109,7 +111,7 @@ fn fields_are_kept_or_not(rt: HostRuntime) {
     holds(&rt, are_kept(rt.alloc()));
 }
 
-/// Each node sends truth values by its field 3.
+/// Each node sends truth values from its field 3.
 struct Switches;
 
 impl Outputs for Switches {
@@ -127,8 +129,8 @@ impl Outputs for Switches {
     }
 }
 
-/// How many events there are, and one; two states, of two numbers and of none; a cycle and none; a
-/// touch of one of 16 viewers; no position and one.
+/// The number of events, and one event; two states, one of two numbers and one of none; a cycle and
+/// none; a touch of one of 16 viewers; no position and one.
 const PARTS: &[u8] = b"\x00\x00\x00\x00\x00\x00\x00\x01\x00\x00\x00\x01\
     \x00\x00\x00\x00\x00\x0f\x42\x40\x00\x00\x00\x02\x00\x03\x01\x00\x00\x00\x02\
     \xff\xff\xff\xff\xff\xff\xff\xff\x00\x00\x00\x00\x00\x00\x00\x02\x00\x00\x00\x00\
@@ -154,7 +156,7 @@ fn push_cause(out: &mut Vec<u8>) -> bool {
     pushed
 }
 
-/// Whether memory is given for them.
+/// Appends the parts. Reports whether memory is granted.
 fn push_parts(out: &mut Vec<u8>) -> bool {
     let count = push_entry_count(1, out).is_ok();
     let event = push_cause(out);
@@ -168,7 +170,7 @@ fn push_parts(out: &mut Vec<u8>) -> bool {
     count & event & two & none & cycle & no_cycle & touch & nowhere & position
 }
 
-/// Whether the parts have these bytes.
+/// Reports whether the parts are written as these bytes.
 fn are_written(alloc: Global) -> bool {
     let mut out = Vec::new(alloc);
     let pushed = push_parts(&mut out);
@@ -177,7 +179,7 @@ fn are_written(alloc: Global) -> bool {
     pushed && same
 }
 
-/// Whether two states are read, with the 29 bytes of the other parts behind them.
+/// Reports whether two states are read, with the 29 bytes of the other parts after them.
 fn are_states(alloc: Global, bytes: &[u8]) -> bool {
     match states_of(alloc, 2, bytes) {
         Ok((states, rest)) => {
@@ -189,7 +191,7 @@ fn are_states(alloc: Global, bytes: &[u8]) -> bool {
     }
 }
 
-/// Whether the events and the states are read, the first event as it was sent.
+/// Reports whether the events and the states are read, the first event as it was sent.
 fn are_as_sent(alloc: Global) -> bool {
     let mut entries: Items<TraceEntry> = Items::new(alloc);
     let read = match trace_of(alloc, &Switches, PARTS, &mut entries) {
@@ -207,10 +209,10 @@ fn parts_have_their_bytes(rt: HostRuntime) {
     holds(&rt, are_as_sent(rt.alloc()));
 }
 
-/// A touch of two of 64 viewers, the last of whom presses.
+/// A touch with two of 64 viewers over it; the last viewer presses.
 const TOUCH_OF_64: &[u8] = b"\x80\x00\x00\x00\x00\x00\x00\x01\x3f";
 
-/// Whether it has these bytes, and is read from them.
+/// Reports whether that touch is written as these bytes and read from them.
 fn is_touch_of_64(alloc: Global) -> bool {
     let touch = Touch {
         over: 1 << 63 | 1,
@@ -233,8 +235,9 @@ fn a_touch_has_its_bytes(rt: HostRuntime) {
     holds(&rt, viewer_set_of(Viewers::SixtyFour, &[255; 7]).is_none());
 }
 
-/// A PlaneSensor that viewer 63 is over and presses, from 1 -0.000001 0 on, translated by 2 0 0, by
-/// the way down to the second root and its first child; and one that nobody is over.
+/// Two PlaneSensors. Viewer 63 is over the first and presses it, from 1 -0.000001 0 on, with
+/// translation 2 0 0, on the path to the second root and its first child. No viewer is over the
+/// second.
 const PLANES: &[u8] = b"\x80\x00\x00\x00\x00\x00\x00\x00\x3f\
     \x00\x00\x00\x00\x00\x0f\x42\x40\xff\xff\xff\xff\xff\xff\xff\xff\
     \x00\x00\x00\x00\x00\x00\x00\x00\x00\x00\x00\x00\x00\x1e\x84\x80\
@@ -262,7 +265,7 @@ fn pressed() -> Plane {
     }
 }
 
-/// Whether the two are written so.
+/// Reports whether the two sensors are written as these bytes.
 fn are_planes(alloc: Global) -> bool {
     let mut out = Vec::new(alloc);
     let pressed = push_plane(&pressed(), &mut out).is_ok();
@@ -276,7 +279,7 @@ fn are_planes(alloc: Global) -> bool {
     pressed && none && same
 }
 
-/// The way down, where a viewer presses.
+/// Reports whether a viewer presses, on this path.
 fn is_way(drag: &Option<Drag>, way: &[u32]) -> bool {
     match drag {
         Some(drag) => drag.path.as_slice() == way,
@@ -284,7 +287,7 @@ fn is_way(drag: &Option<Drag>, way: &[u32]) -> bool {
     }
 }
 
-/// Whether one is read that is pressed, with these bytes behind it.
+/// Reports whether a pressed sensor is read, with `behind` bytes after it.
 fn is_pressed(bytes: &[u8], behind: usize) -> bool {
     match plane_of(bytes) {
         Some((plane, rest)) => is_way(&plane.drag, &[1, 0]) && rest.len() == behind,
@@ -299,8 +302,9 @@ fn drags_have_their_bytes(rt: HostRuntime) {
     holds(&rt, plane_of(&PLANES[..65]).is_none());
 }
 
-/// A PlaneSensor that nobody is over, with that byte for who presses it, this height of where it
-/// was pressed, and that many positions; behind it come as many bytes as 64 positions have.
+/// Returns the bytes of a PlaneSensor that no viewer is over, with this byte for its presser, this
+/// height of the point of the press, and this number of positions. After them are as many bytes as
+/// 64 positions have.
 fn drag_bytes(presser: u8, height: &[u8], count: u8) -> ArrayVec<u8, 320> {
     let mut out = ArrayVec::new();
     let _over = out.try_extend_from_slice(&[0; 8]);
@@ -313,7 +317,8 @@ fn drag_bytes(presser: u8, height: &[u8], count: u8) -> ArrayVec<u8, 320> {
     out
 }
 
-/// Such bytes, and how many of them are left where a PlaneSensor is read.
+/// The arguments of `drag_bytes`, and how many bytes are left after a PlaneSensor is read from
+/// them.
 struct Left(u8, &'static [u8], u8, Option<usize>);
 
 impl Row for Left {

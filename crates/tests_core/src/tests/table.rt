@@ -1,4 +1,4 @@
-//! The table of fields against a transcription of it by hand: a line a field, in order, with the
+//! The table of fields against a transcription of it by hand. A line has one field, in order: the
 //! node type, the field, its type, its access (io inputOutput, ini initializeOnly, in inputOnly,
 //! out outputOnly), its default in the Classic encoding, and which nodes it takes.
 
@@ -11,7 +11,7 @@ use x3d_values::{
     Access, FieldRow, FieldType, NodeKind, NodeType, default_value, field_at, field_of, fields_of,
 };
 
-/// The letters of the table.
+/// Returns the kind of node for a letter of the table.
 fn kind_of(letter: &str) -> Option<NodeKind> {
     let [letter] = letter.as_bytes() else {
         return None;
@@ -42,19 +42,19 @@ fn access_of(word: &str) -> Option<Access> {
     }
 }
 
-/// The first word, and what stands behind it.
+/// Returns the first word, and the text after it.
 fn cut_word(line: &str) -> (&str, &str) {
     line.split_once(' ').unwrap_or((line, ""))
 }
 
-/// Whether a field of that access and type holds a value.
+/// Reports whether a field of this access and type holds a value.
 fn holds_a_value(row: FieldRow) -> bool {
     let kept = row.access == Access::InputOutput || row.access == Access::InitializeOnly;
     kept && row.field_type != FieldType::SFRotation
 }
 
-/// Whether that is the default as it is written, if the field has one; a node and a list of nodes
-/// have no text.
+/// Reports whether `wanted` is the text of the field's default, if the field has one. A node and a
+/// list of nodes have no text.
 fn is_default(alloc: Global, row: FieldRow, wanted: &str) -> bool {
     let Some(default) = row.default else {
         return !holds_a_value(row);
@@ -68,8 +68,8 @@ fn is_default(alloc: Global, row: FieldRow, wanted: &str) -> bool {
     shown && holds_a_value(row)
 }
 
-/// Whether that is said of the field behind its name: its type, its access, its default and which
-/// nodes it takes.
+/// Reports whether `said`, the rest of the line after the field's name, is right: its type, its
+/// access, its default and which nodes it takes.
 fn is_said(alloc: Global, row: FieldRow, said: &str) -> bool {
     let (field_type, rest) = cut_word(said);
     let (access, rest) = cut_word(rest);
@@ -80,7 +80,7 @@ fn is_said(alloc: Global, row: FieldRow, said: &str) -> bool {
         && is_default(alloc, row, default)
 }
 
-/// Whether that is said of the field of that number.
+/// Reports whether `said` is right of the field of this number.
 fn is_field(alloc: Global, node_type: NodeType, number: u16, said: &str) -> bool {
     let (name, said) = cut_word(said);
     let (Some(named), Some(row)) = (field_of(node_type, name), field_at(node_type, number)) else {
@@ -92,8 +92,8 @@ fn is_field(alloc: Global, node_type: NodeType, number: u16, said: &str) -> bool
         && is_said(alloc, row, said)
 }
 
-/// How many lines were found so far, the node type and the number of the next field of the last,
-/// and how many rows the node types have.
+/// The number of lines found until now, the node type of the last line, the number of its next
+/// field, and the number of rows of the node types.
 #[derive(Clone, Copy)]
 struct Found {
     lines: usize,
@@ -102,7 +102,7 @@ struct Found {
     rows: usize,
 }
 
-/// Counts the line, if it is the next one of the table.
+/// Counts the line if it is the next one of the table.
 fn find(alloc: Global, text: &str, found: &mut Found) {
     let (name, said) = cut_word(text);
     let Some(node_type) = NodeType::named(name) else {
@@ -119,7 +119,7 @@ fn find(alloc: Global, text: &str, found: &mut Found) {
     found.number = found.number.wrapping_add(1);
 }
 
-/// Whether each line is found, and each row of the program has one.
+/// Reports whether each line is found, and each row of the program has a line.
 fn are_found(alloc: Global) -> bool {
     let mut found = Found {
         lines: 0,

@@ -1,4 +1,4 @@
-//! The table of fields, transcribed by hand: a line a field.
+//! The table of fields, transcribed by hand, one line per field.
 
 pub(super) static TABLE: &str = "\
 Group metadata SFNode io NULL of D\n\

@@ -1,4 +1,4 @@
-//! The longest text, what faults say, and growths that are refused.
+//! The longest text, the messages of faults, and growths that are refused.
 
 use super::{Row, Said, all_hold, holds};
 use classic_lex::{LexFault, LexFaultKind, MAX_LEN, lex};
@@ -6,7 +6,7 @@ use std::alloc::Global;
 use std::process::Abort;
 use tests_memory::{Outcome, Spared, UsedUp, is_refused_until_enough};
 
-/// Whether a text of 16 MiB is cut, and has no tokens.
+/// Reports whether a text of 16 MiB is cut into tokens, and has none.
 fn is_cut(alloc: Global) -> bool {
     let mut text = Vec::new(alloc);
     let made = text.extend_from_slice(b"#X3D V3.0 utf8\n").is_ok();
@@ -44,7 +44,7 @@ fn faults_are_shown(rt: HostRuntime) {
     all_hold(&rt, rt.alloc(), &SAID);
 }
 
-/// A text is cut.
+/// Cuts a text into tokens.
 struct Cut;
 
 impl Spared<Vec<u8>> for Cut {
@@ -56,7 +56,7 @@ impl Spared<Vec<u8>> for Cut {
     }
 }
 
-/// How many nodes a text has, and in how many turns memory is refused at least.
+/// The number of nodes of a text, and the least number of turns in which memory is refused.
 struct Refused(usize, usize);
 
 impl Row for Refused {
@@ -72,7 +72,7 @@ impl Row for Refused {
     }
 }
 
-/// The first list is of four tokens; of many it grows to twice as many, again and again.
+/// The first list is of four tokens; for many tokens it doubles again and again.
 static REFUSED: [Refused; 2] = [Refused(1, 3), Refused(100, 300)];
 
 #[test]

@@ -1,5 +1,5 @@
-//! Texts with their tokens by hand. (Faults of tokens and headers are cases in
-//! cases/grammar.cases, versions in cases/formats.cases.)
+//! Texts with their tokens by hand. (Faults of tokens and headers are cases in cases/grammar.cases,
+//! versions in cases/formats.cases.)
 
 use super::{Row, all_hold, holds};
 use classic_lex::{Token, TokenKind, Version, lex, version};
@@ -7,7 +7,7 @@ use std::alloc::Global;
 use std::process::Abort;
 use x3d_values::Show;
 
-/// The kind of a token: a word, a string, a numeral, or a mark.
+/// Returns the letter of a token's kind: a word, a string, a numeral, or a mark.
 fn kind_of(kind: TokenKind) -> &'static [u8] {
     match kind {
         TokenKind::Identifier => b"w",
@@ -21,8 +21,7 @@ fn kind_of(kind: TokenKind) -> &'static [u8] {
     }
 }
 
-/// Puts the kind, the line and the bytes of a token behind a text, and tells whether memory is
-/// given for it.
+/// Appends the kind, the line and the bytes of a token. Reports whether memory is granted.
 fn push_token(text: &[u8], token: &Token, out: &mut Vec<u8>) -> bool {
     let piece = text.get(token.start as usize..token.end as usize);
     let kind = out.extend_from_slice(kind_of(token.kind)).is_ok();
@@ -58,7 +57,7 @@ impl Row for Cut {
 }
 
 static TOKENS: [Cut; 16] = [
-    // nothing behind the header
+    // nothing after the header
     Cut(b"#X3D V3.0 utf8", ""),
     Cut(b"#X3D V3.0 utf8\n", ""),
     // a byte order mark counts in the places
@@ -100,7 +99,7 @@ static TOKENS: [Cut; 16] = [
         b"#X3D V3.0 utf8\n\"\" \"a\\\"b\" \"\\\\\" \"\\n'\"\"\xc3\xa9\"",
         "s2 \"\"|s2 \"a\\\"b\"|s2 \"\\\\\"|s2 \"\\n'\"|s2 \"\u{e9}\"|",
     ),
-    // numerals end where none goes on
+    // a numeral ends where its form ends
     Cut(
         b"#X3D V3.0 utf8\n0 -.5e3 +2. .5 1E-7,0xFF -0X10",
         "n2 0|n2 -.5e3|n2 +2.|n2 .5|n2 1E-7|n2 0xFF|n2 -0X10|",
@@ -109,14 +108,14 @@ static TOKENS: [Cut; 16] = [
         b"#X3D V3.0 utf8\n1[2]3{4}5\"6\"7#8\n9",
         "n2 1|[2 [|n2 2|]2 ]|n2 3|{2 {|n2 4|}2 }|n2 5|s2 \"6\"|n2 7|n3 9|",
     ),
-    // a point begins a numeral before a digit
+    // a point begins a numeral if a digit follows
     Cut(
         b"#X3D V3.0 utf8\na.5 a-5 ..5",
         "w2 a|n2 .5|w2 a-5|.2 .|n2 .5|",
     ),
 ];
 
-/// A version is that of the header, whatever comes behind it.
+/// The version is that of the header, whatever follows it.
 #[test]
 fn texts_have_their_tokens(rt: HostRuntime) {
     all_hold(&rt, rt.alloc(), &TOKENS);

@@ -1,5 +1,5 @@
 //! Raw values as values of a type: what no scene has, the longest list, and growths that are
-//! refused. (Values of each type, and what is none, are cases in cases/values.cases.)
+//! refused. (Values of each type, and texts that are not values, are cases in cases/values.cases.)
 
 use super::lists::words;
 use super::{Row, all_hold, holds, list_of};
@@ -10,7 +10,7 @@ use std::process::Abort;
 use tests_memory::{Outcome, Spared, UsedUp, is_refused_until_enough};
 use x3d_values::{FieldType, Items, Text, Value};
 
-/// What the nodes of the raw values are called.
+/// The numbers of the raw values' nodes.
 static NUMBERS: [u32; 3] = [10, 11, 12];
 
 /// A raw value.
@@ -20,7 +20,7 @@ enum Given {
     List(&'static [i64]),
     Truth(bool),
     Truths(&'static [bool]),
-    /// A string of so many letters.
+    /// A string of this many letters.
     Word(usize),
     /// `["door" "lamp"]`
     Words,
@@ -29,7 +29,7 @@ enum Given {
     Empty,
 }
 
-/// So many letters, or fewer where memory is refused.
+/// Returns this many letters, or fewer if memory is refused.
 fn word(alloc: Global, length: usize) -> Text {
     let mut word = String::new(alloc);
     for _ in 0..length {
@@ -52,7 +52,7 @@ fn raw_value(alloc: Global, given: Given) -> RawValue<u32> {
     }
 }
 
-/// A type, a raw value, and the nodes of the value, or why it is none.
+/// A type, a raw value, and the nodes of the value, or why it is not a value.
 struct Typed(FieldType, Given, Result<&'static [u32], ValueFault>);
 
 impl Row for Typed {
@@ -71,7 +71,7 @@ impl Row for Typed {
     }
 }
 
-/// Nodes get their numbers, a rotation is no value, and no numeral is a time out of range.
+/// Nodes get their numbers, a rotation is not a value, and a number can be out of range for a time.
 static TYPED: [Typed; 8] = [
     Typed(FieldType::MFNode, Given::Node(1), Ok(&[11])),
     Typed(FieldType::SFNode, Given::Node(1), Ok(&[11])),
@@ -107,7 +107,7 @@ static TYPED: [Typed; 8] = [
     ),
 ];
 
-/// Whether an axis may be longer than any numeral says.
+/// Reports whether an axis may be longer than any numeral.
 fn is_a_rotation(alloc: Global) -> bool {
     let raw = raw_value(alloc, Given::Run(&[2_000_000_000_000_000_000, 0, 0, 0]));
     let answer = checked_rotation(&raw, false);
@@ -121,7 +121,7 @@ fn values_that_no_scene_has(rt: HostRuntime) {
     holds(&rt, is_a_rotation(rt.alloc()));
 }
 
-/// Whether the raw value is a list of so many vectors.
+/// Reports whether the raw value is a list of `count` vectors.
 fn has_vectors(alloc: Global, raw: &RawValue<u32>, count: usize) -> bool {
     match typed(alloc, FieldType::MFVec3f, raw, &NUMBERS) {
         Ok(value) => {
@@ -151,7 +151,7 @@ fn a_list_of_eight_million_numerals(rt: HostRuntime) {
     holds(&rt, is_a_long_list(rt.alloc()));
 }
 
-/// A raw value is read as a value of this type.
+/// Reads a raw value as a value of this type.
 #[derive(Clone, Copy)]
 struct Typing(FieldType);
 
@@ -164,7 +164,7 @@ impl Spared<RawValue<u32>> for Typing {
     }
 }
 
-/// A type, a raw value, and in how many turns memory is refused at least: in two for a list.
+/// A type, a raw value, and the least number of turns in which memory is refused: two for a list.
 struct Refused(FieldType, Given, usize);
 
 impl Row for Refused {
@@ -190,7 +190,7 @@ static REFUSED: [Refused; 15] = [
     Refused(FieldType::SFString, Given::Word(3), 2),
     Refused(FieldType::MFString, Given::Word(3), 4),
     Refused(FieldType::MFString, Given::Words, 6),
-    // the word, and then the list of it
+    // the word, and then the list that has it
     Refused(FieldType::SFString, Given::Word(4096), 256),
     Refused(FieldType::MFString, Given::Word(4096), 258),
 ];

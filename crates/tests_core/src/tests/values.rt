@@ -1,4 +1,4 @@
-//! Values with their bytes and their texts by hand, and what stands where memory is refused.
+//! Values with their bytes and their texts by hand, and the state after memory is refused.
 
 use super::{Row, all_hold, holds};
 use snapshot_codec::{PartFault, push_value, value_of};
@@ -9,7 +9,7 @@ use x3d_values::{
     FieldDefault, FieldType, Value, clone_value, default_value, empty_value, show_value,
 };
 
-/// Whether that is the value's text.
+/// Reports whether `text` is the value's text.
 pub(super) fn shows(alloc: Global, value: &Value, text: &str) -> bool {
     let mut shown = Vec::new(alloc);
     let pushed = show_value(value, &mut shown).is_ok();
@@ -18,7 +18,7 @@ pub(super) fn shows(alloc: Global, value: &Value, text: &str) -> bool {
     pushed && same
 }
 
-/// Whether the value has those bytes.
+/// Reports whether the value has these bytes.
 fn is_written(alloc: Global, value: &Value, bytes: &[u8]) -> bool {
     let mut out = Vec::new(alloc);
     let pushed = push_value(value, &mut out).is_ok();
@@ -27,7 +27,7 @@ fn is_written(alloc: Global, value: &Value, bytes: &[u8]) -> bool {
     pushed && same
 }
 
-/// Whether a copy of the value is equal to it.
+/// Reports whether a copy of the value is equal to it.
 fn is_copied(alloc: Global, value: &Value) -> bool {
     let Ok(copy) = clone_value(alloc, value) else {
         return false;
@@ -37,7 +37,7 @@ fn is_copied(alloc: Global, value: &Value) -> bool {
     same
 }
 
-/// A type, bytes, and the text of the value that has these bytes; none where no value has them.
+/// A type, bytes, and the text of the value that has these bytes, or `None` if no value has them.
 struct Coded(FieldType, &'static [u8], Option<&'static str>);
 
 impl Row for Coded {
@@ -159,7 +159,7 @@ static VALUES: [Coded; 30] = [
             \x00\x00\x00\x00\x00\x00\x00\x00\x00\x0f\x42\x40",
         Some("[0.8 0 1]"),
     ),
-    // bytes of no value
+    // bytes that are not a value
     Coded(FieldType::SFBool, b"\x02", None),
     Coded(
         FieldType::SFFloat,
@@ -182,7 +182,7 @@ fn values_have_their_bytes_and_texts(rt: HostRuntime) {
     all_hold(&rt, rt.alloc(), &VALUES);
 }
 
-/// What takes memory for a value.
+/// The calls that take memory for a value.
 #[derive(Clone, Copy)]
 enum Call {
     Show,
@@ -190,7 +190,7 @@ enum Call {
     Clone,
 }
 
-/// Appends the text of a value, or its bytes. On a refusal the buffer is as it was.
+/// Appends the text of a value, or its bytes. If memory is refused the buffer is unchanged.
 fn appends(call: Call, value: &Value, out: &mut Vec<u8>) -> bool {
     match call {
         Call::Show => show_value(value, out).is_ok(),
@@ -214,7 +214,7 @@ impl Spared<Value> for Call {
     }
 }
 
-/// Whether each of these is refused in one turn at least, until there is enough.
+/// Reports whether each of the calls is refused in at least one turn, until there is enough.
 fn are_refused(alloc: Global, value: &mut Value) -> bool {
     for call in [Call::Show, Call::Write, Call::Clone] {
         if !is_refused_until_enough(alloc, &call, value, 1) {
@@ -224,7 +224,7 @@ fn are_refused(alloc: Global, value: &mut Value) -> bool {
     true
 }
 
-/// A value of that type is read of bytes.
+/// Reads a value of this type from bytes.
 #[derive(Clone, Copy)]
 struct Reading(FieldType);
 
@@ -237,8 +237,8 @@ impl Spared<&'static [u8]> for Reading {
     }
 }
 
-/// A type, and the bytes of a value, which like its text are more than the 24 that a small block
-/// holds.
+/// A type, and the bytes of a value. The bytes and the text are longer than the 24 bytes that a
+/// small block holds.
 struct Refused(FieldType, &'static [u8]);
 
 impl Row for Refused {

@@ -1,4 +1,5 @@
-//! Documents that no text expands to: more routes than a scene may have, and more fields of a node.
+//! Documents that no text expands to: with more routes than a scene may have, or more fields of a
+//! node.
 
 use super::{Row, all_hold};
 use classic_lex::Version;
@@ -10,7 +11,7 @@ use std::alloc::{AllocError, Global};
 use x3d_lists::{Items, Text};
 use x3d_values::{Access, FieldType, NodeType};
 
-/// How many nodes a document of routes has: of each of them to 256 there are 65,792 routes.
+/// How many nodes a document of routes has. From each of them to 256 nodes there are 65,792 routes.
 const NODES: u32 = 257;
 
 fn without_nodes(alloc: Global) -> Flat {
@@ -51,7 +52,7 @@ fn end(alloc: Global, node: u32, name: &str) -> Result<FlatEnd, AllocError> {
     Ok(FlatEnd::At(node, Text::from_str(alloc, name)?))
 }
 
-/// Appends the route of that number.
+/// Appends the route of this number.
 fn push_route(alloc: Global, flat: &mut Flat, number: u32) -> Result<(), AllocError> {
     let source = end(alloc, number / 256, "inputTrue")?;
     let Ok(target) = end(alloc, number % 256, "set_boolean") else {
@@ -79,7 +80,7 @@ fn push_filters(alloc: Global, flat: &mut Flat) -> Result<(), AllocError> {
     Ok(())
 }
 
-/// How many routes the document has.
+/// Returns how many routes the document has.
 fn count_of(alloc: Global, flat: &Flat) -> Result<Result<usize, RouteFault>, AllocError> {
     let Ok(scene) = Scene::build(alloc, flat) else {
         return Err(AllocError);
@@ -89,7 +90,7 @@ fn count_of(alloc: Global, flat: &Flat) -> Result<Result<usize, RouteFault>, All
     Ok(found.map(|routes| routes.len()))
 }
 
-/// So many routes, and so many of them again; how many there are.
+/// How many routes are written, how many of them a second time, and how many routes there then are.
 struct Joined(u32, u32, Result<usize, RouteFault>);
 
 impl Row for Joined {
@@ -134,7 +135,7 @@ fn push_declarations(alloc: Global, node: &mut FlatNode, count: u32) -> Result<(
     Ok(())
 }
 
-/// A Script that declares so many fields; why it is no scene.
+/// A Script that declares this many fields, and why it is not a scene, if it isn't one.
 struct Declared(u32, Option<SceneFault>);
 
 impl Row for Declared {

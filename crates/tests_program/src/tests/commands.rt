@@ -1,4 +1,4 @@
-//! The commands that read one input and write one output, and what they answer.
+//! The commands that read one input and write one output, and their answers.
 
 use share_program::{Failure, check_text, format_text, refusal_line, run_job, status_of};
 use std::alloc::Global;
@@ -26,7 +26,7 @@ pub(super) fn obey<R: Read, W: Write>(
     }
 }
 
-/// Whether it was refused with this line and this status.
+/// Reports whether the answer is a refusal with this line and this status.
 pub(super) fn is_refused(answer: Option<Failure>, line: &str, status: u8) -> bool {
     match answer {
         Some(failure) => {

@@ -1,5 +1,5 @@
-//! Boxes that count their calls, in a rehearsal, at a viewer that begins again, and in a run: no
-//! clause says how often a box is called, since what it does is its state alone.
+//! Boxes that count their calls, in a rehearsal, at a viewer that begins again, and in a run. No
+//! contract says how often a box is called, since only its state matters.
 
 ghost use Rattle.std.specs.Prelude.{◌≡◌, ◌∷◌, [], IfOk};
 ghost use Rattle.cascade_core.specs.Apply.{opening};
@@ -20,7 +20,7 @@ use std::alloc::{AllocError, Global};
 use std::process::Abort;
 use x3d_values::{Cause, Stamped, is_input_number, is_input_time};
 
-/// A counter that a clock drives each two seconds, from the first second on.
+/// A counter that a clock drives every two seconds, from the first second on.
 const COUNTED: &str = "#X3D V3.0 utf8
 DEF T TimeSensor { cycleInterval 2 loop TRUE startTime 1 } DEF B BooleanTrigger {}
 DEF C Script { url \"x3dshare:counter\" inputOnly SFBool tick field SFInt32 start 5
@@ -33,7 +33,7 @@ fn one_box<'a>(alloc: Global, script: Counted<'a>) -> Result<Vec<Counted<'a>>, A
     Ok(vec![in alloc; script]?)
 }
 
-/// The stage of the scene with this box, behind input 0.
+/// Returns the stage of the scene with this box, after input 0.
 fn stage_of<'a>(alloc: Global, script: Counted<'a>) -> Result<Stage<Counted<'a>>, LoadFault>
     ensures { IfOk result (λ stage. stage.held ≡ Running (opening stage.scene stage.routes)) }
 {
@@ -61,7 +61,7 @@ fn both<'a>(
     Ok(vec![in alloc; first, second]?)
 }
 
-/// Two of them; the second one's box can't be restored.
+/// Returns two stages; the second one's box can't be restored.
 fn two_stages<'a>(
     alloc: Global,
     first: &'a Count,
@@ -77,8 +77,8 @@ fn two_stages<'a>(
     Ok(both(alloc, first, second)?)
 }
 
-/// Two clocks come to two viewers; each takes a snapshot between them, goes back to it, and takes
-/// the second clock again.
+/// Two clocks reach two viewers. Each viewer takes a snapshot between them, goes back to it, and
+/// takes the second clock again.
 static STEPS: [Step; 14] = [
     Step::HostClock { time: 1_000_000 },
     Step::HostClock { time: 3_000_000 },
@@ -139,7 +139,7 @@ const LINES: &str = "1 Numbered 1
 viewer 0 at 2 boot 2
 ";
 
-/// The state is looked at as the box is attached, and as the snapshot is taken.
+/// The state is read as the box is attached, and as the snapshot is taken.
 const FIRST: Calls = Calls {
     initialize: 1,
     receive: 3,
@@ -149,14 +149,14 @@ const FIRST: Calls = Calls {
     ..NONE
 };
 
-/// The rewind is refused, and the viewer then applies nothing.
+/// The rewind is refused, and the viewer applies nothing afterwards.
 const SECOND: Calls = Calls {
     receive: 2,
     settle: 2,
     ..FIRST
 };
 
-/// The calls of a box up to its end.
+/// Returns the calls of a box up to its end.
 fn ended(calls: Calls) -> Calls {
     Calls {
         shutdown: 1,
@@ -165,7 +165,8 @@ fn ended(calls: Calls) -> Calls {
     }
 }
 
-/// Whether the steps are answered so by viewers whose boxes were then called so often.
+/// Reports whether the steps are answered as expected, by viewers whose boxes were called as often
+/// as expected.
 fn goes<'a>(alloc: Global, first: &'a Count, second: &'a Count) -> bool {
     let Ok(stages) = two_stages(alloc, first, second) else {
         return false;
@@ -188,7 +189,7 @@ fn a_rehearsal_calls_each_box(rt: HostRuntime) {
     assert!(rt; first.get() == ended(FIRST) && second.get() == ended(SECOND));
 }
 
-/// A viewer takes the clock of that number, at so many seconds.
+/// Gives a viewer the clock of this number, at this many seconds. Reports whether it is applied.
 fn takes_clock<B: Behaviour>(viewer: &mut Viewer<B>, number: u32, seconds: u32) -> bool {
     let time = i64::from(seconds) * 1_000_000;
     if !is_input_number(number) {
@@ -201,7 +202,7 @@ fn takes_clock<B: Behaviour>(viewer: &mut Viewer<B>, number: u32, seconds: u32) 
     viewer.take(encode(&Message { mark: MARK, body }).as_slice()) == Ok(Taken::Applied(1))
 }
 
-/// Whether a viewer does what the first of the rehearsal does.
+/// Reports whether a viewer does what the first viewer of the rehearsal does.
 fn begins_again<B: Behaviour>(viewer: &mut Viewer<B>, shot: &mut Vec<u8>) -> bool {
     takes_clock(viewer, 1, 1)
         && viewer.snapshot(shot).is_ok()
@@ -231,7 +232,7 @@ fn a_viewer_calls_its_box(rt: HostRuntime) {
     assert!(rt; count.get() == ended(FIRST));
 }
 
-/// Both clocks, and the scene.
+/// Returns the job of both clocks and the scene.
 fn job_of(alloc: Global) -> Result<Job, AllocError> {
     let mut bytes = Vec::new(alloc);
     bytes.extend_from_slice(b"clock 1\nclock 3\nscene\n")?;
@@ -244,7 +245,7 @@ fn job_of(alloc: Global) -> Result<Job, AllocError> {
     }
 }
 
-/// Whether a job is run, by a box that can't be restored.
+/// Reports whether a job is run with a box that can't be restored.
 fn is_run<'a>(alloc: Global, count: &'a Count) -> Result<bool, AllocError> {
     let boxes = one_box(alloc, Counted::new(true, count))?;
     let Ok(job) = job_of(alloc) else {
@@ -257,7 +258,7 @@ fn is_run<'a>(alloc: Global, count: &'a Count) -> Result<bool, AllocError> {
     Ok(answer.is_ok())
 }
 
-/// The state is looked at as the box is attached.
+/// The state is read as the box is attached.
 const RUN: Calls = Calls {
     initialize: 1,
     receive: 2,

@@ -1,4 +1,4 @@
-//! Devices that fail: readers and writers of a few bytes a call, by hand.
+//! Devices that fail: hand-written readers and writers of a few bytes per call.
 
 use super::commands::{Command, is_refused, obey};
 use super::{Row, all_hold};
@@ -7,7 +7,7 @@ use std::alloc::{AllocError, Global};
 use std::io::{self, ErrorKind, Read, Write};
 use std::process::Abort;
 
-/// Gives three bytes a read, and fails at one read.
+/// A reader that gives three bytes per read, and fails at one read.
 #[derive(Drop)]
 struct Patchy<'a> {
     left: &'a [u8],
@@ -38,7 +38,7 @@ fn failing_reader(left: &[u8], fails_at: u32, kind: ErrorKind) -> Patchy<'_> {
     }
 }
 
-/// Takes three bytes a write, and fails at one write or flush.
+/// A writer that takes three bytes per write, and fails at one write or flush.
 #[derive(Drop)]
 struct Choppy {
     got: Vec<u8>,
@@ -69,11 +69,11 @@ impl Write for Choppy {
     }
 }
 
-/// A command, what it reads and what it writes, each in six calls of three bytes or more.
+/// A command, its input and its output, each in six calls of three bytes or more.
 struct Piecewise(Command, &'static str, &'static str);
 
 impl Piecewise {
-    /// Whether it is refused where this read fails, and nothing is written.
+    /// Reports whether the command is refused and writes nothing if this read fails.
     fn is_refused_at_read(&self, alloc: Global, read: u32) -> bool {
         let mut reader = failing_reader(self.1.as_bytes(), read, ErrorKind::BrokenPipe);
         let mut out = Vec::new(alloc);
@@ -81,7 +81,7 @@ impl Piecewise {
         is_refused(answer, "refused Device", 4) && out.is_empty()
     }
 
-    /// Whether it goes on where this read is interrupted.
+    /// Reports whether the command goes on if this read is interrupted.
     fn reads_again(&self, alloc: Global, read: u32) -> bool {
         let mut reader = failing_reader(self.1.as_bytes(), read, ErrorKind::Interrupted);
         let mut out = Vec::new(alloc);
@@ -89,7 +89,8 @@ impl Piecewise {
         answer.is_none() && out.as_slice() == self.2.as_bytes()
     }
 
-    /// Whether it is refused where this write or flush fails, and else writes all; 0 is none.
+    /// Reports whether the command is refused if this write or flush fails, or writes everything if
+    /// `call` is 0, so that none fails.
     fn writes(&self, alloc: Global, call: u32) -> bool {
         let mut reader = self.1.as_bytes();
         let mut writer = Choppy {

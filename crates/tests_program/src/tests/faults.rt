@@ -1,4 +1,4 @@
-//! How refusals are said: the line and the status of each, and faults in words.
+//! The line and the status of refusals, and the messages of faults.
 
 use super::{Row, all_hold};
 use classic_text::{ReadFault, ReadFaultKind};
@@ -11,7 +11,7 @@ use share_words::OrderFault;
 use std::alloc::{AllocError, Global};
 use std::process::Abort;
 
-/// A failure, the status and the line that tell of it, and what it says itself.
+/// A failure, its status, its refusal line, and its own message.
 struct Told(Failure, u8, &'static str, &'static str);
 
 impl Row for Told {

@@ -1,5 +1,5 @@
-//! Commands with ever more memory left: each is refused as Memory and writes nothing, until there
-//! is enough.
+//! Commands with more and more memory. Each is refused as Memory and writes nothing, until there is
+//! enough.
 
 use super::commands::{Command, is_refused, obey};
 use super::texts::{Part, made};
@@ -28,8 +28,8 @@ impl<'a> Spared<Vec<u8>> for Given<'a> {
     }
 }
 
-/// A command and its input, and in how many turns it is refused at least, each of which has 16
-/// bytes more.
+/// A command and its input, and the least number of turns in which it is refused. Each turn has 16
+/// bytes more than the one before.
 struct Refused(Command, &'static [Part], usize);
 
 impl Row for Refused {
@@ -41,8 +41,8 @@ impl Row for Refused {
     }
 }
 
-/// A tree, and then its text, which is longer than what is read. Few levels: where memory is used
-/// up, the stack can't grow either.
+/// A tree, and then its text, which is longer than the input. There are few levels: while memory is
+/// used up, the stack can't grow either.
 static FORMATTED: [Refused; 1] = [Refused(
     Command::Format,
     &[
@@ -58,8 +58,8 @@ fn formatting_is_refused_until_there_is_enough(rt: HostRuntime) {
     all_hold(&rt, rt.alloc(), &FORMATTED);
 }
 
-/// A few prototypes stand for many nodes with many fields: each layer holds more than the one
-/// before, so the growths of each are refused.
+/// A few prototypes give many nodes with many fields. Each layer holds more than the one before, so
+/// its growths are refused.
 static CHECKED: [Refused; 1] = [Refused(
     Command::Check,
     &[
@@ -79,7 +79,8 @@ fn checking_is_refused_until_there_is_enough(rt: HostRuntime) {
     all_hold(&rt, rt.alloc(), &CHECKED);
 }
 
-/// The same scene: loading takes more, and the text of the scene more than that.
+/// The same scene. Loading takes more memory than checking, and the text of the scene more than
+/// that.
 static LOADED: [Refused; 1] = [Refused(
     Command::Run,
     &[
@@ -99,8 +100,8 @@ fn loading_is_refused_until_there_is_enough(rt: HostRuntime) {
     all_hold(&rt, rt.alloc(), &LOADED);
 }
 
-/// Clocks of which each is told by many lines: the job, its trace, the text of that, and the text
-/// of the scene behind it each take more than what was before.
+/// Clocks with many trace lines each. The job, its trace, the text of the trace, and the text of
+/// the scene each take more memory than the one before.
 static CLOCKS: [Refused; 1] = [Refused(
     Command::Run,
     &[

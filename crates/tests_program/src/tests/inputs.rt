@@ -1,4 +1,4 @@
-//! What reads jobs, schedules and words: memory that is refused to it until there is enough, and a
+//! Reading of jobs, schedules and words: with memory that is refused until there is enough, and a
 //! schedule that is read.
 
 use super::texts::{Part, made};
@@ -13,7 +13,7 @@ use std::process::Abort;
 use tests_memory::{Outcome, Spared, UsedUp, is_refused_until_enough};
 use x3d_values::{Point, Vec3};
 
-/// What reads bytes.
+/// A function that reads bytes.
 #[derive(Clone, Copy)]
 enum Reading {
     Whole,
@@ -48,7 +48,7 @@ impl Spared<Vec<u8>> for Reading {
     }
 }
 
-/// What is read, from which parts, and in how many turns it is refused at least.
+/// The function, the parts that it reads, and the least number of turns in which it is refused.
 struct Refused(Reading, &'static [Part], usize);
 
 impl Row for Refused {
@@ -58,7 +58,7 @@ impl Row for Refused {
     }
 }
 
-/// A list has room for 4, and then for twice as many, again and again, up to 128.
+/// A list has room for 4, and then doubles again and again, up to 128.
 static REFUSED: [Refused; 3] = [
     Refused(Reading::Whole, &[Part(1_000, "clock %\n")], 500),
     Refused(
@@ -78,7 +78,7 @@ fn inputs_are_refused_until_there_is_enough(rt: HostRuntime) {
     all_hold(&rt, rt.alloc(), &REFUSED);
 }
 
-/// The order of a request that is one.
+/// Returns the order of a request, if the request is an order.
 fn order_of(request: Result<Request, OrderFault>) -> Result<Order, OrderFault> {
     match request {
         Ok(Request::Order(order)) => Ok(order),
@@ -87,7 +87,7 @@ fn order_of(request: Result<Request, OrderFault>) -> Result<Order, OrderFault> {
     }
 }
 
-/// Whether a text is asked for.
+/// Reports whether a text is asked for.
 fn shows(request: Result<Request, OrderFault>) -> Result<bool, OrderFault> {
     match request {
         Ok(Request::Text(_)) => Ok(true),

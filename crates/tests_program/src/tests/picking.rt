@@ -1,4 +1,4 @@
-//! What a ray hits in a scene, which sensor that concerns, and where it lies for it.
+//! What a ray hits in a scene, which sensor the hit concerns, and where it is for that sensor.
 
 use super::{Row, all_hold};
 use pick_core::{BoxCache, Hit, local_point, pick, sensors_of};
@@ -8,10 +8,10 @@ use std::alloc::{AllocError, Global};
 use std::process::Abort;
 use x3d_values::{Fields, Ray, Value, Vec3};
 
-/// A scene, the path of the box that is hit, how far it is, and where that lies for the sensor.
+/// A scene, the path of the box that is hit, its distance, and the point of the hit for the sensor.
 struct Picked(&'static str, &'static [usize], u64, Vec3);
 
-/// From 10 0 20 along 0 0 -1.
+/// Returns the ray from 10 0 20 in direction 0 0 -1.
 fn ray() -> Ray {
     let origin = Vec3 {
         x: 10_000_000,
@@ -27,7 +27,7 @@ fn ray() -> Ray {
 }
 
 impl Picked {
-    /// Whether it is this hit, and concerns the sensor, which is node 0.
+    /// Reports whether this is the expected hit, and concerns the sensor, node 0.
     fn is_hit(&self, scene: &Scene, state: &[Fields], hit: &Hit) -> bool {
         if hit.m == 0 {
             return false;
@@ -39,7 +39,7 @@ impl Picked {
         path && way && sensors.as_slice() == [0].as_slice() && local == self.3
     }
 
-    /// The same, if something is hit.
+    /// Like `is_hit`, if something is hit.
     fn is_the_hit(&self, scene: &Scene, state: &[Fields], hit: Option<Hit>) -> bool {
         match hit {
             Some(hit) => self.is_hit(scene, state, &hit),
@@ -58,7 +58,7 @@ fn move_away(scene: &Scene, state: &mut [Fields]) {
     }
 }
 
-/// Boxes of another state, which are then brought to this one.
+/// Returns the boxes of another state, which are then renewed to this one.
 fn renewed(alloc: Global, scene: &Scene, state: &[Fields]) -> Option<BoxCache> {
     let Ok(mut other) = scene.state(alloc) else {
         return None;
@@ -74,7 +74,7 @@ fn renewed(alloc: Global, scene: &Scene, state: &[Fields]) -> Option<BoxCache> {
 }
 
 impl Picked {
-    /// Whether it is so by boxes that are kept.
+    /// Reports whether the expected hit is found in cached boxes.
     fn is_kept(&self, scene: &Scene, state: &[Fields], cache: Option<BoxCache>) -> bool {
         let Some(cache) = cache else {
             return false;
@@ -84,8 +84,8 @@ impl Picked {
         self.is_the_hit(scene, state, hit)
     }
 
-    /// Whether it is so by a walk through the scene, by its boxes that are kept, and by those of
-    /// another state that are brought to this one.
+    /// Reports whether the expected hit is found by a walk through the scene, in its cached boxes,
+    /// and in those of another state that are renewed to this one.
     fn is_picked(&self, alloc: Global, scene: &Scene, state: &[Fields]) -> bool {
         let walked = self.is_the_hit(scene, state, pick(scene, state, ray()));
         let cache = BoxCache::new(alloc, scene, state).ok();
@@ -135,7 +135,7 @@ children [ DEF S TouchSensor {} Shape { geometry Box {} } ] }",
         20,
         Vec3 { x: 0, y: 0, z: 0 },
     ),
-    // of two equal hits the first
+    // the first of two equal hits
     Picked(
         "#X3D V3.0 utf8
 DEF X Transform { translation 10 0 0 scale 2 2 2

@@ -1,16 +1,16 @@
-//! Large texts, by parts that stand there many times.
+//! Large texts, made of parts that are repeated.
 
 use std::alloc::{AllocError, Global};
 
-/// How often a part of a text stands there, and the part. The first time has number 1; `%` stands
-/// for the number, and `~` for the number before it.
+/// How often a part is repeated, and the part. Repetitions are numbered from 1; `%` becomes the
+/// number, and `~` the number before it.
 pub(super) struct Part(pub u32, pub &'static str);
 
 fn push_number(out: &mut Vec<u8>, number: u32) -> Result<(), AllocError> {
     out.extend_from_slice(itoa::Buffer::new().format(number).as_bytes())
 }
 
-/// A byte of a part, the time of this number.
+/// Appends a byte of a part, in the repetition of this number.
 fn push_byte(out: &mut Vec<u8>, number: u32, byte: u8) -> Result<(), AllocError> {
     match byte {
         b'%' => push_number(out, number),
@@ -35,7 +35,7 @@ fn push_parts(out: &mut Vec<u8>, parts: &[Part]) -> Result<(), AllocError> {
     Ok(())
 }
 
-/// The text of these parts.
+/// Returns the text of these parts.
 pub(super) fn made(alloc: Global, parts: &[Part]) -> Result<Vec<u8>, AllocError> {
     let mut out = Vec::new(alloc);
     push_parts(&mut out, parts)?;

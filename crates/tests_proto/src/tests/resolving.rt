@@ -6,10 +6,10 @@ use proto_resolver::resolve;
 use proto_tree::{BodyTree, FieldTree, GivenTree, ItemTree, NodeTree, TextTree, Word};
 use std::alloc::{AllocError, Global};
 
-/// A text, and marks of its tree: of each prototype its default values and its body in brackets,
-/// and then its statements. `N` is a node and `I` an instance, with its prototype's number, `?` an
-/// unknown word, `U` a USE; a field has `-` before a value that goes nowhere, `:` before an IS;
-/// `!` is a wrong declaration.
+/// A text, and the marks of its tree: for each prototype its default values and its body in
+/// brackets, then the statements. `N` is a node, `I` an instance with its prototype's number, `?`
+/// an unknown word, `U` a USE. A field has `-` before a value that goes nowhere and `:` before an
+/// IS. `!` is a wrong declaration.
 struct Marked(&'static str, &'static str);
 
 fn mark_word(marks: &mut String, word: Word) -> Result<(), AllocError> {

@@ -1,5 +1,5 @@
-//! The rounds of a host and two viewers over a cable: what they agree on is what `run` prints, and
-//! where a port fails they end at that call.
+//! The rounds of a host and two viewers over a cable. They agree on what `run` prints, and if a
+//! port fails they end at that call.
 
 ghost use Rattle.std.specs.Prelude.{◌≡◌, length};
 
@@ -12,11 +12,11 @@ use share_program::ShareFault;
 use std::alloc::{AllocError, Global};
 use std::process::Abort;
 
-/// Whether rounds printed what was wanted, or why they ended; after how many sends and receives,
+/// Whether rounds printed the expected text, or why they ended; the number of sends and receives;
 /// and how many of these failed.
 type Ending = (Result<bool, ShareFault>, u64, u64);
 
-/// Rounds over a cable where the call of that number fails; none for 0.
+/// Runs rounds over a cable whose call of number `fails_at` fails; 0 for none.
 fn rounds(alloc: Global, job: &mut JointJob, lossy: bool, fails_at: u64, wanted: &[u8]) -> Ending
     requires { length job.old.viewers.items ≡ 2 }
 {
@@ -35,7 +35,7 @@ fn rounds(alloc: Global, job: &mut JointJob, lossy: bool, fails_at: u64, wanted:
     (printed, calls, failed)
 }
 
-/// How the rounds of a job's bytes end; `None` where there is no job.
+/// Returns how the rounds of a job's bytes end, or `None` if there is no job.
 fn ending_of(
     alloc: Global,
     bytes: &[u8],
@@ -51,8 +51,8 @@ fn ending_of(
     Some(ending)
 }
 
-/// Whether they print that; where each of the calls that it takes fails in turn, end there; and
-/// print it again where a later one would fail, and over a lossy cable.
+/// Reports whether rounds print `wanted`; end at each call that fails; and print it again if a
+/// later call would fail, and over a lossy cable.
 fn agree(alloc: Global, bytes: &[u8], wanted: &[u8]) -> bool {
     let whole = ending_of(alloc, bytes, false, 0, wanted);
     let Some((Ok(true), calls, 0)) = whole else {
@@ -69,7 +69,7 @@ fn agree(alloc: Global, bytes: &[u8], wanted: &[u8]) -> bool {
     later == whole && matches!(lossy, Some((Ok(true), _, 0)))
 }
 
-/// A job, and the line that stands before what `run` prints of it.
+/// A job, and the line before what `run` prints of it.
 struct Agreed(&'static Job, &'static str);
 
 impl Row for Agreed {

@@ -8,23 +8,23 @@ use std::alloc::{AllocError, Global};
 use std::cell::RefCell;
 use std::collections::VecDeque;
 
-/// The address of the host; viewers 0 and 1 have the two behind it.
+/// The address of the host; viewers 0 and 1 have the next two.
 pub(super) const HOST: u16 = 0;
 
-/// What is on the way to each address. Where the cable is lossy, every fifth datagram is lost,
-/// every seventh comes twice, and every third overtakes the one that waits in front of it.
+/// The datagrams on the way to each address. On a lossy cable every fifth datagram is lost, every
+/// seventh is delivered twice, and every third overtakes the one before it.
 #[derive(Drop)]
 pub(super) struct Cable {
     lossy: bool,
     fails_at: u64,
-    /// How many sends and receives there were at all ends.
+    /// How many sends and receives there were, at all ends.
     pub(super) calls: u64,
     sent: u64,
     waiting: [VecDeque<Datagram>; 3],
 }
 
-/// A cable with nothing on its way. The call of that number, from 1 on, of those at all its ends
-/// fails; none for 0.
+/// Returns a cable without datagrams. Of the calls at all its ends, counted from 1, the call of
+/// number `fails_at` fails; 0 for none.
 pub(super) fn laid(alloc: Global, lossy: bool, fails_at: u64) -> RefCell<Cable> {
     RefCell::new(Cable {
         lossy,
@@ -40,13 +40,13 @@ pub(super) fn laid(alloc: Global, lossy: bool, fails_at: u64) -> RefCell<Cable> 
 }
 
 impl Cable {
-    /// Counts a call, and says whether it fails.
+    /// Counts a call, and reports whether it fails.
     fn fails(&mut self) -> bool {
         self.calls = self.calls.saturating_add(1);
         self.calls == self.fails_at
     }
 
-    /// What comes first to an address.
+    /// Takes the first datagram to an address.
     fn next(&mut self, to: u16) -> Result<Option<Datagram>, PortFault> {
         if self.fails() {
             return Err(PortFault);
@@ -57,7 +57,7 @@ impl Cable {
         }
     }
 
-    /// Sends to an address. A datagram for which there is no room is lost.
+    /// Sends to an address. A datagram is lost if memory is refused.
     fn post(&mut self, to: u16, from: u16, bytes: &[u8]) -> Result<(), PortFault>
         requires { length bytes.now ≤ 257 }
     {
@@ -82,7 +82,7 @@ fn datagram(from: u16, bytes: &[u8]) -> Datagram
     }
 }
 
-/// Brings the datagram of that number, as a lossy cable does.
+/// Delivers the datagram of this number, as a lossy cable does.
 fn bring(
     waiting: &mut VecDeque<Datagram>,
     number: u64,
@@ -105,7 +105,7 @@ fn bring(
     Ok(())
 }
 
-/// Copies a datagram's bytes to the front, and says who sent it and how many they are.
+/// Copies a datagram's bytes to the front, and returns its sender and its length.
 fn unpacked(datagram: &Datagram, into: &mut [u8; 257]) -> (u16, usize)
     ensures { result.1 ≤ 257 }
 {
@@ -114,7 +114,7 @@ fn unpacked(datagram: &Datagram, into: &mut [u8; 257]) -> (u16, usize)
     (datagram.peer, bytes.len())
 }
 
-/// An end of a cable. It tells none of its datagrams.
+/// An end of a cable. Its contract says nothing of its datagrams.
 #[derive(Drop)]
 pub(super) struct End<'a> {
     cable: &'a RefCell<Cable>,

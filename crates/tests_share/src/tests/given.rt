@@ -1,4 +1,4 @@
-//! Jobs of a host and two viewers, and what `run` prints of them.
+//! Jobs of a host and two viewers, and what `run` prints for them.
 
 use share_program::run_job;
 use share_words::Order;
@@ -11,8 +11,8 @@ pub(super) const ORDER: Order = Order::Agree {
     turns: 1_000_000,
 };
 
-/// A job of a scene: its steps in the order in which they come to be numbered, and how they are
-/// parted among a host and two viewers, by their addresses.
+/// A job of a scene: its steps in the order in which they are numbered, and the steps of the host
+/// and of each of two viewers, by address.
 pub(super) struct Job {
     pub(super) scene: &'static str,
     pub(super) steps: &'static str,
@@ -30,7 +30,7 @@ DEF T TimeSensor { cycleInterval 2 loop TRUE startTime 1 } DEF B BooleanTrigger 
 DEF G BooleanToggle {} ROUTE T.cycleTime TO B.set_triggerTime
 ROUTE B.triggerTrue TO G.set_boolean";
 
-/// A sensor on a box.
+/// A box with a sensor.
 const BOX: &str = "scene
 #X3D V3.0 utf8
 Transform { translation 10 0 0 scale 2 2 2
@@ -88,7 +88,7 @@ const AWAY: Vec3 = Vec3 {
     z: 1_000_000,
 };
 
-/// At the box, pressed there, and away from it.
+/// At the box, pressed at the box, and away from it.
 const POINTS: [Point; 3] = [
     Point {
         down: false,
@@ -145,7 +145,7 @@ point 1 0 10 0 20 0 0 1
     inputs: 6,
 };
 
-/// Steps, and then a line `scene` and a scene.
+/// Returns steps, followed by a line `scene` and a scene.
 pub(super) fn joined(alloc: Global, steps: &str, scene: &str) -> Result<Vec<u8>, AllocError> {
     let mut bytes = Vec::new(alloc);
     bytes.extend_from_slice(steps.as_bytes())?;
@@ -153,7 +153,7 @@ pub(super) fn joined(alloc: Global, steps: &str, scene: &str) -> Result<Vec<u8>,
     Ok(bytes)
 }
 
-/// A line, and what `run` prints of a job's bytes, unless it refuses them.
+/// Returns a line, and what `run` prints for a job's bytes unless it refuses them.
 pub(super) fn run_of(alloc: Global, line: &str, job: &[u8]) -> Result<Vec<u8>, AllocError> {
     let mut reader = job;
     let mut out = Vec::new(alloc);

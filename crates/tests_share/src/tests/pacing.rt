@@ -1,4 +1,4 @@
-//! When a viewer's asks and offers are sent, by a clock that stands still until it is set.
+//! When a viewer's asks and offers are sent, by a clock that only moves when it is set.
 
 use share_commands::{ExactPort, Pace, PatientPort};
 use share_port::{Bytes, Datagram, FakePort, Port, Traffic};
@@ -18,12 +18,12 @@ const HOST: u16 = 5000;
 fn an_ask_waits_for_the_answer_to_the_last(rt: HostRuntime) {
     let mut pace = Pace::new();
     assert!(rt; pace.left(0) == 0 && pace.asks(1, 100, 1_000));
-    // A round trip counts as 50 milliseconds until one is measured; an answer has twice that.
+    // A round trip counts as 50 milliseconds until one is measured. An answer has twice that time.
     assert!(rt; pace.left(200) == 99_900 && !pace.asks(2, 200, 1_000));
     pace.comes(300);
     pace.is_answered();
     assert!(rt; pace.left(300) == 0);
-    // The same ask only behind its pause, another at once.
+    // The same ask is sent only after its pause, another at once.
     assert!(rt; !pace.asks(1, 1_099, 1_000) && pace.asks(2, 1_099, 1_000));
     pace.is_answered();
     assert!(rt; pace.asks(2, 2_099, 1_000));
@@ -35,10 +35,10 @@ fn an_ask_without_an_answer_is_sent_again_and_given_twice_the_time(rt: HostRunti
     assert!(rt; pace.asks(1, 0, 50_000) && !pace.asks(1, 99_999, 50_000));
     assert!(rt; pace.asks(1, 100_000, 50_000) && !pace.asks(1, 299_999, 50_000));
     assert!(rt; pace.asks(1, 300_000, 50_000) && pace.left(300_000) == 400_000);
-    // What comes is a sign of life.
+    // Whatever comes is a sign of life.
     pace.comes(500_000);
     assert!(rt; pace.left(500_000) == 100_000);
-    // Whatever comes, an ask is sent again behind a second.
+    // Whatever comes, an ask is sent again after a second.
     pace.comes(1_299_999);
     assert!(rt; pace.left(1_299_999) == 1 && pace.left(1_300_000) == 0);
 }
@@ -54,13 +54,13 @@ fn the_first_input_that_was_asked_for_measures_the_round_trip(rt: HostRuntime) {
     pace.comes(130_000);
     assert!(rt; pace.left(130_000) == 112_500);
     pace.is_answered();
-    // An ask that is answered the first time tells the round trip; 4 milliseconds are the least.
+    // An ask that is answered the first time gives the round trip; 4 milliseconds are the least.
     assert!(rt; pace.asks(65, 200_000, 0));
     pace.measures(65, 200_500);
     pace.comes(200_500);
     assert!(rt; pace.left(200_500) == 4_000);
     pace.is_answered();
-    // An ask that was answered and is sent again begins anew.
+    // An ask that was answered and is sent again starts a new measure.
     assert!(rt; pace.asks(66, 300_000, 0));
     pace.is_answered();
     assert!(rt; pace.asks(66, 900_000, 0));
@@ -102,7 +102,7 @@ fn packet(body: Body) -> Packet {
     encode(&Message { mark: MARK, body })
 }
 
-/// Whether a port told that so many datagrams were sent.
+/// Reports whether a port recorded `count` sent datagrams.
 fn has_sent(port: &FakePort, count: usize) -> bool {
     let sent = port.traffic().iter();
     sent.filter(|traffic| matches!(traffic, Traffic::Sent(_)))

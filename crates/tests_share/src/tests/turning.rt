@@ -1,5 +1,5 @@
-//! A host and two viewers that take turns, one of them perhaps by its command: each viewer comes to
-//! what `run` prints.
+//! A host and two viewers that take turns, possibly one of them by its command. Each viewer ends
+//! with what `run` prints.
 
 ghost use Rattle.std.specs.Prelude.{◌≤◌};
 
@@ -15,7 +15,7 @@ use std::alloc::{AllocError, Global};
 use std::cell::RefCell;
 use std::process::Abort;
 
-/// More turns than it takes.
+/// More turns than are needed.
 const TURNS: u32 = 100;
 
 /// All inputs are kept, and all turns are taken.
@@ -24,7 +24,7 @@ const ALL: HostPlan = HostPlan {
     until: None,
 };
 
-/// So many inputs, in so many turns.
+/// Returns a plan of `until` inputs in at most `turns` turns.
 fn plan(until: u32, turns: u32) -> ViewPlan {
     ViewPlan {
         until,
@@ -34,19 +34,19 @@ fn plan(until: u32, turns: u32) -> ViewPlan {
     }
 }
 
-/// The addresses of the viewers, and one of no node.
+/// The addresses of the viewers, and one without a node.
 const FIRST: u16 = HOST + 1;
 
 const SECOND: u16 = HOST + 2;
 
 const NOBODY: u16 = HOST + 3;
 
-/// What is left of these after so many turns.
+/// Returns the rest of the items after `turns` turns.
 fn after<T>(items: &[T], turns: usize) -> &[T] {
     items.split_at(turns.min(items.len())).1
 }
 
-/// A host and the viewers of a job, at the ends of a cable, and what viewers print.
+/// A host and the viewers of a job at the ends of a cable, and what the viewers print.
 #[derive(Drop)]
 struct Nodes<'a> {
     alloc: Global,
@@ -59,14 +59,14 @@ struct Nodes<'a> {
 }
 
 impl<'a> Nodes<'a> {
-    /// The next turn of the host.
+    /// Takes the next turn of the host.
     fn host_on(&mut self) {
         let clocks = after(self.job.clocks, self.turn);
         let mut port = End::new(self.cable, HOST);
         let _ended = host_run(&mut self.host, clocks, &ALL, 1, &mut port);
     }
 
-    /// The next turn of a viewer, unless it came to its end.
+    /// Takes the next turn of a viewer, unless the viewer has ended.
     fn view_on(&mut self, who: u8) {
         let Some(points) = self.job.points.get(usize::from(who)) else {
             return;
@@ -84,8 +84,8 @@ impl<'a> Nodes<'a> {
         }
     }
 
-    /// The next turn of each that isn't at this address. What ends a turn early shows in what is
-    /// printed.
+    /// Takes the next turn of each node except the one at this address. If a turn ends early, the
+    /// printed text shows that.
     fn take_turns(&mut self, away: u16) {
         if away != HOST {
             self.host_on();
@@ -99,7 +99,7 @@ impl<'a> Nodes<'a> {
     }
 }
 
-/// The end of one node, before whose receives the others take a turn.
+/// The end of one node. Before each of its receives the others take a turn.
 #[derive(Drop)]
 struct Between<'a> {
     address: u16,
@@ -124,7 +124,7 @@ impl<'a> Port for Between<'a> {
     }
 }
 
-/// Whether the host comes to its end by its command, with a job's bytes.
+/// Reports whether the host completes its command, with a job's bytes.
 fn hosts(alloc: Global, bytes: &[u8], port: &mut Between<'_>) -> bool {
     let order = Order::Host(HostOrder {
         port: HOST,
@@ -143,7 +143,7 @@ fn hosts(alloc: Global, bytes: &[u8], port: &mut Between<'_>) -> bool {
     answer == Ok(())
 }
 
-/// Whether a viewer comes to its end by its command, with a job's bytes.
+/// Reports whether a viewer completes its command, with a job's bytes.
 fn views(alloc: Global, bytes: &[u8], who: u8, port: &mut Between<'_>) -> bool
     requires { who ≤ 63 }
 {
@@ -174,12 +174,12 @@ fn views(alloc: Global, bytes: &[u8], who: u8, port: &mut Between<'_>) -> bool
     }
 }
 
-/// The nodes of a job over a cable that is lossy or not, and the address of the one that does its
-/// work by its command, which begins when the others have taken so many turns.
+/// The nodes of a job, over a cable that is lossy or not, and the address of the node that runs by
+/// its command. That node begins after the others have taken this many turns.
 struct Turns(&'static Job, bool, u16, u32);
 
 impl Turns {
-    /// Whether that node comes to its end, if there is one.
+    /// Reports whether that node completes its command, if there is one.
     fn ends(&self, alloc: Global, port: &mut Between<'_>) -> bool {
         let Some(steps) = self.0.parts.get(usize::from(self.2)) else {
             return true;
@@ -194,7 +194,7 @@ impl Turns {
         }
     }
 
-    /// The same, while the others begin before it and go on behind it.
+    /// Like `ends`, while the others begin before that node and go on after it.
     fn ends_between(&self, alloc: Global, port: &mut Between<'_>) -> bool {
         for _turn in 0..self.3 {
             port.others.take_turns(self.2);
@@ -206,7 +206,7 @@ impl Turns {
         ended
     }
 
-    /// Whether both viewers print that.
+    /// Reports whether both viewers print `wanted`.
     fn print(&self, alloc: Global, cable: &RefCell<Cable>, bytes: &[u8], wanted: &[u8]) -> bool {
         let Ok(joint) = joint_job(alloc, bytes, &ORDER, 2) else {
             return false;

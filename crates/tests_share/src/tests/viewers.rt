@@ -1,5 +1,5 @@
-//! A host and viewers by themselves: damaged datagrams and snapshots, growths that are refused, and
-//! a port that fails.
+//! A host and viewers alone: damaged datagrams and snapshots, growths that are refused, and a port
+//! that fails.
 
 mod damaged;
 mod drags;

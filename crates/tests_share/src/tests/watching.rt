@@ -1,4 +1,4 @@
-//! What a host and a viewer tell of what they see, and how much passed.
+//! What a host and a viewer report of what they see, and how much passed.
 
 ghost use Rattle.std.specs.Prelude.{IsTrue};
 ghost use Rattle.share_wire.specs.Messages.{is_ordinal};
@@ -16,7 +16,7 @@ fn packet(mark: [u8; 32], body: Body) -> Packet {
     encode(&Message { mark, body })
 }
 
-/// The first offer of viewer 0 in a boot.
+/// Returns the first offer of viewer 0 in a boot.
 fn offer(boot: u32) -> Body
     requires { IsTrue (is_ordinal boot) }
 {
@@ -24,7 +24,7 @@ fn offer(boot: u32) -> Body
     Body::Offer(Offer::new(boot, 1, Pointer::new(0, true, ray)))
 }
 
-/// A host of two viewers: each datagram with what it tells of it.
+/// A host of two viewers: each datagram with what the host reports of it.
 #[test]
 fn a_host_tells_who_comes_and_what_it_drops_once(rt: HostRuntime) {
     let mut watch = Watch::new(MARK, Node::Host(2));

@@ -1,5 +1,5 @@
-//! The jobs and the snapshots of cases/snapshots, a file for each. `scripts/snapshots --write`
-//! wrote them, and this file.
+//! The jobs and the snapshots of cases/snapshots, a file for each. They and this file are written
+//! by `scripts/snapshots --write`.
 
 mod clocked;
 mod dragging;
@@ -13,8 +13,8 @@ pub(crate) use empty::EMPTY;
 pub(crate) use everything::EVERYTHING;
 pub(crate) use opening::OPENING;
 
-/// A job, how many inputs it has, and the snapshots of the world that it ends with, of boot 1: of
-/// version 1, where there is one, and of version 2.
+/// A job, the number of its inputs, and the snapshots of its last world, of boot 1: in version 1,
+/// if there is one, and in version 2.
 pub(crate) struct Stored {
     pub(crate) job: &'static str,
     pub(crate) applied: u32,

@@ -1,4 +1,4 @@
-//! Datagrams that are cut off, or have a flipped bit.
+//! Datagrams that are cut short, or have a flipped bit.
 
 use super::super::{Row, all_hold};
 use super::{Of, bytes_of, with};
@@ -6,7 +6,7 @@ use share_wire::{Message, Packet, WireFault, decode, encode};
 use std::alloc::Global;
 use std::process::Abort;
 
-/// Whether the bytes are refused as no packet.
+/// Reports whether the bytes are refused with `BadPacket`.
 fn is_no_packet(bytes: &[u8]) -> bool {
     match decode(bytes) {
         Ok(_) => false,
@@ -14,7 +14,7 @@ fn is_no_packet(bytes: &[u8]) -> bool {
     }
 }
 
-/// Whether no front of a datagram is one.
+/// Reports whether every proper prefix of a datagram is refused.
 fn fronts_are_refused(datagram: &[u8]) -> bool {
     for len in 0..datagram.len() {
         if !is_no_packet(&datagram[..len]) {
@@ -24,8 +24,8 @@ fn fronts_are_refused(datagram: &[u8]) -> bool {
     true
 }
 
-/// Whether bytes with a bit flipped at that place are refused, or are another message's datagram.
-/// In the head the fault is known.
+/// Reports whether bytes with a bit flipped at this place are refused, or are another message's
+/// datagram. In the head the fault is known.
 fn is_other(changed: &Packet, at: usize, message: &Message) -> bool {
     match decode(changed.as_slice()) {
         Ok(other) => at >= 6 && other != *message && encode(&other) == *changed,
@@ -44,7 +44,7 @@ fn is_other(changed: &Packet, at: usize, message: &Message) -> bool {
     }
 }
 
-/// Whether it is so of each bit of that byte.
+/// Reports whether `is_other` holds for each bit of this byte.
 fn bits_are_told(datagram: &[u8], at: usize, message: &Message) -> bool {
     for bits in [1, 2, 4, 8, 16, 32, 64, 128] {
         let byte = datagram.get(at).copied().unwrap_or(0);
@@ -55,7 +55,7 @@ fn bits_are_told(datagram: &[u8], at: usize, message: &Message) -> bool {
     true
 }
 
-/// A datagram is damaged: cut off behind each byte, or with each bit flipped.
+/// A datagram that is cut short after each byte, or has each bit flipped.
 struct Damaged(Of);
 
 impl Row for Damaged {

@@ -1,4 +1,4 @@
-//! Which fault of a datagram is told first, and their sentences.
+//! Which fault of a datagram is reported first, and the messages of faults.
 
 use super::super::{Row, Said, all_hold};
 use super::{Of, bytes_of, with};
@@ -26,10 +26,10 @@ const TOO_FAR_BACK: &[u8] = b"\xff\xfc\x72\x81\x5b\x39\x7f\xff";
 
 const NO_DIRECTION: &[u8] = &[0; 24];
 
-/// A datagram, other bytes and their place in it, and the fault, if that makes it one.
+/// A datagram, other bytes and their place in it, and the fault that they cause, if any.
 struct Changed(Of, usize, &'static [u8], Option<WireFault>);
 
-/// Whether the bytes are a datagram, and are written again, or are refused for that.
+/// Reports whether the bytes are a datagram and are written again, or are refused with this fault.
 fn is_told(changed: &Packet, fault: Option<WireFault>) -> bool {
     match decode(changed.as_slice()) {
         Ok(message) => fault.is_none() && encode(&message) == *changed,

@@ -6,7 +6,7 @@ use std::alloc::AllocError;
 use std::cell::Cell;
 use x3d_values::Kind;
 
-/// How often each call was made of a box, and how often it was dropped.
+/// How often each call of a box was made, and how often the box was dropped.
 #[derive(Clone, Copy, PartialEq, Eq)]
 pub(super) struct Calls {
     pub(super) initialize: u32,
@@ -61,10 +61,10 @@ fn tell(count: &Count, call: Call) {
     count.set(calls);
 }
 
-/// A counter from 5 by steps of 2 that counts its calls.
+/// A counter from 5 in steps of 2 that counts its calls.
 pub(super) struct Counted<'a> {
     script: StockScript,
-    /// Whether it answers that memory was refused where it is restored.
+    /// Whether the box answers that memory was refused when it is restored.
     refuses: bool,
     count: &'a Count,
 }

@@ -1,4 +1,4 @@
-//! What is attached, and what becomes of boxes that are refused.
+//! What is attached, and what happens to boxes that are refused.
 
 use super::probe::{Log, Made, boxes_made};
 use super::worlds::COUNTERS;
@@ -11,14 +11,14 @@ use std::process::Abort;
 use tests_memory::{Outcome, Spared, UsedUp, is_refused_until_enough};
 use x3d_values::{Kind, ScriptSpec};
 
-/// A script of a kind, whether its interface is that of the kind, and how it starts.
+/// The kind of a script, whether its interface fits the kind, and its start.
 #[derive(Clone, Copy)]
 struct Asked(Option<Kind>, bool, &'static [i64]);
 
-/// A counter at 5 that steps by 2.
+/// A counter at 5 in steps of 2.
 const COUNTER: Asked = Asked(Some(Kind::Counter), true, &[5, 2]);
 
-/// Another step, another kind, an interface that doesn't fit, an unknown kind.
+/// Another step, another kind, an interface that doesn't fit, and an unknown kind.
 const OTHER_STEP: Asked = Asked(Some(Kind::Counter), true, &[5, 3]);
 
 const METER: Asked = Asked(Some(Kind::Meter), true, &[1, 2]);
@@ -29,7 +29,7 @@ const UNFIT: Asked = Asked(Some(Kind::Counter), false, &[]);
 
 const UNKNOWN: Asked = Asked(None, true, &[]);
 
-/// What the scripts ask for, or fewer where memory is refused.
+/// Returns the specs of the scripts, or fewer if memory is refused.
 fn specs_of(alloc: Global, asked: &[Asked]) -> Vec<ScriptSpec> {
     let mut specs = Vec::new(alloc);
     for script in asked {
@@ -46,22 +46,22 @@ fn specs_of(alloc: Global, asked: &[Asked]) -> Vec<ScriptSpec> {
     specs
 }
 
-/// As many scripts that ask for a counter at 5 that steps by 2, up to two.
+/// Returns `count` specs, up to two, of a counter at 5 in steps of 2.
 pub(super) fn counter_specs(alloc: Global, count: usize) -> Vec<ScriptSpec> {
     specs_of(alloc, [COUNTER, COUNTER].get(..count).unwrap_or(&[]))
 }
 
-/// Scripts of which one asks for a counter and one for a meter.
+/// Returns the specs of a counter and of a meter.
 pub(super) fn specs_of_kinds(alloc: Global) -> Vec<ScriptSpec> {
     specs_of(alloc, &[COUNTER, METER])
 }
 
 const TWO: [Made; 2] = [Made::Counter(5), Made::Counter(5)];
 
-/// Scripts, and the fault for which two counters are refused for them.
+/// Scripts, and the fault with which two counters are refused for them.
 struct Attached(&'static [Asked], AttachFault);
 
-/// Whether two counters are refused so for these scripts.
+/// Reports whether two counters are refused for these scripts with this fault.
 fn are_refused(alloc: Global, specs: &[ScriptSpec], log: &Log, fault: AttachFault) -> bool {
     let Ok(boxes) = boxes_made(alloc, &TWO, log) else {
         return false;
@@ -69,7 +69,7 @@ fn are_refused(alloc: Global, specs: &[ScriptSpec], log: &Log, fault: AttachFaul
     Scripts::attach(alloc, specs, boxes).err() == Some(fault)
 }
 
-/// None of the boxes is initialized, and both are dropped.
+/// Neither box is initialized, and both are dropped.
 impl Row for Attached {
     fn holds(&self, alloc: Global) -> bool {
         let specs = specs_of(alloc, self.0);
@@ -94,8 +94,8 @@ fn refused_boxes_are_dropped(rt: HostRuntime) {
     all_hold(&rt, rt.alloc(), &REFUSED);
 }
 
-/// Two counters are attached for these scripts. Whether it is refused or not they are dropped, with
-/// the scripts.
+/// Attaches two counters for these scripts. Refused or not, the counters are dropped, with the
+/// scripts.
 struct Attaching;
 
 impl Spared<Vec<ScriptSpec>> for Attaching {
@@ -111,7 +111,7 @@ impl Spared<Vec<ScriptSpec>> for Attaching {
     }
 }
 
-/// A state is looked at, and a list of scripts is made.
+/// A state is read, and a list of scripts is made.
 #[test]
 fn attaching_is_refused_until_there_is_enough(rt: HostRuntime) {
     let mut specs = counter_specs(rt.alloc(), 2);
@@ -120,7 +120,7 @@ fn attaching_is_refused_until_there_is_enough(rt: HostRuntime) {
     holds(&rt, refused);
 }
 
-/// A scene, the boxes that are given for its scripts, and why they are refused.
+/// A scene, the boxes that are passed for its scripts, and why they are refused.
 struct Faulty(&'static str, &'static [Made], AttachFault);
 
 fn fault_of(alloc: Global, scene: &Scene, made: &[Made], log: &Log) -> Option<RunFault> {
@@ -142,7 +142,7 @@ impl Row for Faulty {
     }
 }
 
-/// A counter of the scene is to start at 5.
+/// A counter of the scene starts at 5.
 static FAULTY: [Faulty; 3] = [
     Faulty(
         "#X3D V3.0 utf8

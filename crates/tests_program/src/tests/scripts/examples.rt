@@ -8,7 +8,8 @@ use script_host::{Behaviour, ReplaceFault, Scripts};
 use std::alloc::Global;
 use std::process::Abort;
 
-/// A counter at 5 that steps by 2 is replaced by a fresh one, and then by one of another kind.
+/// Reports whether a counter at 5 in steps of 2 is replaced by a fresh one, and not by a box of
+/// another kind.
 fn is_replaced<B: Behaviour>(scripts: &mut Scripts<B>, fresh: B, other: B) -> bool {
     let first = sends(scripts, 0, 7);
     let replaced = scripts.replace(0, fresh);

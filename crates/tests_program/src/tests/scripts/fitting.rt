@@ -1,5 +1,5 @@
-//! Which worlds fit a scene: that in which nothing has happened, and none that differs from it in
-//! what no snapshot can be of.
+//! Which worlds fit a scene: the world in which nothing has happened fits, and worlds with a change
+//! that no snapshot of the scene can have do not.
 
 use super::worlds::untold;
 use super::{Row, all_hold};
@@ -11,8 +11,8 @@ use share_program::{OpenedScene, open_scene};
 use std::alloc::Global;
 use x3d_values::{Items, Position, Value, Vec3};
 
-/// A node of each kind that keeps more than its fields, and one that declares fields: 0 to 3; then
-/// a PlaneSensor below a Group, which are 4 and 5, and one beside it, 6.
+/// A node of each kind that keeps more than its fields, and one that declares fields: 0 to 3. Then
+/// a PlaneSensor below a Group, 4 and 5, and one next to the Group, 6.
 const SCENE: &[u8] = b"#X3D V3.0 utf8
 DEF T TimeSensor { cycleInterval 2 } DEF S TouchSensor {} DEF I IntegerSequencer {}
 DEF A Script { inputOutput SFFloat level 1 inputOutput MFFloat levels [1] inputOnly SFBool mute }
@@ -29,42 +29,43 @@ enum Held {
     Numbers(i64),
 }
 
-/// What is kept of a node where viewers point.
+/// The pointing state of a node.
 #[derive(Clone, Copy)]
 enum Kept {
     Nothing,
     /// Of a TouchSensor: a pointer is over it; a viewer presses it.
     Over,
     Pressed,
-    /// Of a PlaneSensor: a pointer is over it; a viewer drags it, by this way down.
+    /// Of a PlaneSensor: a pointer is over it; a viewer drags it, along this path.
     OverPlane,
     Dragged(&'static [u32]),
 }
 
-/// How a world differs from that in which nothing has happened.
+/// How a world differs from the one in which nothing has happened.
 #[derive(Clone, Copy)]
 enum Change {
     Nothing,
-    /// So many inputs were applied.
+    /// This many inputs were applied.
     Applied(u32),
-    /// The last was at this time.
+    /// The last input was at this time.
     Last(i64),
-    /// A node holds this in the field of that name.
+    /// A node has this value in the field of this name.
     Field(u32, &'static str, Held),
-    /// A node has no value for its last field, or one more than it has fields.
+    /// A node has one value fewer than fields, or one more.
     Shorter(u32),
     Longer(u32),
-    /// A sequencer, or another node, sent its value of that number last.
+    /// A sequencer, or another node, last sent its value of this number.
     Position(u32, u32),
     /// A node runs a cycle.
     Runs(u32),
-    /// Of a node this is kept where viewers point.
+    /// A node has this pointing state.
     Pointing(u32, Kept),
-    /// There is nothing for the last node.
+    /// The list of fields, of sensors or of pointing states is empty.
     FewerFields,
     FewerSensors,
     FewerPointing,
-    /// An event was sent by a node's field of that name, by an input of that number at that time.
+    /// An event was sent from a node's field of this name, by the input of this number at this
+    /// time.
     Sent(u32, i64, u32, &'static str, Held),
 }
 
@@ -81,7 +82,7 @@ fn value_of(alloc: Global, held: Held) -> Option<Value> {
     }
 }
 
-/// The state of a scene with a change in the fields of a node.
+/// Returns the state of a scene with a change in the fields of a node.
 fn state_with(alloc: Global, scene: &Scene, node: u32, change: Change) -> Option<State> {
     let Ok(mut fields) = scene.state(alloc) else {
         return None;
@@ -132,7 +133,7 @@ fn plane_of(over: u64, drag: Option<Drag>) -> Option<PointingState> {
     }
 }
 
-/// Viewer 63 drags, as far as coordinates go.
+/// Returns a drag by viewer 63, with the largest coordinates.
 fn drag_along(way: &[u32]) -> Option<Drag> {
     let far = Vec3 {
         x: GREATEST,
@@ -157,7 +158,7 @@ fn kept_of(kept: Kept) -> Option<PointingState> {
     }
 }
 
-/// The number of the field of that name, or 0.
+/// Returns the number of the field of this name, or 0.
 fn number_of(scene: &Scene, node: u32, name: &str) -> u16 {
     match scene.field_named(node, name) {
         Some(row) => row.number,
@@ -165,7 +166,7 @@ fn number_of(scene: &Scene, node: u32, name: &str) -> u16 {
     }
 }
 
-/// The world in which nothing has happened, with a change.
+/// Returns the world in which nothing has happened, with a change.
 fn world_with(alloc: Global, scene: &Scene, change: Change) -> Option<WorldData> {
     let mut world = untold(alloc, scene)?;
     match change {
@@ -209,7 +210,7 @@ fn world_with(alloc: Global, scene: &Scene, change: Change) -> Option<WorldData>
     Some(world)
 }
 
-/// A change, and whether the world fits with it.
+/// A change, and whether the changed world fits.
 #[derive(Clone, Copy)]
 struct Changed(Change, bool);
 
@@ -243,7 +244,7 @@ const ROWS: [Changed; 60] = [
     Changed(Change::Last(LATEST), true),
     Changed(Change::Last(LATEST + 1), false),
     Changed(Change::Last(-1), false),
-    // Fields: a value of the field's type, in its range, where the field is an inputOutput one.
+    // Fields: a value of the field's type, in its range, if the field is inputOutput.
     Changed(Change::Field(3, "level", Held::Number(GREATEST)), true),
     Changed(Change::Field(3, "level", Held::Number(-GREATEST)), true),
     Changed(Change::Field(3, "level", Held::Number(GREATEST + 1)), false),
@@ -269,13 +270,13 @@ const ROWS: [Changed; 60] = [
     Changed(Change::Field(0, "isActive", Held::Truth(false)), false),
     Changed(Change::Shorter(1), false),
     Changed(Change::Longer(1), false),
-    // A sequencer's place, the cycle of a TimeSensor.
+    // The position of a sequencer, and the cycle of a TimeSensor.
     Changed(Change::Position(2, 4_294_967_294), true),
     Changed(Change::Position(2, 4_294_967_295), false),
     Changed(Change::Position(0, 0), false),
     Changed(Change::Runs(0), true),
     Changed(Change::Runs(1), false),
-    // Where viewers point: what a node of its type may keep.
+    // Pointing states: what a node of its type may keep.
     Changed(Change::Pointing(0, Kept::Nothing), true),
     Changed(Change::Pointing(0, Kept::Over), false),
     Changed(Change::Pointing(1, Kept::Over), true),
@@ -287,7 +288,7 @@ const ROWS: [Changed; 60] = [
     Changed(Change::Pointing(4, Kept::Nothing), false),
     Changed(Change::Pointing(4, Kept::Pressed), false),
     Changed(Change::Pointing(5, Kept::OverPlane), false),
-    // A drag's way down leads to a list with the sensor.
+    // The path of a drag leads to a list that holds the sensor.
     Changed(Change::Pointing(4, Kept::Dragged(&[4])), true),
     Changed(Change::Pointing(4, Kept::Dragged(&[])), false),
     Changed(Change::Pointing(4, Kept::Dragged(&[3])), false),
@@ -299,7 +300,7 @@ const ROWS: [Changed; 60] = [
     Changed(Change::FewerFields, false),
     Changed(Change::FewerSensors, false),
     Changed(Change::FewerPointing, false),
-    // The trace: events that can have left by an output.
+    // The trace: events that an output can have sent.
     Changed(Change::Sent(1, 1, 0, "isActive", Held::Truth(true)), true),
     Changed(Change::Sent(0, 0, 3, "levels", Held::Numbers(7)), true),
     Changed(

@@ -1,5 +1,5 @@
-//! Memory that is refused to a stage with scripts until there is enough, and to what makes its
-//! boxes: each box is shut down and dropped once.
+//! Memory that is refused, until there is enough, to a stage with scripts and to the functions that
+//! make its boxes. Each box is shut down and dropped once.
 
 use super::attaching::specs_of_kinds;
 use super::holds;
@@ -21,10 +21,10 @@ const MARK: [u8; 32] = [7; 32];
 
 const TWO: [Made; 2] = [Made::Counter(5), Made::Counter(5)];
 
-/// A stage with scripts is loaded, and dropped.
+/// Loads a stage with scripts, and drops it.
 struct Loading;
 
-/// Whether a stage of a scene is loaded, with boxes that were made for it.
+/// Loads a stage of a scene with boxes that were made for it.
 fn load(alloc: Global, boxes: Vec<Probe<'_>>, memory: &mut UsedUp) -> Outcome {
     let Ok(opened) = open_scene(alloc, COUNTERS.as_bytes()) else {
         drop(boxes);
@@ -42,7 +42,7 @@ fn load(alloc: Global, boxes: Vec<Probe<'_>>, memory: &mut UsedUp) -> Outcome {
     Outcome::of(fault.is_none(), fault == Some(LoadFault::Memory))
 }
 
-/// What was initialized is shut down, and all is dropped, once.
+/// Initialized boxes are shut down, and all boxes are dropped, once.
 impl Spared<()> for Loading {
     fn work(&self, alloc: Global, _subject: &mut (), memory: &mut UsedUp) -> Outcome {
         let log = Log::new();
@@ -66,7 +66,7 @@ fn loading_is_refused_until_there_is_enough(rt: HostRuntime) {
     );
 }
 
-/// Whether a stage says that memory was refused before, with so many inputs.
+/// Reports whether a stage says that memory was refused earlier, with `applied` inputs applied.
 fn is_spoiled<B: Behaviour>(alloc: Global, stage: &mut Stage<B>, applied: u32) -> bool {
     let mut out = Vec::new(alloc);
     let mut states = Vec::new(alloc);
@@ -80,7 +80,7 @@ fn is_spoiled<B: Behaviour>(alloc: Global, stage: &mut Stage<B>, applied: u32) -
     texts && same && stage.spoiled() && stage.applied() == applied && stage.world().is_none()
 }
 
-/// What takes memory of a stage.
+/// The calls of a stage that take memory.
 #[derive(Clone, Copy)]
 enum Call {
     Apply,
@@ -90,7 +90,7 @@ enum Call {
     Install,
 }
 
-/// A refused input spoils.
+/// Applies an input. The stage is spoiled if memory is refused.
 fn apply<B: Behaviour>(alloc: Global, stage: &mut Stage<B>, memory: &mut UsedUp) -> Outcome {
     let Some(input) = clock(1, 1) else {
         return Outcome::Wrong;
@@ -122,7 +122,7 @@ fn replace<'a>(stage: &mut Stage<Probe<'a>>, log: &'a Log, memory: &mut UsedUp) 
     Outcome::of(answer == Ok(()), refused)
 }
 
-/// The stage goes back to its own snapshot. Where it is refused it is spoiled.
+/// Restores the stage from its own snapshot. The stage is spoiled if memory is refused.
 fn restore<B: Behaviour>(alloc: Global, stage: &mut Stage<B>, memory: &mut UsedUp) -> Outcome {
     let mut shot = Vec::new(alloc);
     let saved = save(stage, &MARK, 1, &mut shot).is_ok();
@@ -134,7 +134,7 @@ fn restore<B: Behaviour>(alloc: Global, stage: &mut Stage<B>, memory: &mut UsedU
     Outcome::of(saved && fault.is_none(), refused)
 }
 
-/// The stage gets the world in which nothing has happened. Where it is refused it is spoiled.
+/// Installs the world in which nothing has happened. The stage is spoiled if memory is refused.
 fn install<B: Behaviour>(alloc: Global, stage: &mut Stage<B>, memory: &mut UsedUp) -> Outcome {
     let Some(world) = untold(alloc, stage.scene()) else {
         return Outcome::Wrong;
@@ -164,7 +164,7 @@ fn call_on<'a>(
     }
 }
 
-/// What was done with boxes in the end.
+/// Returns the expected log of the boxes at the end.
 fn digits(call: Call, outcome: Outcome) -> u64 {
     match (call, outcome) {
         (Call::Replace, Outcome::Done) => 12_58_46_79,
@@ -185,7 +185,7 @@ impl Spared<()> for Call {
     }
 }
 
-/// What is called, and in how many turns it is refused at least.
+/// The calls, and the least number of turns in which each is refused.
 static CALLS: [(Call, usize); 5] = [
     (Call::Apply, 20),
     (Call::States, 8),
@@ -202,7 +202,7 @@ fn calls_of_a_stage_are_refused_until_there_is_enough(rt: HostRuntime) {
     }
 }
 
-/// The scripts of a scene are listed.
+/// Lists the scripts of a scene.
 struct Listing;
 
 impl Spared<OpenedScene> for Listing {
@@ -224,7 +224,7 @@ fn a_list_of_scripts_is_refused_until_there_is_enough(rt: HostRuntime) {
     holds(&rt, refused);
 }
 
-/// Boxes are made for scripts.
+/// Makes boxes for scripts.
 struct Making;
 
 impl Spared<Vec<ScriptSpec>> for Making {

@@ -9,7 +9,7 @@ use std::process::Abort;
 use tests_memory::{Outcome, Spared, UsedUp, is_refused_until_enough};
 use x3d_values::Items;
 
-/// The scripts of two counters at 5, where the second box is this one.
+/// Returns the scripts of two counters at 5, of which the second has this box.
 fn two_scripts<'a>(
     alloc: Global,
     second: Made,
@@ -24,20 +24,20 @@ fn two_scripts<'a>(
     attached
 }
 
-/// What is done with the scripts, and what comes of it.
+/// What is done with the scripts, and the answer.
 #[derive(Clone, Copy)]
 enum Step {
-    /// The k-th one is initialized.
+    /// Script `k` is initialized.
     Initialize(usize),
-    /// The k-th one gets TRUE, and sends this count.
+    /// Script `k` gets TRUE, and sends this count.
     Tick(usize, i64),
-    /// A box 3 is put in the k-th place.
+    /// The box of script `k` is replaced by box 3.
     Replace(usize, Made, Result<(), ReplaceFault>),
-    /// Both get a count.
+    /// Both scripts are restored to these counts.
     Restore([i64; 2], Result<(), StateFault>),
-    /// Both have these counts.
+    /// Both scripts have these counts.
     Counts([i64; 2]),
-    /// That was done with boxes up to now.
+    /// The log of boxes up to now.
     Told(u64),
 }
 
@@ -45,7 +45,7 @@ fn initializes<B: Behaviour>(scripts: &mut Scripts<B>, k: usize) -> bool {
     k < scripts.len() && scripts.call_initialize(k).is_empty()
 }
 
-/// Whether the k-th script sends this count at TRUE.
+/// Reports whether script `k` sends this count at TRUE.
 pub(super) fn sends<B: Behaviour>(scripts: &mut Scripts<B>, k: usize, count: i64) -> bool {
     if k >= scripts.len() {
         return false;
@@ -57,7 +57,7 @@ pub(super) fn sends<B: Behaviour>(scripts: &mut Scripts<B>, k: usize, count: i64
     replies.as_slice() == [Reply::number(0, count)].as_slice()
 }
 
-/// Counts of counters that step by 2, or fewer where memory is refused.
+/// Returns the states of counters in steps of 2, or fewer if memory is refused.
 pub(super) fn states_of(alloc: Global, counts: &[i64]) -> Vec<Items<i64>> {
     let mut states = Vec::new(alloc);
     for count in counts {
@@ -80,7 +80,7 @@ fn restores<B: Behaviour>(
     answer == wanted
 }
 
-/// Whether there are two states that begin so.
+/// Reports whether there are two states that begin with these numbers.
 pub(super) fn begin(states: &[Items<i64>], wanted: [i64; 2]) -> bool {
     match states {
         [first, second] => { first.get(0) == Some(&wanted[0]) && second.get(0) == Some(&wanted[1]) }
@@ -121,8 +121,8 @@ fn does_all<'a>(
     true
 }
 
-/// The second box of two scripts, what is done with them, whether they are closed in the end, not
-/// dropped, and what was done with boxes then.
+/// The second box of two scripts, what is done with the scripts, whether they are closed in the end
+/// instead of dropped, and the log of boxes afterwards.
 struct Story(Made, &'static [Step], bool, u64);
 
 impl Row for Story {
@@ -144,7 +144,7 @@ impl Row for Story {
 const SECOND: Made = Made::Counter(5);
 
 static ENDS: [Story; 2] = [
-    // in the order of the places, not in that of the calls
+    // in the order of the places, not of the calls
     Story(
         SECOND,
         &[Step::Initialize(1), Step::Initialize(0)],
@@ -171,14 +171,14 @@ static REPLACEMENTS: [Story; 4] = [
         true,
         147_6_98,
     ),
-    // one that was not initialized is dropped alone
+    // a box that was not initialized is only dropped
     Story(
         SECOND,
         &[Step::Replace(0, Made::Counter(0), Ok(())), Step::Told(7)],
         false,
         7_98,
     ),
-    // the box that is refused is dropped, and the others stay
+    // the refused box is dropped, and the others stay
     Story(
         SECOND,
         &[
@@ -203,7 +203,8 @@ fn a_replaced_box_is_shut_down_and_dropped(rt: HostRuntime) {
     all_hold(&rt, rt.alloc(), &REPLACEMENTS);
 }
 
-/// No box is called otherwise. Where the second one is refused memory the first has its new state.
+/// No other call of a box is made. If the second box is refused memory, the first has its new
+/// state.
 static RESTORED: [Story; 2] = [
     Story(
         SECOND,
@@ -227,14 +228,14 @@ fn scripts_are_restored(rt: HostRuntime) {
     all_hold(&rt, rt.alloc(), &RESTORED);
 }
 
-/// What takes memory.
+/// The calls that take memory.
 #[derive(Clone, Copy)]
 enum Call {
     States,
     Replace,
 }
 
-/// Two states are told, behind none.
+/// Appends two states to an empty list.
 fn tells<B: Behaviour>(alloc: Global, scripts: &Scripts<B>) -> Outcome {
     let mut states = Vec::new(alloc);
     let answer = scripts.states(&mut states);
@@ -248,7 +249,7 @@ fn replaces<'a>(scripts: &mut Scripts<Probe<'a>>, log: &'a Log) -> Outcome {
     Outcome::of(answer == Ok(()), answer == Err(ReplaceFault::Memory))
 }
 
-/// What was done with boxes in the end is as it is to be.
+/// The log of boxes at the end is as expected.
 impl Spared<()> for Call {
     fn work(&self, alloc: Global, _subject: &mut (), memory: &mut UsedUp) -> Outcome {
         let log = Log::new();
@@ -271,8 +272,8 @@ impl Spared<()> for Call {
     }
 }
 
-/// A replacement takes a block for the old state, and the states of two scripts one each and their
-/// list.
+/// A replacement takes a block for the old state. Reading the states of two scripts takes one block
+/// each, and their list.
 #[test]
 fn calls_are_refused_until_there_is_enough(rt: HostRuntime) {
     holds(

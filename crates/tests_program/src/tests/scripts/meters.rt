@@ -1,4 +1,4 @@
-//! Where a meter takes memory, and where not.
+//! Which calls of a meter take memory.
 
 use super::holds;
 use script_boxes::Meter;
@@ -9,13 +9,13 @@ use tests_memory::UsedUp;
 
 const READINGS: [i64; 8] = [1, 2, 3, 4, 5, 6, 7, 8];
 
-/// The mean that is sent at a ninth reading.
+/// Returns the mean that is sent at a ninth reading.
 fn mean(meter: &mut Meter) -> Option<i64> {
     let replies = meter.receive(0, [9, 0, 0]);
     replies.as_slice().first().map(|reply| reply.numbers[0])
 }
 
-/// Whether the state is told.
+/// Reports whether the state is returned.
 fn tells(alloc: Global, meter: &Meter) -> bool {
     let mut state = Vec::new(alloc);
     let told = meter.state(&mut state).is_ok();
@@ -23,8 +23,8 @@ fn tells(alloc: Global, meter: &Meter) -> bool {
     told
 }
 
-/// Whether it takes no memory to look at a state, to restore a meter and to receive a reading, but
-/// to tell the state and to make a meter.
+/// Reports whether checking a state, restoring a meter and receiving a reading take no memory, and
+/// returning the state and making a meter do.
 fn works(alloc: Global, meter: &mut Meter) -> bool {
     let Ok(used_up) = UsedUp::new(alloc) else {
         return false;

@@ -1,4 +1,4 @@
-//! A box that counts and tells what is done with it.
+//! A box that counts and logs what is done with it.
 
 use script_boxes::{Batch, Counter, Gate, StockScript};
 use script_host::{Behaviour, Replies, StateFault};
@@ -9,8 +9,8 @@ use x3d_values::Kind;
 /// What was done with boxes.
 #[derive(Drop)]
 pub(super) struct Log {
-    /// As decimal digits, the newest last: 1 to 3 for a box that is initialized, 4 to 6 for one
-    /// that is shut down, 7 to 9 for one that is dropped.
+    /// Decimal digits, the newest last: 1 to 3 for a box that is initialized, 4 to 6 for one that
+    /// is shut down, 7 to 9 for one that is dropped.
     ends: Cell<u64>,
     received: Cell<u32>,
     processed: Cell<u32>,
@@ -19,7 +19,7 @@ pub(super) struct Log {
 }
 
 impl Log {
-    /// Nothing was done.
+    /// Returns an empty log.
     pub(super) fn new() -> Log {
         Log {
             ends: Cell::new(0),
@@ -30,13 +30,13 @@ impl Log {
         }
     }
 
-    /// Which boxes were initialized, shut down and dropped, as digits.
+    /// Returns which boxes were initialized, shut down and dropped, as digits.
     pub(super) fn get(&self) -> u64 {
         self.ends.get()
     }
 
-    /// How often boxes received an event, were told that a timestamp's events are processed, were
-    /// restored, and told their states.
+    /// Returns how often boxes received an event, settled after the events of a timestamp, were
+    /// restored, and returned their states.
     pub(super) fn calls(&self) -> [u32; 4] {
         [
             self.received.get(),
@@ -52,28 +52,28 @@ impl Log {
     }
 }
 
-/// One more call.
+/// Counts one more call.
 fn count(calls: &Cell<u32>) {
     calls.set(calls.get().saturating_add(1));
 }
 
-/// A script of the stock that counts its calls, and tells its name where it is initialized, 3 more
-/// where it is shut down, and 6 more where it is dropped.
+/// A script of the stock that counts its calls. It logs its name when it is initialized, its name
+/// plus 3 when it is shut down, and its name plus 6 when it is dropped.
 pub(super) struct Probe<'a> {
     script: StockScript,
     /// 1, 2 or 3.
     name: u64,
-    /// Whether it answers that memory was refused where it is restored.
+    /// Whether the box answers that memory was refused when it is restored.
     refuses: bool,
     log: &'a Log,
 }
 
-/// What a box is.
+/// The kind of a box.
 #[derive(Clone, Copy)]
 pub(super) enum Made {
-    /// A counter at this count that steps by 2.
+    /// A counter at this count in steps of 2.
     Counter(i32),
-    /// The same, which can't be restored.
+    /// Like `Counter`, but can't be restored.
     Refusing(i32),
     Gate,
     Batch,
@@ -99,7 +99,7 @@ impl<'a> Probe<'a> {
     }
 }
 
-/// Boxes 1, 2 and so on.
+/// Returns boxes 1, 2 and so on.
 pub(super) fn boxes_made<'a>(
     alloc: Global,
     made: &[Made],

@@ -1,4 +1,4 @@
-//! What a run does with the boxes that are handed to it.
+//! What a run does with the boxes that are passed to it.
 
 use super::super::texts::{Part, made};
 use super::probe::{Log, Made, boxes_made};
@@ -9,16 +9,14 @@ use share_program::{RunFault, read_job, run, run_job};
 use std::alloc::Global;
 use std::process::Abort;
 
-/// Two clocks by which both counters count.
+/// Two clocks that drive both counters.
 static JOB: [Part; 2] = [Part(1, "clock 1\nclock 3\nscene\n"), Part(1, COUNTERS)];
 
-/// Boxes for a job, why they are refused, and what was done with them: what they tell, and how
-/// often they were called for an event, for those of a timestamp, to be restored and for their
-/// states.
+/// Boxes for a job, why they are refused, their log, and how often they were called: for an event,
+/// after the events of a timestamp, to be restored, and for their states.
 struct Boxed(&'static [Made], Option<RunFault>, u64, [u32; 4]);
 
-/// Why a job of these bytes isn't run with these boxes; `None` in place of that where there is no
-/// job.
+/// Returns why a job of these bytes isn't run with these boxes, or `None` if there is no job.
 fn fault_of(
     alloc: Global,
     bytes: &[u8],
@@ -37,7 +35,8 @@ fn fault_of(
     Some(run(alloc, job, boxes, out).err())
 }
 
-/// Whether that is what the job prints with boxes of the stock, or nothing.
+/// Reports whether `out` is what the job prints with boxes of the stock, or nothing if it isn't
+/// run.
 fn is_printed(alloc: Global, bytes: &[u8], out: &[u8], is_run: bool) -> bool {
     if !is_run {
         return out.is_empty();
@@ -72,7 +71,7 @@ impl Row for Boxed {
     }
 }
 
-/// They are asked for their states as they are attached, and never set. Boxes that are refused are
+/// Boxes are asked for their states as they are attached, and never restored. Refused boxes are
 /// dropped, and not initialized.
 static BOXED: [Boxed; 3] = [
     Boxed(

@@ -10,30 +10,30 @@ use snapshot_core::{Saved, SnapFault, load_into, save};
 use std::alloc::Global;
 use std::process::Abort;
 
-/// What is done with a stage, and what comes of it.
+/// What is done with a stage, and the answer.
 #[derive(Clone, Copy)]
 enum Step {
-    /// The clock of that number, at so many seconds.
+    /// The clock of this number, at this many seconds.
     Clock(u32, u32),
-    /// The same, by which so many outputs send, so many routes are followed, and so many scripts
-    /// settle.
+    /// Like `Clock`, with the work of the input: how many outputs send, how many routes are
+    /// followed, and how many scripts settle.
     Work(u32, u32, usize, usize, usize),
-    /// A box 3 is put in the k-th place.
+    /// The box of script `k` is replaced by box 3.
     Replace(usize, Made, Result<(), PlaceFault>),
-    /// The stage goes back to its own snapshot, or why it doesn't.
+    /// The stage is restored from its own snapshot, or refuses that for this reason.
     GoBack(Option<SnapFault>),
-    /// The stage gets the world in which nothing has happened, with counters at these counts.
+    /// The world in which nothing has happened is installed, with counters at these counts.
     Install(&'static [i64], Result<(), StateFault>),
-    /// So many inputs were applied.
+    /// This many inputs were applied.
     Applied(u32),
-    /// The states of two scripts begin so.
+    /// The states of two scripts begin with these numbers.
     Counts([i64; 2]),
     /// The trace is this.
     Trace(&'static str),
-    /// That was done with boxes up to now.
+    /// The log of boxes up to now.
     Told(u64),
-    /// Boxes were called so often up to now: for an event, for those of a timestamp, to be restored
-    /// and for their states.
+    /// How often boxes were called up to now: for an event, after the events of a timestamp, to be
+    /// restored, and for their states.
     Called([u32; 4]),
 }
 
@@ -69,7 +69,7 @@ fn installs<B: Behaviour>(
     answer == wanted
 }
 
-/// Whether so many inputs were applied.
+/// Reports whether `count` inputs were applied.
 fn is_at<B: Behaviour>(stage: &Stage<B>, count: u32) -> bool {
     match stage.world() {
         Some(world) => world.applied == count && stage.applied() == count && !stage.spoiled(),
@@ -126,8 +126,8 @@ fn does_all<'a>(alloc: Global, stage: &mut Stage<Probe<'a>>, log: &'a Log, steps
     true
 }
 
-/// A scene and its boxes, what is done with the stage before it is closed, and what was done with
-/// boxes then.
+/// A scene and its boxes, what is done with the stage before it is closed, and the log of boxes
+/// afterwards.
 struct Story(&'static str, [Made; 2], &'static [Step], u64);
 
 impl Row for Story {
@@ -146,7 +146,7 @@ const TWO: [Made; 2] = [Made::Counter(5), Made::Counter(5)];
 
 static BOXES: [Story; 3] = [
     Story(COUNTERS, TWO, &[Step::Told(12)], 12_45_78),
-    // a box that is refused is dropped, and the others stay
+    // a refused box is dropped, and the others stay
     Story(
         COUNTERS,
         TWO,
@@ -157,7 +157,7 @@ static BOXES: [Story; 3] = [
         ],
         1299_45_78,
     ),
-    // so it is of a spoiled stage
+    // the same at a spoiled stage
     Story(
         COUNTERS,
         [Made::Counter(5), Made::Refusing(5)],
@@ -186,7 +186,8 @@ ROUTE T.cycleTime TO B3.set_triggerTime
 ROUTE B1.triggerTrue TO X.item ROUTE B2.triggerTrue TO X.item ROUTE B3.triggerTrue TO X.item
 ROUTE B1.triggerTrue TO Y.item ROUTE Y.any TO X.item";
 
-/// What Y sends comes to X when it has settled, and waits; nothing settles without an event.
+/// What Y sends reaches X after X has settled, and waits. A script without an event does not
+/// settle.
 static BATCHES: [Story; 1] = [Story(
     TRIGGERED,
     [Made::Batch, Made::Batch],
@@ -242,7 +243,7 @@ static SCRIPT_REPLACED: [Story; 1] = [Story(
         Step::Replace(0, Made::Gate, Err(PlaceFault::KindDiffers)),
         Step::Clock(3, 5),
         Step::Trace(REPLACED),
-        // the old box was asked for its state, and the new one put in it
+        // the old box was asked for its state, and the new one was restored to it
         Step::Called([6, 6, 1, 5]),
     ],
     12479_65_98,
@@ -253,10 +254,9 @@ fn script_replaced(rt: HostRuntime) {
     all_hold(&rt, rt.alloc(), &SCRIPT_REPLACED);
 }
 
-/// Boxes are called for what comes to them, each once, and never set: one that can't be restored
-/// shows by nothing. They are asked for their states when they are attached, when a snapshot is
-/// taken and when states are looked at; they are set where the stage goes back, and by a world that
-/// is put in.
+/// Boxes are called once for each event. They are asked for their states when they are attached,
+/// when a snapshot is taken and when states are read. They are restored only when the stage goes
+/// back and when a world is installed: until then a box that can't be restored makes no difference.
 static CALLED: [Story; 2] = [
     Story(
         COUNTERS,

@@ -1,4 +1,4 @@
-//! What a viewer does with its boxes, as it takes inputs, goes back and has a box replaced.
+//! What a viewer does with its boxes as it takes inputs, goes back and has a box replaced.
 
 use super::probe::{Log, Made, Probe};
 use super::worlds::{COUNTERS, clock, stage_of};
@@ -12,22 +12,22 @@ use std::process::Abort;
 
 const MARK: [u8; 32] = [7; 32];
 
-/// What is done with a viewer, and what comes of it.
+/// What is done with a viewer, and the answer.
 #[derive(Clone, Copy)]
 enum Step {
-    /// The clock of that number, at as many seconds, is applied.
+    /// The clock of this number, at as many seconds, is applied.
     Take(u32),
     Save,
-    /// The viewer goes back to what was saved, as this boot, after so many inputs.
+    /// The viewer rewinds to the saved snapshot, as this boot, with this many inputs applied.
     Rewind(u32, u32),
-    /// A box 3 is put in the k-th place.
+    /// The box of script `k` is replaced by box 3.
     Replace(usize, Made, Result<(), PlaceFault>),
     /// The trace is this.
     Trace(&'static str),
-    /// That was done with boxes up to now.
+    /// The log of boxes up to now.
     Told(u64),
-    /// Boxes were called so often up to now: for an event, for those of a timestamp, to be restored
-    /// and for their states.
+    /// How often boxes were called up to now: for an event, after the events of a timestamp, to be
+    /// restored, and for their states.
     Called([u32; 4]),
 }
 
@@ -84,8 +84,7 @@ fn does_all<'a>(
     held
 }
 
-/// What is done with a viewer of two counters before it is closed, and what was done with boxes
-/// then.
+/// What is done with a viewer of two counters before it is closed, and the log of boxes afterwards.
 struct Story(&'static [Step], u64);
 
 impl Row for Story {
@@ -122,8 +121,8 @@ const TRACE: &str = "1 1 T.isActive TRUE
 3 3 T.time 3
 ";
 
-/// Boxes are initialized once. What comes to them is told to them, again behind the new beginning,
-/// for which each is set once; and a box that is replaced hands its state on.
+/// Boxes are initialized once. They are called for their events, and again for the events after the
+/// rewind, for which each box is restored once. A replaced box passes its state on.
 static STORIES: [Story; 1] = [Story(
     &[
         Step::Told(12),

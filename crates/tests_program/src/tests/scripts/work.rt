@@ -1,4 +1,4 @@
-//! How much work an input is.
+//! How much work an input causes.
 
 use super::super::texts::{Part, made};
 use super::probe::Log;

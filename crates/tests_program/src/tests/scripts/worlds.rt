@@ -1,4 +1,4 @@
-//! Stages whose boxes tell what is done with them.
+//! Stages whose boxes log what is done with them.
 
 ghost use Rattle.std.specs.Prelude.{◌≡◌, IfOk};
 ghost use Rattle.cascade_core.specs.Apply.{opening};
@@ -13,7 +13,7 @@ use share_program::{OpenedScene, attach, open_scene};
 use std::alloc::Global;
 use x3d_values::{Cause, MAX_VIEWERS, Stamped, is_input_number, is_input_time};
 
-/// Two counters from 5 by steps of 2, which a clock drives each two seconds; and a box.
+/// Two counters from 5 in steps of 2, which a clock drives every two seconds, and a box.
 pub(super) const COUNTERS: &str = "#X3D V3.0 utf8
 DEF T TimeSensor { cycleInterval 2 loop TRUE startTime 1 } DEF B BooleanTrigger {}
 DEF C Script { url \"x3dshare:counter\" inputOnly SFBool tick field SFInt32 start 5
@@ -24,7 +24,7 @@ ROUTE T.cycleTime TO B.set_triggerTime
 ROUTE B.triggerTrue TO C.tick ROUTE B.triggerTrue TO D.tick
 Shape { geometry Box {} }";
 
-/// The stage of a scene with these boxes 1, 2 and so on, behind input 0.
+/// Returns the stage of a scene with these boxes as 1, 2 and so on, after input 0.
 pub(super) fn stage_of<'a>(
     alloc: Global,
     text: &[u8],
@@ -47,7 +47,7 @@ pub(super) fn stage_of<'a>(
     Stage::load(alloc, scene, routes, scripts)
 }
 
-/// The clock of that number at so many seconds.
+/// Returns the clock of this number at this many seconds.
 pub(super) fn clock(number: u32, seconds: u32) -> Option<Stamped> {
     let time = i64::from(seconds) * 1_000_000;
     if !is_input_number(number) {
@@ -59,7 +59,8 @@ pub(super) fn clock(number: u32, seconds: u32) -> Option<Stamped> {
     Some(Stamped::new(number, time, Cause::Clock))
 }
 
-/// What is kept of each node where viewers point, before any does; none where memory is refused.
+/// Returns the pointing state of each node before any viewer points, or `None` if memory is
+/// refused.
 fn pointing_of(alloc: Global, scene: &Scene) -> Option<Watched<PointingSlot>> {
     let Ok(count) = scene.count() else {
         return None;
@@ -81,7 +82,7 @@ fn pointing_of(alloc: Global, scene: &Scene) -> Option<Watched<PointingSlot>> {
     }
 }
 
-/// The world of a scene in which nothing has happened, and no node sent anything.
+/// Returns the world of a scene in which nothing has happened and no node sent anything.
 pub(super) fn untold(alloc: Global, scene: &Scene) -> Option<WorldData> {
     let Ok(fields) = scene.state(alloc) else {
         return None;

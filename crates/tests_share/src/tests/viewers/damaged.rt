@@ -1,4 +1,4 @@
-//! Damaged datagrams: what is refused of them leaves a host and a viewer as they were.
+//! Damaged datagrams. A refused one leaves a host and a viewer unchanged.
 
 use super::given::{CLOCKED, MARK, POINT, Trial, clock_packet, take_clock, try_on};
 use super::hosting::{ack_packet, offer_packet};
@@ -10,12 +10,13 @@ use share_wire::{Ack, Ask, Body, Message, Packet, decode, encode};
 use std::alloc::Global;
 use std::process::Abort;
 
-/// What shows of a node: three counts, and two packets that it sends.
+/// The visible state of a node: three counts, and two packets that it sends.
 type Shown = ([u32; 3], Option<Packet>, Option<Packet>);
 
 /// A host or a viewer.
 trait Node {
-    /// Whether it refuses these bytes, which are no datagram or one of another scene.
+    /// Reports whether the node refuses these bytes, which are not a datagram or are one of another
+    /// scene.
     fn refuses(&mut self, bytes: &[u8]) -> bool;
 
     fn shown(&self) -> Shown;
@@ -51,7 +52,8 @@ impl Node for Viewer<StockScript> {
     }
 }
 
-/// Whether a node refuses these bytes and is as it was; or they are a datagram of its scene.
+/// Reports whether a node refuses these bytes and is unchanged. A datagram of the node's scene
+/// counts as right.
 fn stays<N: Node>(node: &mut N, bytes: &[u8]) -> bool {
     if let Ok(message) = decode(bytes) {
         if message.mark == MARK {
@@ -62,7 +64,7 @@ fn stays<N: Node>(node: &mut N, bytes: &[u8]) -> bool {
     node.refuses(bytes) && node.shown() == before
 }
 
-/// The packet with this byte flipped by these bits.
+/// Returns the packet with these bits of one byte flipped.
 fn flipped(packet: &Packet, at: usize, bits: u8) -> Packet {
     let mut out = Packet::new();
     for (place, byte) in packet.as_slice().iter().enumerate() {
@@ -72,8 +74,8 @@ fn flipped(packet: &Packet, at: usize, bits: u8) -> Packet {
     out
 }
 
-/// Whether it is so of a packet that is cut off behind this many bytes, and with each bit of the
-/// next byte flipped.
+/// Reports whether `stays` holds of a packet that is cut short after this many bytes, and of the
+/// packet with each bit of the next byte flipped.
 fn stays_at<N: Node>(node: &mut N, packet: &Packet, at: usize) -> bool {
     for bits in [1, 2, 4, 8, 16, 32, 64, 128] {
         if !stays(node, flipped(packet, at, bits).as_slice()) {
@@ -87,7 +89,7 @@ fn stays_at<N: Node>(node: &mut N, packet: &Packet, at: usize) -> bool {
     stays(node, front.as_slice())
 }
 
-/// Whether a node stays so at each damage of a packet.
+/// Reports whether `stays` holds of each damage of a packet.
 fn refuses_damage<N: Node>(node: &mut N, packet: &Packet) -> bool {
     for at in 0..packet.len() {
         if !stays_at(node, packet, at) {
@@ -97,12 +99,12 @@ fn refuses_damage<N: Node>(node: &mut N, packet: &Packet) -> bool {
     true
 }
 
-/// The packet of a message of the scene.
+/// Returns the packet of a message of the scene.
 fn packet_of(body: Body) -> Packet {
     encode(&Message { mark: MARK, body })
 }
 
-/// Whether a node stays so at each damage of a packet of each kind.
+/// Reports whether `stays` holds of each damage of a packet of each kind.
 fn refuses_all<N: Node>(node: &mut N) -> bool {
     let Some(clock) = clock_packet(2) else {
         return false;
@@ -113,7 +115,7 @@ fn refuses_all<N: Node>(node: &mut N) -> bool {
         && refuses_damage(node, &packet_of(Body::Ack(Ack::new(0, 1, 1))))
 }
 
-/// There is no viewer 2. What was not damaged is taken behind all that.
+/// There is no viewer 2. An undamaged packet is taken afterwards.
 fn is_numbered(host: &mut Host) -> bool {
     let stranger = packet_of(Body::Ask(Ask::new(2, 1)));
     host.clock(1) == Ok(1)
@@ -130,7 +132,7 @@ fn damaged_datagrams_leave_a_host(rt: HostRuntime) {
     assert!(rt; numbered);
 }
 
-/// A viewer with an offer that waits.
+/// A viewer with a waiting offer.
 struct Damages;
 
 impl Trial for Damages {

@@ -12,20 +12,21 @@ use std::alloc::{AllocError, Global};
 use std::process::Abort;
 use x3d_values::{Cause, Pointer, Ray, Stamped, Vec3, is_input_number, is_input_time, is_viewer};
 
-/// A PlaneSensor of a box in the first of two groups; it is node 0.
+/// A PlaneSensor of a box in the first of two groups; the sensor is node 0.
 const DRAGGED: &str = "#X3D V3.0 utf8
 Group { children [ DEF D PlaneSensor {} Shape { geometry Box {} } ] } Group {}";
 
-/// A TouchSensor in its place.
+/// A TouchSensor instead of the PlaneSensor.
 const TOUCHED: &str = "#X3D V3.0 utf8
 Group { children [ DEF S TouchSensor {} Shape { geometry Box {} } ] } Group {}";
 
-/// A viewer, whether its button is down, and where its ray along 0 0 -1 begins, in halves along x
-/// and y.
+/// A viewer, whether its button is down, and where its ray in direction 0 0 -1 begins: x and y, in
+/// halves.
 struct Aim(u8, bool, i8, i8);
 
-/// Viewer 63 comes over the box, presses it at 0.5 0.5, and drags it to 2 1; then viewer 1 comes
-/// over the box with its button down. Behind these four viewer 63 drags to -1.5 0, and lets go.
+/// Viewer 63 moves over the box, presses it at 0.5 0.5, and drags it to 2 1. Then viewer 1 moves
+/// over the box with its button down. After these four, viewer 63 drags to -1.5 0, and releases the
+/// button.
 static AIMS: [Aim; 6] = [
     Aim(63, false, 0, 0),
     Aim(63, true, 1, 1),
@@ -35,7 +36,7 @@ static AIMS: [Aim; 6] = [
     Aim(63, false, -3, 0),
 ];
 
-/// So many of them are before the middle of the drag.
+/// How many of them are before the middle of the drag.
 const BEFORE: usize = 4;
 
 fn halves(count: i8) -> i64 {
@@ -63,7 +64,7 @@ impl Aim {
         Some(Ray::new(origin, dir))
     }
 
-    /// The input of that number, at as many microseconds.
+    /// Returns the input of this number, at as many microseconds.
     fn input(&self, number: u32) -> Option<Stamped> {
         let ray = self.ray()?;
         let time = i64::from(number);
@@ -86,7 +87,8 @@ impl Aim {
     }
 }
 
-/// Whether a viewer applies these as they come, as the inputs behind those that it has applied.
+/// Reports whether a viewer applies these aims one by one, as the inputs after those it has
+/// applied.
 fn applies(viewer: &mut Viewer<StockScript>, aims: &[Aim]) -> bool {
     for aim in aims {
         let number = viewer.applied().saturating_add(1);
@@ -100,12 +102,12 @@ fn applies(viewer: &mut Viewer<StockScript>, aims: &[Aim]) -> bool {
     true
 }
 
-/// Whether a viewer applies these, and its snapshot is then given.
+/// Reports whether a viewer applies these aims, and its snapshot is then written.
 fn snaps(viewer: &mut Viewer<StockScript>, aims: &[Aim], out: &mut Vec<u8>) -> bool {
     applies(viewer, aims) && viewer.snapshot(out).is_ok()
 }
 
-/// What is tried with a viewer in the middle of a drag, and with its snapshot.
+/// A trial with a viewer in the middle of a drag, and with its snapshot.
 struct Dragging<T>(T);
 
 impl<T: Trial> Trial for Dragging<T> {
@@ -123,8 +125,8 @@ fn a_snapshot_of_a_drag_has_385_bytes(rt: HostRuntime) {
     try_on(&rt, rt.alloc(), DRAGGED, 0, &Dragging(Size(385)));
 }
 
-/// Whether the viewer goes to the end of the drag, back to its middle, and to its end again, which
-/// leaves the same bytes, but for its boot.
+/// Reports whether the viewer goes to the end of the drag, back to its middle, and to its end
+/// again, with the same bytes both times except for its boot.
 fn goes_on(
     viewer: &mut Viewer<StockScript>,
     shot: &[u8],
@@ -139,7 +141,7 @@ fn goes_on(
         && out.as_slice() == again.as_slice()
 }
 
-/// It is so.
+/// Asserts `goes_on`.
 struct GoesOn;
 
 impl Trial for GoesOn {
@@ -160,27 +162,28 @@ fn a_drag_goes_on_from_a_snapshot(rt: HostRuntime) {
     try_on(&rt, rt.alloc(), DRAGGED, 0, &Dragging(GoesOn));
 }
 
-/// Of the snapshot in the middle of a drag.
+/// Alterations of the snapshot in the middle of a drag.
 static DRAGS: Dragging<Alterations> = Dragging(Alterations(&[
-    // another viewer drags; there is no viewer 64, and where none drags nothing of a drag is left
+    // another viewer drags; there is no viewer 64; and if no viewer drags, nothing of a drag is
+    // kept
     (123, 62, None),
     (123, 64, NOT_CANONICAL),
     (123, 255, NOT_CANONICAL),
     // viewer 63 is over the box as well, or its button is up
     (115, 128, None),
     (177, 0, None),
-    // it was pressed, or is translated, further out than coordinates go
+    // the press, or the translation, is further out than coordinates can be
     (124, 128, NOT_CANONICAL),
     (148, 128, NOT_CANONICAL),
-    // the way down has no position, two, or 65
+    // the path has no position, two, or 65
     (172, 0, NOT_CANONICAL),
     (172, 2, NOT_CANONICAL),
     (172, 65, NOT_CANONICAL),
-    // it leads to the other group, which holds no sensor, or nowhere
+    // the path leads to the other group, which has no sensor, or nowhere
     (176, 1, NOT_CANONICAL),
     (176, 2, NOT_CANONICAL),
     (173, 1, NOT_CANONICAL),
-    // it is of version 1, which has no PlaneSensor
+    // the snapshot is of version 1, which has no PlaneSensor
     (4, 1, NOT_CANONICAL),
 ]));
 
@@ -189,8 +192,8 @@ fn a_drag_that_no_world_has_is_refused(rt: HostRuntime) {
     try_on(&rt, rt.alloc(), DRAGGED, 0, &DRAGS);
 }
 
-/// Writes a snapshot before any input as version 1 would have it: of the set of viewers that begins
-/// at that byte, and of the buttons behind its presser, the last 16 bits.
+/// Writes a snapshot before any input as version 1 would have it: with only the last 16 bits of the
+/// set of viewers that begins at this byte, and of the set of buttons after its presser.
 fn write_old(shot: &[u8], over: usize, out: &mut Vec<u8>) -> Result<(), AllocError> {
     out.clear();
     for (at, byte) in shot
@@ -207,7 +210,8 @@ fn write_old(shot: &[u8], over: usize, out: &mut Vec<u8>) -> Result<(), AllocErr
     out.extend_from_slice(&digest)
 }
 
-/// Where a set of viewers begins, and what the snapshot of version 1 is refused as, if it is.
+/// Where a set of viewers begins, and the fault with which the snapshot of version 1 is refused, if
+/// any.
 struct Old(usize, Option<SnapFault>);
 
 impl Trial for Old {

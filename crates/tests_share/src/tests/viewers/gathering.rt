@@ -1,4 +1,4 @@
-//! What is gathered of a snapshot: pieces in any order, of several snapshots, with little memory.
+//! Gathering a snapshot: pieces in any order, of several snapshots, and with little memory.
 
 use share_core::piece_count;
 use share_gather::{Pieces, gather};
@@ -8,7 +8,7 @@ use std::alloc::Global;
 use std::process::Abort;
 use tests_memory::{Outcome, Spared, UsedUp, is_refused_until_enough};
 
-/// A snapshot of 392 bytes: three pieces.
+/// Returns the bytes of a snapshot of 392 bytes, which has three pieces.
 fn bytes_of(first: u8) -> [u8; 392] {
     let mut bytes = [0; 392];
     let mut next = first;
@@ -19,8 +19,8 @@ fn bytes_of(first: u8) -> [u8; 392] {
     bytes
 }
 
-/// The piece of this number of these bytes, if they have one, as a snapshot of this boot and behind
-/// so many inputs.
+/// Returns the piece of this number of these bytes, if they have one, as a snapshot of this boot
+/// with `applied` inputs applied.
 fn piece_of(boot: u32, applied: u32, bytes: &[u8], index: u32) -> Option<Body> {
     let size = u32::try_from(bytes.len()).ok()?;
     if !is_piece(boot, applied, size, index) {
@@ -31,7 +31,7 @@ fn piece_of(boot: u32, applied: u32, bytes: &[u8], index: u32) -> Option<Body> {
     Some(Body::Piece(Piece::new(boot, applied, size, index, piece)))
 }
 
-/// What is answered to that piece.
+/// Returns the answer to this piece.
 fn gathers(
     alloc: Global,
     held: &mut Option<Pieces>,
@@ -40,7 +40,7 @@ fn gathers(
     Some(gather(alloc, held, &piece?))
 }
 
-/// Whether these bytes are held, whole.
+/// Reports whether these bytes are held in whole.
 fn holds_all(held: &Option<Pieces>, bytes: &[u8]) -> bool {
     match held {
         Some(pieces) => pieces.whole() == Some(bytes),
@@ -48,7 +48,7 @@ fn holds_all(held: &Option<Pieces>, bytes: &[u8]) -> bool {
     }
 }
 
-/// The first piece of a snapshot comes while memory is short.
+/// The first piece of a snapshot arrives while memory is short.
 struct FirstPiece;
 
 impl Spared<Option<Pieces>> for FirstPiece {
@@ -72,7 +72,7 @@ fn a_first_piece_that_is_refused_memory_changes_nothing(rt: HostRuntime) {
     assert!(rt; refused);
 }
 
-/// Whether the pieces behind the first come while there is no memory at all.
+/// Reports whether the pieces after the first are taken while there is no memory at all.
 fn others_take_no_memory(alloc: Global) -> bool {
     let bytes = bytes_of(1);
     let mut held = None;
@@ -96,7 +96,7 @@ fn pieces_behind_the_first_take_no_memory(rt: HostRuntime) {
     assert!(rt; others_take_no_memory(rt.alloc()));
 }
 
-/// Whether a piece of another snapshot comes to nothing, between two that fit.
+/// Reports whether a piece of another snapshot is ignored between pieces that fit.
 fn is_other(alloc: Global, other: Option<Body>) -> bool {
     let bytes = bytes_of(1);
     let mut held = None;
@@ -111,7 +111,7 @@ fn is_other(alloc: Global, other: Option<Body>) -> bool {
         && holds_all(&held, &bytes)
 }
 
-/// Of another boot, number of inputs or length.
+/// The other snapshots have another boot, another number of inputs or another length.
 #[test]
 fn pieces_of_other_snapshots_are_not_kept(rt: HostRuntime) {
     let others = bytes_of(99);
@@ -124,7 +124,7 @@ fn pieces_of_other_snapshots_are_not_kept(rt: HostRuntime) {
     assert!(rt; boot && applied && size);
 }
 
-/// Whether what is no piece is refused, and what is held stays.
+/// Reports whether a message that is not a piece is refused, and the held pieces stay.
 fn is_no_piece(alloc: Global, body: Body) -> bool {
     let bytes = bytes_of(1);
     let mut held = None;
@@ -147,7 +147,7 @@ fn only_pieces_are_gathered(rt: HostRuntime) {
     assert!(rt; floor && ask);
 }
 
-/// 392 bytes that begin as a snapshot of boot 1 behind two inputs does.
+/// Returns 392 bytes that begin like a snapshot of boot 1 with two inputs applied.
 fn beginning() -> [u8; 392] {
     let mut bytes = [0; 392];
     bytes[..5].copy_from_slice(b"X3DW\x01");
@@ -156,7 +156,7 @@ fn beginning() -> [u8; 392] {
     bytes
 }
 
-/// 392 bytes are two pieces of 192 and one of 8; what doesn't begin as a snapshot has none.
+/// 392 bytes are two pieces of 192 and one of 8. Bytes that don't begin like a snapshot have none.
 #[test]
 fn a_snapshot_has_its_pieces(rt: HostRuntime) {
     let bytes = beginning();

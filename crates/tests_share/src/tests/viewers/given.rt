@@ -1,4 +1,4 @@
-//! What tests begin with: a viewer that has applied clocks, with its snapshot.
+//! What tests start from: a viewer that has applied clocks, with its snapshot.
 
 ghost use Rattle.std.specs.Prelude.{◌≡◌, IfOk};
 ghost use Rattle.cascade_core.specs.Apply.{opening};
@@ -31,14 +31,14 @@ DEF T TimeSensor { cycleInterval 2 loop TRUE startTime 1 } DEF B BooleanTrigger 
 DEF G BooleanToggle {} ROUTE T.cycleTime TO B.set_triggerTime
 ROUTE B.triggerTrue TO G.set_boolean";
 
-/// A counter from 5 by steps of 2, which a clock drives each two seconds.
+/// A counter from 5 in steps of 2, which a clock drives every two seconds.
 pub(super) const COUNTED: &str = "#X3D V3.0 utf8
 DEF T TimeSensor { cycleInterval 2 loop TRUE startTime 1 } DEF B BooleanTrigger {}
 DEF C Script { url \"x3dshare:counter\" inputOnly SFBool tick field SFInt32 start 5
 field SFInt32 step 2 outputOnly SFInt32 count }
 ROUTE T.cycleTime TO B.set_triggerTime ROUTE B.triggerTrue TO C.tick";
 
-/// Boxes of the stock for the scripts of a scene.
+/// Returns boxes of the stock for the scripts of a scene.
 fn stock_of(alloc: Global, scene: &Scene) -> Result<Scripts<StockScript>, RunFault>
     ensures fits { IfOk result (λ scripts. Fits (script_list scene.now) scripts) }
     ensures fresh { IfOk result (λ scripts. scripts ≡ scripts_in scene.now) }
@@ -48,7 +48,7 @@ fn stock_of(alloc: Global, scene: &Scene) -> Result<Scripts<StockScript>, RunFau
     attach(alloc, scene, boxes)
 }
 
-/// The stage of a scene after no input.
+/// Returns the stage of a scene before any input.
 fn stage_of(alloc: Global, opened: OpenedScene) -> Result<Stage<StockScript>, LoadFault>
     ensures { IfOk result (λ stage. stage.held ≡ Running (opening stage.scene stage.routes)) }
 {
@@ -59,7 +59,7 @@ fn stage_of(alloc: Global, opened: OpenedScene) -> Result<Stage<StockScript>, Lo
     Stage::load(alloc, opened.scene, opened.routes, scripts)
 }
 
-/// Viewer 0 of a scene, as its boot 1.
+/// Returns viewer 0 of a scene, as its boot 1.
 pub(super) fn viewer_of(alloc: Global, text: &str) -> Result<Viewer<StockScript>, LoadFault> {
     let Ok(opened) = open_scene(alloc, text.as_bytes()) else {
         return Err(LoadFault::Memory);
@@ -68,7 +68,7 @@ pub(super) fn viewer_of(alloc: Global, text: &str) -> Result<Viewer<StockScript>
     Ok(Viewer::start(stage, MARK, 0, 1))
 }
 
-/// The clock of that number, at as many seconds.
+/// Returns the clock of this number, at as many seconds.
 pub(super) fn clock_at(number: u32) -> Option<Stamped> {
     let time = i64::from(number) * 1_000_000;
     if !is_input_number(number) {
@@ -80,13 +80,13 @@ pub(super) fn clock_at(number: u32) -> Option<Stamped> {
     Some(Stamped::new(number, time, Cause::Clock))
 }
 
-/// The datagram of that clock.
+/// Returns the datagram of that clock.
 pub(super) fn clock_packet(number: u32) -> Option<Packet> {
     let body = Body::Input(clock_at(number)?);
     Some(encode(&Message { mark: MARK, body }))
 }
 
-/// A viewer takes the clock of that number.
+/// Gives a viewer the clock of this number.
 pub(super) fn take_clock(
     viewer: &mut Viewer<StockScript>,
     number: u32,
@@ -95,20 +95,20 @@ pub(super) fn take_clock(
     Some(viewer.take(packet.as_slice()))
 }
 
-/// The viewer goes back to this snapshot, as its next boot.
+/// Rewinds the viewer to this snapshot, as its next boot.
 pub(super) fn go_back(viewer: &mut Viewer<StockScript>, shot: &[u8]) -> Result<u32, SnapFault> {
     let boot = viewer.boot().saturating_add(1);
     viewer.rewind(shot, boot)
 }
 
-/// A viewer points from the origin along 0 0 1, with its button down.
+/// A viewer points from the origin in direction 0 0 1, with its button down.
 pub(super) const POINT: Point = Point {
     down: true,
     origin: Vec3 { x: 0, y: 0, z: 0 },
     dir: Vec3 { x: 0, y: 0, z: 1 },
 };
 
-/// Whether a viewer applies the clocks of the numbers from 1 on as they come.
+/// Reports whether a viewer applies the clocks of the numbers from 1 on as they arrive.
 fn applies_clocks(viewer: &mut Viewer<StockScript>, count: u32) -> bool {
     for number in 1..=count {
         if take_clock(viewer, number) != Some(Ok(Taken::Applied(1))) {
@@ -118,9 +118,9 @@ fn applies_clocks(viewer: &mut Viewer<StockScript>, count: u32) -> bool {
     true
 }
 
-/// What is tried with a viewer.
+/// A trial with a viewer.
 pub(super) trait Trial {
-    /// Whether it comes out as it says.
+    /// Reports whether the trial has the expected result.
     fn holds(&self, alloc: Global, viewer: &mut Viewer<StockScript>, shot: &[u8]) -> bool;
 }
 
@@ -136,8 +136,8 @@ fn is_tried<T: Trial>(
         && trial.holds(alloc, viewer, shot.as_slice())
 }
 
-/// Tries it with viewer 0 of a scene, which has applied so many clocks as its boot 1, and with its
-/// snapshot.
+/// Runs a trial with viewer 0 of a scene, which has applied `clocks` clocks as its boot 1, and with
+/// its snapshot.
 pub(super) fn try_on<T: Trial>(rt: &impl Abort, alloc: Global, text: &str, clocks: u32, trial: &T) {
     let Ok(mut viewer) = viewer_of(alloc, text) else {
         panic!(rt; "there is no viewer");

@@ -1,4 +1,4 @@
-//! The host by hand: as many inputs as there may be, and memory that is refused.
+//! The host by hand: with as many inputs as there can be, and with memory that is refused.
 
 use super::given::MARK;
 use share_core::Host;
@@ -10,7 +10,7 @@ use std::process::Abort;
 use tests_memory::{Outcome, Spared, UsedUp, is_refused_until_enough};
 use x3d_values::{MAX_INPUTS, Pointer, Ray, Vec3};
 
-/// Numbers clocks from one number to another, at as many microseconds.
+/// Numbers clocks from one number to another, each at as many microseconds.
 fn number_clocks(host: &mut Host, first: u32, last: u32) -> Result<(), NumberFault> {
     for number in first..=last {
         host.clock(i64::from(number))?;
@@ -29,7 +29,7 @@ fn a_world_has_2_to_the_20_inputs(rt: HostRuntime) {
     assert!(rt; more == Err(NumberFault::WorldFull));
 }
 
-/// The first offer of viewer 1, in its boot 1.
+/// Returns the first offer of viewer 1, in its boot 1.
 pub(super) fn offer_packet() -> Packet {
     let origin = Vec3 { x: 0, y: 0, z: 0 };
     let ray = Ray::new(origin, Vec3 { x: 0, y: 0, z: 1 });
@@ -37,12 +37,12 @@ pub(super) fn offer_packet() -> Packet {
     encode(&Message { mark: MARK, body })
 }
 
-/// A host without inputs, in place of this one.
+/// Replaces a host by one without inputs.
 pub(super) fn begin(alloc: Global, host: &mut Host) {
     drop(mem::replace(host, Host::new(alloc, MARK, 2)));
 }
 
-/// What a host is told of the offers of viewer 1, if it has one.
+/// Returns the ack for the offers of viewer 1, if the host has a viewer 1.
 pub(super) fn ack_packet(host: &Host) -> Option<Packet> {
     if host.viewers() < 2 {
         return None;
@@ -50,8 +50,8 @@ pub(super) fn ack_packet(host: &Host) -> Option<Packet> {
     Some(host.ack(1))
 }
 
-/// So many clocks are numbered, and then an offer, or else a clock. Where it is refused nothing is
-/// numbered, and the same is numbered when there is memory again.
+/// Numbers `before` clocks, and then an offer or another clock. If that is refused nothing is
+/// numbered, and the same is numbered once there is memory again.
 #[derive(Clone, Copy)]
 struct Numbering {
     before: u32,
@@ -87,7 +87,7 @@ impl Spared<Host> for Numbering {
     }
 }
 
-/// The first growth of the list has room for four.
+/// The first growth of the list makes room for four.
 static NUMBERINGS: [Numbering; 4] = [
     Numbering {
         before: 0,

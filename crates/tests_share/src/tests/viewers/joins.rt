@@ -1,5 +1,5 @@
-//! Memory that is refused to a viewer that gathers a snapshot and joins by it, until there is
-//! enough.
+//! Memory that is refused, until there is enough, to a viewer that gathers a snapshot and joins
+//! with it.
 
 use super::given::{COUNTED, MARK, POINT, Trial, go_back, try_on};
 use super::memory::is_unchanged;
@@ -10,7 +10,7 @@ use std::alloc::Global;
 use std::process::Abort;
 use tests_memory::{Outcome, Spared, UsedUp, is_refused_until_enough};
 
-/// What a viewer makes of that piece of a snapshot.
+/// Returns a viewer's answer to this piece of a snapshot.
 fn gathers(
     viewer: &mut Viewer<StockScript>,
     shot: &[u8],
@@ -20,7 +20,7 @@ fn gathers(
     Some(viewer.gather(packet.as_slice()))
 }
 
-/// Whether a viewer has all pieces of a snapshot then, and none is refused.
+/// Reports whether a viewer that gathers all pieces of a snapshot has it in whole at the last one.
 fn gathers_all(viewer: &mut Viewer<StockScript>, shot: &[u8]) -> bool {
     let Some(count) = piece_count(shot) else {
         return false;
@@ -32,8 +32,8 @@ fn gathers_all(viewer: &mut Viewer<StockScript>, shot: &[u8]) -> bool {
     is_whole
 }
 
-/// The first piece of this snapshot, which is the viewer's own. Where it is refused nothing is
-/// gathered, and the viewer is as it was.
+/// Gathers the first piece of this snapshot, which is the viewer's own. If that is refused nothing
+/// is gathered, and the viewer is unchanged.
 #[derive(Clone, Copy)]
 struct OnePiece<'a>(&'a [u8]);
 
@@ -56,8 +56,9 @@ impl<'a> Spared<Viewer<StockScript>> for OnePiece<'a> {
     }
 }
 
-/// A viewer with an offer that waits joins by this snapshot. Where it is refused its boot, its
-/// offer and what it gathered stand, and it joins by that once there is memory.
+/// A viewer with a waiting offer joins with this snapshot. If that is refused the viewer is
+/// spoiled, but keeps its boot, its offer and what it gathered, and joins with that once there is
+/// memory.
 #[derive(Clone, Copy)]
 struct Joins<'a>(&'a [u8]);
 
@@ -92,7 +93,7 @@ impl<'a> Spared<Viewer<StockScript>> for Joins<'a> {
     }
 }
 
-/// Both are refused so.
+/// Both are refused until there is enough.
 struct Late;
 
 impl Trial for Late {

@@ -1,5 +1,5 @@
-//! Memory that is refused to a viewer until there is enough: to its texts and its snapshot, to
-//! inputs, to a box, and as it begins again.
+//! Memory that is refused, until there is enough, to a viewer: to its texts and its snapshot, to
+//! inputs, to a box, and to a new beginning.
 
 use super::given::{CLOCKED, COUNTED, POINT, Trial, go_back, take_clock, try_on};
 use cascade_core::{PlaceFault, TextFault};
@@ -33,7 +33,7 @@ fn append(text: Text, viewer: &Viewer<StockScript>, out: &mut Vec<u8>) -> Outcom
     }
 }
 
-/// Where it is refused the buffer is as it was.
+/// If memory is refused the buffer is unchanged.
 impl Spared<Viewer<StockScript>> for Text {
     fn work(
         &self,
@@ -52,7 +52,7 @@ impl Spared<Viewer<StockScript>> for Text {
     }
 }
 
-/// All three are refused so.
+/// All three are refused until there is enough.
 struct Texts;
 
 impl Trial for Texts {
@@ -71,8 +71,8 @@ fn texts_are_refused_until_there_is_enough(rt: HostRuntime) {
     try_on(&rt, rt.alloc(), COUNTED, 3, &Texts);
 }
 
-/// Whether a viewer says that memory was refused before, at each call that says so, and has applied
-/// so many inputs.
+/// Reports whether a viewer says at each call that memory was refused earlier, and has `applied`
+/// inputs applied.
 fn is_spoiled(alloc: Global, viewer: &mut Viewer<StockScript>, applied: u32) -> bool {
     let mut out = Vec::new(alloc);
     let texts = viewer.scene_text(&mut out) == Err(TextFault::Spoiled)
@@ -90,8 +90,8 @@ fn is_spoiled(alloc: Global, viewer: &mut Viewer<StockScript>, applied: u32) -> 
         && viewer.spoiled()
 }
 
-/// Behind this snapshot, after so many inputs, a viewer takes the two next ones at once. Where it
-/// is refused it is spoiled, with the inputs that it had applied.
+/// From this snapshot, after this many inputs, a viewer applies the next two inputs at once. If
+/// memory is refused the viewer is spoiled, with the inputs that it had applied.
 #[derive(Clone, Copy)]
 struct Takes<'a>(&'a [u8], u32);
 
@@ -121,7 +121,7 @@ impl<'a> Spared<Viewer<StockScript>> for Takes<'a> {
     }
 }
 
-/// So many clocks are applied before, and memory is refused in so many turns at least.
+/// How many clocks are applied before, and the least number of turns in which memory is refused.
 struct Inputs(u32, usize);
 
 impl Trial for Inputs {
@@ -130,8 +130,7 @@ impl Trial for Inputs {
     }
 }
 
-/// Of a trace of 30 entries, of which there is room for 32, the second clock or the one before it
-/// needs more.
+/// The trace has 30 entries and room for 32. The second clock or the one before it needs more.
 #[test]
 fn a_refused_growth_spoils(rt: HostRuntime) {
     try_on(&rt, rt.alloc(), CLOCKED, 0, &Inputs(0, 10));
@@ -139,8 +138,8 @@ fn a_refused_growth_spoils(rt: HostRuntime) {
     try_on(&rt, rt.alloc(), COUNTED, 5, &Inputs(5, 5));
 }
 
-/// A viewer with an offer that waits begins again from this snapshot. Where it is refused its boot
-/// and its offer stand.
+/// A viewer with a waiting offer begins again from this snapshot. If that is refused the viewer
+/// keeps its boot and its offer.
 #[derive(Clone, Copy)]
 struct Rewinds<'a>(&'a [u8]);
 
@@ -179,7 +178,7 @@ fn a_new_beginning_is_refused_until_there_is_enough(rt: HostRuntime) {
     try_on(&rt, rt.alloc(), COUNTED, 3, &Beginnings);
 }
 
-/// Whether the viewer still has this snapshot.
+/// Reports whether the viewer still has this snapshot.
 pub(super) fn is_unchanged(alloc: Global, viewer: &Viewer<StockScript>, shot: &[u8]) -> bool {
     let mut out = Vec::new(alloc);
     let saved = viewer.snapshot(&mut out).is_ok();
@@ -188,7 +187,7 @@ pub(super) fn is_unchanged(alloc: Global, viewer: &Viewer<StockScript>, shot: &[
     saved && same
 }
 
-/// A box is replaced, and the world is as it was, with this snapshot, whatever the answer.
+/// A box is replaced. Whatever the answer, the world is unchanged, with this snapshot.
 #[derive(Clone, Copy)]
 struct Replaces<'a>(&'a [u8]);
 

@@ -15,8 +15,8 @@ const HOST: u16 = 5000;
 /// A point for each turn.
 const POINTS: [Point; 3] = [POINT; 3];
 
-/// Whether three turns end so over a port that fails at one call, or at none where that is too
-/// late; and fails so often, and tells of each call before.
+/// Reports whether three turns end with `fault` over a port that fails at call `call`, with
+/// `failures` failures. The port must have recorded each call before.
 fn ends(
     alloc: Global,
     viewer: &mut Viewer<StockScript>,
@@ -32,7 +32,7 @@ fn ends(
     answer == Err(fault) && failed == failures && told + 1 == call
 }
 
-/// A turn is a receive, an offer and an ask: the port fails at each of them in turn.
+/// A turn is a receive, an offer and an ask. The port fails at each of them in turn.
 struct Calls;
 
 impl Trial for Calls {

@@ -1,4 +1,4 @@
-//! Snapshots by their bytes: their sizes, and damaged ones, each of which is refused.
+//! Snapshots as bytes: their sizes, and damaged ones, each of which is refused.
 
 use super::given::{CLOCKED, COUNTED, EMPTY, Trial, try_on};
 use super::memory::is_unchanged;
@@ -9,7 +9,7 @@ use snapshot_core::scene_mark;
 use std::alloc::{AllocError, Global};
 use std::process::Abort;
 
-/// A snapshot has so many bytes.
+/// A snapshot has this many bytes.
 pub(super) struct Size(pub(super) usize);
 
 impl Trial for Size {
@@ -33,13 +33,13 @@ fn snapshot_sizes(rt: HostRuntime) {
     }
 }
 
-/// Why a viewer doesn't begin again from these bytes, as its next boot.
+/// Returns why a viewer can't begin again from these bytes, as its next boot.
 pub(super) fn fault_of(viewer: &mut Viewer<StockScript>, bytes: &[u8]) -> Option<SnapFault> {
     let boot = viewer.boot().saturating_add(1);
     viewer.rewind(bytes, boot).err()
 }
 
-/// What the flipping of a bit of that byte is refused as.
+/// Returns the fault of a snapshot in which a bit of byte `at` is flipped.
 fn flip_fault(at: usize) -> SnapFault {
     match at {
         0..=3 => SnapFault::BadMagic,
@@ -55,7 +55,7 @@ fn flip(bytes: &mut [u8], at: usize, bits: u8) {
     }
 }
 
-/// Whether each bit of one byte can't be flipped.
+/// Reports whether each flip of a bit of byte `at` is refused.
 fn refuses_byte(viewer: &mut Viewer<StockScript>, shot: &mut [u8], at: usize) -> bool {
     for bits in [1, 2, 4, 8, 16, 32, 64, 128] {
         flip(shot, at, bits);
@@ -68,7 +68,7 @@ fn refuses_byte(viewer: &mut Viewer<StockScript>, shot: &mut [u8], at: usize) ->
     true
 }
 
-/// Whether no bit can be flipped; it is then as it was, and begun from.
+/// Reports whether each flip of a bit is refused. The unchanged snapshot must then be taken.
 fn refuses_flips(viewer: &mut Viewer<StockScript>, shot: &mut [u8]) -> bool {
     for at in 0..shot.len() {
         if !refuses_byte(viewer, shot, at) {
@@ -78,7 +78,7 @@ fn refuses_flips(viewer: &mut Viewer<StockScript>, shot: &mut [u8]) -> bool {
     fault_of(viewer, shot) == None
 }
 
-/// Each bit of a snapshot is flipped.
+/// Flips each bit of a snapshot.
 struct Flips;
 
 impl Trial for Flips {
@@ -97,7 +97,7 @@ fn flipped_snapshot_bit(rt: HostRuntime) {
     try_on(&rt, rt.alloc(), CLOCKED, 0, &Flips);
 }
 
-/// A snapshot is cut off behind each byte: what is left is too short, or has another digest.
+/// Cuts a snapshot short after each byte. The rest is too short, or has another digest.
 struct Cuts;
 
 impl Trial for Cuts {
@@ -121,13 +121,15 @@ fn each_prefix_is_refused(rt: HostRuntime) {
     try_on(&rt, rt.alloc(), CLOCKED, 0, &Cuts);
 }
 
-/// How many bytes the digest has.
+/// The number of bytes of the digest.
 pub(super) const DIGEST: usize = 32;
 
-/// A byte of a snapshot, what stands there in place of it, and what that is refused as, or loaded.
+/// The place of a byte of a snapshot, its new value, and the fault with which that is refused, or
+/// `None` if it is loaded.
 pub(super) type Alteration = (usize, u8, Option<SnapFault>);
 
-/// Writes a snapshot with another byte there, or one more behind all, and the digest of that.
+/// Writes a snapshot with another byte at this place, or one more byte at its end, and with the
+/// right digest.
 pub(super) fn alter(shot: &[u8], at: usize, new: u8, out: &mut Vec<u8>) -> Result<(), AllocError> {
     out.clear();
     out.extend_from_slice(shot)?;
@@ -141,7 +143,7 @@ pub(super) fn alter(shot: &[u8], at: usize, new: u8, out: &mut Vec<u8>) -> Resul
     out.extend_from_slice(&digest)
 }
 
-/// Whether each is refused as that, or begun from.
+/// Reports whether each alteration is refused with its fault, or taken.
 fn answers_each(
     viewer: &mut Viewer<StockScript>,
     shot: &[u8],
@@ -159,7 +161,7 @@ fn answers_each(
     true
 }
 
-/// A snapshot is altered in these ways, each with a digest that is right.
+/// Alters a snapshot in each of these ways, with the right digest.
 pub(super) struct Alterations(pub(super) &'static [Alteration]);
 
 impl Trial for Alterations {
@@ -175,7 +177,7 @@ pub(super) const NOT_CANONICAL: Option<SnapFault> = Some(SnapFault::NotCanonical
 
 const NO_STATE: Option<SnapFault> = Some(SnapFault::ScriptState);
 
-/// Of the snapshot before any clock.
+/// Alterations of the snapshot before any clock.
 static WORLDS: Alterations = Alterations(&[
     // 16777216 inputs were applied
     (41, 1, NOT_CANONICAL),
@@ -187,7 +189,7 @@ static WORLDS: Alterations = Alterations(&[
     (61, 2, NOT_CANONICAL),
     // the sensor's activity is 2
     (95, 2, NOT_CANONICAL),
-    // it has a cycle, and isn't active
+    // the sensor has a cycle, and isn't active
     (103, 1, NOT_CANONICAL),
     // the toggle is 2
     (104, 2, NOT_CANONICAL),
@@ -195,36 +197,36 @@ static WORLDS: Alterations = Alterations(&[
     (120, 1, NOT_CANONICAL),
     // there are 2^56 events
     (113, 1, NOT_CANONICAL),
-    // a byte is left over behind the trace
+    // there is one byte more after the trace
     (121, 0, NOT_CANONICAL),
-    // the boot is the one that is to begin
+    // the boot is the one that begins
     (40, 2, Some(SnapFault::BootNotNew)),
     // the boot is another one
     (40, 0, None),
     // the first viewer's button is down, or the last one's
     (112, 1, None),
     (105, 128, None),
-    // it is of version 1, of 16 viewers
+    // the snapshot is of version 1, for 16 viewers
     (4, 1, NOT_CANONICAL),
-    // and there is no version 3
+    // there is no version 3
     (4, 3, Some(SnapFault::BadVersion)),
 ]);
 
-/// Of the snapshot after a clock: another node, field and value of its first event.
+/// Alterations of the snapshot after a clock: another node, field and value of its first event.
 static EVENTS: Alterations = Alterations(&[
     (136, 3, NOT_CANONICAL),
     (138, 0, NOT_CANONICAL),
     (139, 2, NOT_CANONICAL),
 ]);
 
-/// Of the snapshot of a counter's world before any clock.
+/// Alterations of the snapshot of a counter's world before any clock.
 static STATES: Alterations = Alterations(&[
     // the count is above those of an SFInt32, or below
     (140, 1, NO_STATE),
     (140, 255, NO_STATE),
     // the step is above
     (151, 1, NO_STATE),
-    // it has one number, or three
+    // the state has one number, or three
     (139, 1, NOT_CANONICAL),
     (139, 3, NOT_CANONICAL),
     // the count and the step are others
@@ -232,11 +234,11 @@ static STATES: Alterations = Alterations(&[
     (155, 3, None),
 ]);
 
-/// Each of these alterations of a snapshot is refused, and the viewer is as it was: it has 84
-/// bytes, the lowest bit of the last byte is another one, or it is of another scene.
+/// Each of these alterations of a snapshot is refused, and the viewer is unchanged: the snapshot
+/// has 84 bytes, the lowest bit of its last byte is flipped, or it is of another scene.
 struct Damages;
 
-/// Whether it is refused as these, in turn.
+/// Reports whether the snapshots are refused with these faults.
 fn refuses_damages(viewer: &mut Viewer<StockScript>, shot: &[u8], other: &mut Vec<u8>) -> bool {
     if shot.len() < 84 {
         return false;

@@ -1,5 +1,5 @@
 //! Memory that is refused in turns over the port in memory, until there is enough. A growth that is
-//! refused to the port itself is its failure.
+//! refused to the port itself counts as its failure.
 
 use super::given::{
     COUNTED, MARK, POINT, Trial, clock_at, clock_packet, go_back, try_on, viewer_of,
@@ -20,7 +20,7 @@ use tests_memory::{Outcome, Spared, UsedUp, is_refused_until_enough};
 /// The port of the host.
 const HOST: u16 = 5000;
 
-/// A port to which a datagram has come, or none where that is `None`.
+/// Returns a port to which a datagram has come, or none if `packet` is `None`.
 fn port_with(alloc: Global, packet: Option<Packet>) -> FakePort {
     let mut port = FakePort::failing_at(alloc, 0);
     if let Some(packet) = packet {
@@ -32,8 +32,8 @@ fn port_with(alloc: Global, packet: Option<Packet>) -> FakePort {
     port
 }
 
-/// What comes of turns over ports that failed so often: where memory was refused to a node no port
-/// failed, and else one did. Counts the former.
+/// Returns the outcome of turns over ports with this many failures. If memory was refused to a node
+/// no port failed, and otherwise one did. Counts the refusals to a node.
 fn judged(answer: Option<TurnFault>, failures: u64, refusals: &Cell<u32>) -> Outcome {
     match answer {
         None => Outcome::Done.where_so(failures == 0),
@@ -54,8 +54,8 @@ fn turn_fault(answer: Result<(), SeriesFault>) -> Option<TurnFault> {
     }
 }
 
-/// A host that has numbered nothing takes a turn, or a run of one: it numbers a clock, if there is
-/// one, and an offer that comes to it.
+/// A host that has numbered nothing takes a turn, or a run of one turn. It numbers a clock, if
+/// there is one, and an offer that arrives.
 #[derive(Clone, Copy)]
 enum HostCall {
     Turn(Option<i64>),
@@ -78,7 +78,7 @@ fn take_turn(host: &mut Host, call: HostCall, port: &mut FakePort) -> Option<Tur
 #[derive(Clone, Copy)]
 struct HostTurns<'a>(HostCall, u32, &'a Cell<u32>);
 
-/// How many are numbered: all where it is done, and some or none where memory is refused.
+/// How many inputs are numbered: all if the turn is done, and fewer if memory is refused.
 impl<'a> Spared<Host> for HostTurns<'a> {
     fn work(&self, alloc: Global, host: &mut Host, memory: &mut UsedUp) -> Outcome {
         begin(alloc, host);
@@ -97,7 +97,7 @@ impl<'a> Spared<Host> for HostTurns<'a> {
     }
 }
 
-/// How many of the turns refuse memory to the host itself; none where something came out wrong.
+/// Returns how many of the turns refuse memory to the host itself, or 0 if something went wrong.
 fn refused_to_host(alloc: Global, call: HostCall, inputs: u32) -> u32 {
     let refusals = Cell::new(0);
     let mut host = Host::new(alloc, MARK, 2);
@@ -120,8 +120,8 @@ fn turns_of_a_host_are_refused_until_there_is_enough(rt: HostRuntime) {
     }
 }
 
-/// A viewer that begins at this snapshot, before any input, takes a turn, or a run of one and
-/// appends its texts: it offers a point, and takes a clock that comes to it.
+/// A viewer that begins at this snapshot, before any input, takes a turn, or a run of one turn with
+/// its texts. It offers a point, and takes a clock that arrives.
 #[derive(Clone, Copy)]
 struct ViewerTurns<'a>(bool, &'a [u8], &'a Cell<u32>);
 
@@ -147,8 +147,8 @@ fn view_turn(
     }
 }
 
-/// Whether a viewer stands so behind a turn: spoiled where memory was refused to its input, at one
-/// input where it was refused to its texts.
+/// Reports whether a viewer is as expected after a turn: spoiled if memory was refused to its
+/// input, or with one input applied if memory was refused to its texts.
 fn stands(viewer: &Viewer<StockScript>, answer: Option<TurnFault>) -> bool {
     let (applied, spoiled) = (viewer.applied(), viewer.spoiled());
     match answer {
@@ -180,7 +180,7 @@ impl<'a> Spared<Viewer<StockScript>> for ViewerTurns<'a> {
     }
 }
 
-/// A turn, or a run: memory is refused to the viewer itself in some turns.
+/// A turn, or a run. Memory is refused to the viewer itself in some turns.
 struct Turning(bool);
 
 impl Trial for Turning {
@@ -217,7 +217,7 @@ fn agree_alone(
     turn_fault(agree(host, viewers, &[clock], 2, HOST, port, ports, out))
 }
 
-/// Whether the first viewer goes back to a snapshot before any input.
+/// Reports whether the first viewer goes back to a snapshot before any input.
 fn begin_first(viewers: &mut [Viewer<StockScript>], shot: &[u8]) -> bool {
     match viewers.get_mut(0) {
         Some(viewer) => go_back(viewer, shot) == Ok(0),
