@@ -50,12 +50,12 @@ all_five a b c d e p q r s t f g h i j k =
 
 pub fewer_within : (met more : List Met) → Fewer more met → is_within met ≡ true → is_within more ≡ true
 fewer_within met more k e =
-    all_five (not (nat_lt 65536 (sum_by nodes_met met))) (not (nat_lt 8388608 (sum_by instances_met met))) (not (nat_lt 8388608 (sum_by items_met met))) (not (nat_lt 134217728 (sum_by all_met met))) (list_all has_room met)
-    (not (nat_lt 65536 (sum_by nodes_met more))) (not (nat_lt 8388608 (sum_by instances_met more))) (not (nat_lt 8388608 (sum_by items_met more))) (not (nat_lt 134217728 (sum_by all_met more))) (list_all has_room more)
+    all_five (not (nat_lt 65536 (sum_by nodes_met met))) (not (nat_lt 8388608 (sum_by instances_met met))) (not (nat_lt 8388608 (sum_by items_met met))) (not (nat_lt 4194304 (sum_by all_met met))) (list_all has_room met)
+    (not (nat_lt 65536 (sum_by nodes_met more))) (not (nat_lt 8388608 (sum_by instances_met more))) (not (nat_lt 8388608 (sum_by items_met more))) (not (nat_lt 4194304 (sum_by all_met more))) (list_all has_room more)
     (few 65536 (sum_by nodes_met met) (sum_by nodes_met more) (k.sums nodes_met))
     (few 8388608 (sum_by instances_met met) (sum_by instances_met more) (k.sums instances_met))
     (few 8388608 (sum_by items_met met) (sum_by items_met more) (k.sums items_met))
-    (few 134217728 (sum_by all_met met) (sum_by all_met more) (k.sums all_met))
+    (few 4194304 (sum_by all_met met) (sum_by all_met more) (k.sums all_met))
     k.room e
 
 abbrev pub is_fine : Result Flat ExpandFault → Bool

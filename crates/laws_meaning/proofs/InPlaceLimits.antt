@@ -46,10 +46,10 @@ all_five a b c d e p q r s t f g h i j k =
 
 pub less_within : (ms : List Met) → is_within ms ≡ true → is_within (less ms) ≡ true
 less_within ms e =
-    all_five (not (nat_lt 65536 (sum_by nodes_met ms))) (not (nat_lt 8388608 (sum_by instances_met ms))) (not (nat_lt 8388608 (sum_by items_met ms))) (not (nat_lt 134217728 (sum_by all_met ms))) (list_all has_room ms)
-    (not (nat_lt 65536 (sum_by nodes_met (less ms)))) (not (nat_lt 8388608 (sum_by instances_met (less ms)))) (not (nat_lt 8388608 (sum_by items_met (less ms)))) (not (nat_lt 134217728 (sum_by all_met (less ms)))) (list_all has_room (less ms))
+    all_five (not (nat_lt 65536 (sum_by nodes_met ms))) (not (nat_lt 8388608 (sum_by instances_met ms))) (not (nat_lt 8388608 (sum_by items_met ms))) (not (nat_lt 4194304 (sum_by all_met ms))) (list_all has_room ms)
+    (not (nat_lt 65536 (sum_by nodes_met (less ms)))) (not (nat_lt 8388608 (sum_by instances_met (less ms)))) (not (nat_lt 8388608 (sum_by items_met (less ms)))) (not (nat_lt 4194304 (sum_by all_met (less ms)))) (list_all has_room (less ms))
     (few 65536 (sum_by nodes_met ms) (sum_by nodes_met (less ms)) (sum_less nodes_met ms))
     (few 8388608 (sum_by instances_met ms) (sum_by instances_met (less ms)) (sum_less instances_met ms))
     (few 8388608 (sum_by items_met ms) (sum_by items_met (less ms)) (sum_less items_met ms))
-    (few 134217728 (sum_by all_met ms) (sum_by all_met (less ms)) (sum_less all_met ms))
+    (few 4194304 (sum_by all_met ms) (sum_by all_met (less ms)) (sum_less all_met ms))
     (room_less ms) e

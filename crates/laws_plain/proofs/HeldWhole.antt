@@ -40,7 +40,7 @@ few_nodes : (met : List Met) → is_within met ≡ true → sum_by nodes_met met
 few_nodes met e =
     ltb-false 65536 (sum_by nodes_met met)
     (not_false (nat_lt 65536 (sum_by nodes_met met))
-    (first_true (not (nat_lt 65536 (sum_by nodes_met met))) (not (nat_lt 8388608 (sum_by instances_met met))) (not (nat_lt 8388608 (sum_by items_met met))) (not (nat_lt 134217728 (sum_by all_met met))) (list_all has_room met) e))
+    (first_true (not (nat_lt 65536 (sum_by nodes_met met))) (not (nat_lt 8388608 (sum_by instances_met met))) (not (nat_lt 8388608 (sum_by items_met met))) (not (nat_lt 4194304 (sum_by all_met met))) (list_all has_room met) e))
 
 -- ---- a document
 

@@ -2,6 +2,7 @@
 -- flat form of a document without instances is read from its text.
 use Rattle.std.specs.Prelude.{◌≡◌, ◌≤◌, List, [], ◌∷◌, ◌++◌, length, map, None, Ok}
 use Rattle.std.specs.List.{AllByRecursion}
+use Rattle.x3d_values.specs.Ranges.{max_nodes, max_routes}
 use Rattle.classic_tree.specs.declared.tree.Document.{Document}
 use Rattle.proto_flat.specs.declared.flat.Flat.{Flat}
 use Rattle.proto_flat.specs.declared.flat.FlatNode.{FlatNode}
@@ -87,7 +88,7 @@ FlatsAreWritten =
 abbrev pub FlatsAreLimited : Type 0
 FlatsAreLimited =
     (d : Document) (f : Flat) → flat d ≡ Ok f
-    → (length f.nodes ≤ 65536) × (length f.routes ≤ 65536)
+    → (length f.nodes ≤ max_nodes) × (length f.routes ≤ max_routes)
 
 -- no field has the name of a field before it, or of one of `fields`
 abbrev pub AreApart : List Field → List Field → Type 0

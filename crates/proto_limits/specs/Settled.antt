@@ -2,6 +2,7 @@
 -- text gives in that room. Nothing here is part of the definition of a flat document;
 -- limits_are_settled says that the results are the same.
 use Rattle.std.specs.Prelude.{ℕ, ◌-◌, ◌&&◌, not, nat_lt, if◌then◌else◌, List, [], ◌∷◌, Result, Ok, Err}
+use Rattle.x3d_values.specs.Ranges.{max_instances, max_items, max_nodes, max_put_in}
 use Rattle.proto_flat.specs.Fault.{fault}
 use Rattle.proto_flat.specs.declared.fault.ExpandFault.{ExpandFault}
 use Rattle.proto_flat.specs.declared.fault.ExpandFaultKind.TheVariants.{TooLarge}
@@ -12,7 +13,12 @@ use Rattle.proto_limits.specs.declared.room.Room.{Room}
 
 -- before anything is counted
 abbrev pub full : Room
-full = record { nodes = 65536; instances = 8388608; items = 8388608; all = 134217728 }
+full = record {
+  nodes = max_nodes;
+  instances = max_instances;
+  items = max_items;
+  all = max_put_in;
+}
 
 abbrev pub too_large : {A : Type 0} → Result A ExpandFault
 too_large = Err (fault TooLarge 0)

@@ -6,9 +6,7 @@ ghost use Rattle.proto_meaning.specs.Limits.{ANode, AnInstance, AField, AnItem};
 ghost use Rattle.proto_limits.specs.Settled.{full, spend, spend_so_much};
 
 use proto_flat::{ExpandFault, ExpandFaultKind};
-
-/// The most fields that a node may have.
-const MAX_FIELDS: usize = 65_536;
+use x3d_values::{MAX_FIELDS, MAX_INSTANCES, MAX_ITEMS, MAX_NODES, MAX_PUT_IN};
 
 /// How much more may be counted: nodes, instances, items of the values of nodes, and in `all`
 /// nodes, instances, fields, ROUTEs and USEs together.
@@ -27,10 +25,10 @@ impl Room {
         ensures { result ≡ full }
     {
         Room {
-            nodes: 65_536,
-            instances: 8_388_608,
-            items: 8_388_608,
-            all: 134_217_728,
+            nodes: MAX_NODES,
+            instances: MAX_INSTANCES,
+            items: MAX_ITEMS,
+            all: MAX_PUT_IN,
         }
     }
 

@@ -41,15 +41,15 @@ few n f ms = not (nat_lt n (sum_by f ms))
 
 pub stays_over : (ms ns : List Met) → is_within ms ≡ false → is_within (ms ++ ns) ≡ false
 stays_over ms ns e =
-    and_later (((few 65536 nodes_met ms && few 8388608 instances_met ms) && few 8388608 items_met ms) && few 134217728 all_met ms)
-    (((few 65536 nodes_met (ms ++ ns) && few 8388608 instances_met (ms ++ ns)) && few 8388608 items_met (ms ++ ns)) && few 134217728 all_met (ms ++ ns))
+    and_later (((few 65536 nodes_met ms && few 8388608 instances_met ms) && few 8388608 items_met ms) && few 4194304 all_met ms)
+    (((few 65536 nodes_met (ms ++ ns) && few 8388608 instances_met (ms ++ ns)) && few 8388608 items_met (ms ++ ns)) && few 4194304 all_met (ms ++ ns))
     (list_all has_room ms) (list_all has_room (ms ++ ns))
-    (and_later ((few 65536 nodes_met ms && few 8388608 instances_met ms) && few 8388608 items_met ms) ((few 65536 nodes_met (ms ++ ns) && few 8388608 instances_met (ms ++ ns)) && few 8388608 items_met (ms ++ ns)) (few 134217728 all_met ms) (few 134217728 all_met (ms ++ ns))
+    (and_later ((few 65536 nodes_met ms && few 8388608 instances_met ms) && few 8388608 items_met ms) ((few 65536 nodes_met (ms ++ ns) && few 8388608 instances_met (ms ++ ns)) && few 8388608 items_met (ms ++ ns)) (few 4194304 all_met ms) (few 4194304 all_met (ms ++ ns))
     (and_later (few 65536 nodes_met ms && few 8388608 instances_met ms) (few 65536 nodes_met (ms ++ ns) && few 8388608 instances_met (ms ++ ns)) (few 8388608 items_met ms) (few 8388608 items_met (ms ++ ns))
     (and_later (few 65536 nodes_met ms) (few 65536 nodes_met (ms ++ ns)) (few 8388608 instances_met ms) (few 8388608 instances_met (ms ++ ns))
     (more 65536 nodes_met ms ns) (more 8388608 instances_met ms ns))
     (more 8388608 items_met ms ns))
-    (more 134217728 all_met ms ns))
+    (more 4194304 all_met ms ns))
     (all_append ms ns) e
 
 -- whatever comes behind

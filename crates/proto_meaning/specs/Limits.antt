@@ -3,6 +3,7 @@
 -- TooLarge is answered exactly if too much was counted before anything else was wrong.
 use Rattle.std.specs.Prelude.{ℕ, ◌&&◌, Bool, true, not, if◌then◌else◌, List, ◌++◌, length, nat_lt, Result, Ok, Err}
 use Rattle.std.specs.List.{list_all, sum_by}
+use Rattle.x3d_values.specs.Ranges.{max_fields, max_instances, max_items, max_nodes, max_put_in, max_routes}
 use Rattle.classic_tree.specs.declared.tree.RawValue.{RawValue}
 use Rattle.classic_tree.specs.declared.tree.RawValue.TheVariants as value
 use Rattle.proto_flat.specs.Fault.{fault}
@@ -69,21 +70,23 @@ items_met _ = 0
 abbrev pub all_met : Met → ℕ
 all_met met = 1
 
--- a node has at most 65,536 fields
+-- the fields of a node are numbered below max_fields
 abbrev pub has_room : Met → Bool
-has_room (AField number items) = nat_lt number 65536
+has_room (AField number items) = nat_lt number max_fields
 has_room _ = true
 
--- at most 65,536 nodes, 8,388,608 instances, 8,388,608 items of values, and 2^27 of all
+-- no more nodes, instances, items of values and things in all than x3d_values allows
 abbrev pub is_within : List Met → Bool
 is_within met =
-    not (nat_lt 65536 (sum_by nodes_met met)) && not (nat_lt 8388608 (sum_by instances_met met))
-    && not (nat_lt 8388608 (sum_by items_met met)) && not (nat_lt 134217728 (sum_by all_met met))
+    not (nat_lt max_nodes (sum_by nodes_met met))
+    && not (nat_lt max_instances (sum_by instances_met met))
+    && not (nat_lt max_items (sum_by items_met met))
+    && not (nat_lt max_put_in (sum_by all_met met))
     && list_all has_room met
 
 -- routes are made when all nodes are there, so they are counted last. TooLarge has no line (0)
 abbrev pub with_few_routes : Result Flat ExpandFault → Result Flat ExpandFault
-with_few_routes (Ok f) = if nat_lt 65536 (length f.routes) then Err (fault TooLarge 0) else Ok f
+with_few_routes (Ok f) = if nat_lt max_routes (length f.routes) then Err (fault TooLarge 0) else Ok f
 with_few_routes (Err e) = Err e
 
 -- counting ends at the first fault, so what is too much was counted before that fault

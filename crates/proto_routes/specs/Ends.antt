@@ -2,6 +2,7 @@
 use Rattle.std.specs.Prelude.{nat_lt, if◌then◌else◌, List, [], ◌∷◌, ◌++◌, length, Result, Ok, Err}
 use Rattle.std.specs.List.{fold}
 use Rattle.std.specs.Borrow.{Bor}
+use Rattle.x3d_values.specs.Ranges.{max_routes}
 use Rattle.proto_flat.specs.Fault.{fault}
 use Rattle.proto_flat.specs.declared.fault.ExpandFault.{ExpandFault}
 use Rattle.proto_flat.specs.declared.fault.ExpandFaultKind.TheVariants.{TooLarge}
@@ -28,4 +29,4 @@ waiting left = fold (λ behind s. list s.now ++ behind) [] left
 
 -- TooLarge if there are more than a document may have routes
 abbrev pub few : {X : Type 0} → List X → Result (List X) ExpandFault
-few xs = if nat_lt 65536 (length xs) then Err (fault TooLarge 0) else Ok xs
+few xs = if nat_lt max_routes (length xs) then Err (fault TooLarge 0) else Ok xs

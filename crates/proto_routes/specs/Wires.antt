@@ -2,6 +2,7 @@
 use Rattle.std.specs.Prelude.{◌≡◌, ◌⊎◌, ◌≤◌, List, [], ◌∷◌, ◌++◌, length, Result, Ok, Err}
 use Rattle.std.specs.List.{flat_map, fold}
 use Rattle.std.specs.Borrow.{Bor}
+use Rattle.x3d_values.specs.Ranges.{max_routes}
 use Rattle.proto_flat.specs.Fault.{memory}
 use Rattle.proto_flat.specs.declared.fault.ExpandFault.{ExpandFault}
 use Rattle.proto_flat.specs.declared.flat.FlatRoute.{FlatRoute}
@@ -28,5 +29,5 @@ means wires = flat_map routes_of_wire wires
 abbrev pub StepsOn : List FlatRoute → List Wire → Result (List FlatRoute) ExpandFault → List Wire
     → Type 0
 StepsOn routes before (Ok made) after =
-    (few (routes ++ means before) ≡ few (made ++ means after)) × (length made ≤ 65536)
+    (few (routes ++ means before) ≡ few (made ++ means after)) × (length made ≤ max_routes)
 StepsOn routes before (Err e) after = (e ≡ memory) ⊎ (few (routes ++ means before) ≡ Err e)

@@ -11,9 +11,7 @@ use proto_flat::{ExpandFault, ExpandFaultKind, FlatEnd};
 use std::alloc::{AllocError, Global};
 use std::rc::Rc;
 use x3d_lists::{Duplicate, Items, Text};
-
-/// The most routes that a document may have.
-pub const MAX_ROUTES: usize = 65_536;
+use x3d_values::MAX_ROUTES;
 
 /// An end of a ROUTE: a node's field, or why there is none.
 #[derive(Clone, Copy)]

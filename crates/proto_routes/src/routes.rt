@@ -1,16 +1,18 @@
 //! The routes of a flat document, once all nodes have their numbers.
 
 ghost use Rattle.std.specs.Prelude.{◌≡◌, ◌++◌, ◌≤◌, ◌*◌, ◌-◌, length, not, nat_lt, IfOk};
+ghost use Rattle.x3d_values.specs.Ranges.{max_routes};
 ghost use Rattle.x3d_lists.specs.Answers.{Gives};
 ghost use Rattle.proto_flat.specs.Fault.{memory};
 ghost use Rattle.proto_routes.specs.Ends.{few, list};
 ghost use Rattle.proto_routes.specs.Routes as spec;
 
-use crate::ends::{End, Ends, MAX_ROUTES, listed, to_flat};
+use crate::ends::{End, Ends, listed, to_flat};
 use proto_flat::{ExpandFault, ExpandFaultKind, FlatRoute};
 use std::alloc::{AllocError, Global};
 use std::rc::Rc;
 use x3d_lists::Items;
+use x3d_values::MAX_ROUTES;
 
 /// A ROUTE: the ends at each side. None is a side without ends.
 #[derive(Drop)]
@@ -62,7 +64,7 @@ fn push_pairs(
 
 /// Reports whether there is room for all pairs after that many routes.
 fn has_room(routes: usize, sources: usize, targets: usize) -> bool
-    ensures { result ≡ not (nat_lt (65536 - routes) (sources * targets)) }
+    ensures { result ≡ not (nat_lt (max_routes - routes) (sources * targets)) }
 {
     MAX_ROUTES.saturating_sub(routes) >= sources.saturating_mul(targets)
 }
@@ -75,7 +77,7 @@ fn push_between(
     targets: &[End<'_>],
     routes: Items<FlatRoute>,
 ) -> Result<Items<FlatRoute>, ExpandFault>
-    requires { length routes ≤ 65536 }
+    requires { length routes ≤ max_routes }
     ensures { Gives memory (λ rs. rs) result
         (few (routes ++ spec.routes_between line sources.now targets.now)) }
 {
@@ -92,7 +94,7 @@ fn push_ends(
     target: &Ends<'_>,
     routes: Items<FlatRoute>,
 ) -> Result<Items<FlatRoute>, ExpandFault>
-    requires { length routes ≤ 65536 }
+    requires { length routes ≤ max_routes }
     ensures { Gives memory (λ rs. rs) result
         (few (routes ++ spec.routes_between line (list source.now) (list target.now))) }
 {
@@ -108,7 +110,7 @@ pub fn push_wire(
     wire: &Wire<'_>,
     routes: Items<FlatRoute>,
 ) -> Result<Items<FlatRoute>, ExpandFault>
-    requires { length routes ≤ 65536 }
+    requires { length routes ≤ max_routes }
     ensures { Gives memory (λ rs. rs) result (few (routes ++ spec.routes_of_wire wire.now)) }
 {
     let Some(source) = &wire.source else {

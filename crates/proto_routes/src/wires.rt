@@ -1,6 +1,7 @@
 //! ROUTEs in a row, put together from others without copying them.
 
 ghost use Rattle.std.specs.Prelude.{◌≡◌, ◌≤◌, ◌++◌, ◌∷◌, [], length, IfOk};
+ghost use Rattle.x3d_values.specs.Ranges.{max_routes};
 ghost use Rattle.x3d_lists.specs.Answers.{Gives};
 ghost use Rattle.proto_flat.specs.Fault.{memory};
 ghost use Rattle.proto_routes.specs.Ends.{few};
@@ -46,7 +47,7 @@ fn step<'a, 'b>(
     routes: Items<FlatRoute>,
     left: &mut Vec<&'b Wires<'a>>,
 ) -> Result<Items<FlatRoute>, ExpandFault>
-    requires { length routes ≤ 65536 }
+    requires { length routes ≤ max_routes }
     ensures { StepsOn routes (wires next.now ++ wires_waiting left.old.items) result
         (wires_waiting left.new.items) }
 {

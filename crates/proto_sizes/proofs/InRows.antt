@@ -173,10 +173,10 @@ module _ (before met : List Met) (k : ℕ) where
   few f n = not (nat_lt n (sum_by f all_together))
 
   pass : IsOver (λ amount. sum_by amount before + k * sum_by amount met) → is_within all_together ≡ false
-  pass (inl h) = first_off (few nodes_met 65536) (few instances_met 8388608) (few items_met 8388608) (few all_met 134217728) (list_all has_room all_together) (counted nodes_met 65536 h)
-  pass (inr (inl h)) = second_off (few nodes_met 65536) (few instances_met 8388608) (few items_met 8388608) (few all_met 134217728) (list_all has_room all_together) (counted instances_met 8388608 h)
-  pass (inr (inr (inl h))) = third_off (few nodes_met 65536) (few instances_met 8388608) (few items_met 8388608) (few all_met 134217728) (list_all has_room all_together) (counted items_met 8388608 h)
-  pass (inr (inr (inr h))) = fourth_off (few nodes_met 65536) (few instances_met 8388608) (few items_met 8388608) (few all_met 134217728) (list_all has_room all_together) (counted all_met 134217728 h)
+  pass (inl h) = first_off (few nodes_met 65536) (few instances_met 8388608) (few items_met 8388608) (few all_met 4194304) (list_all has_room all_together) (counted nodes_met 65536 h)
+  pass (inr (inl h)) = second_off (few nodes_met 65536) (few instances_met 8388608) (few items_met 8388608) (few all_met 4194304) (list_all has_room all_together) (counted instances_met 8388608 h)
+  pass (inr (inr (inl h))) = third_off (few nodes_met 65536) (few instances_met 8388608) (few items_met 8388608) (few all_met 4194304) (list_all has_room all_together) (counted items_met 8388608 h)
+  pass (inr (inr (inr h))) = fourth_off (few nodes_met 65536) (few instances_met 8388608) (few items_met 8388608) (few all_met 4194304) (list_all has_room all_together) (counted all_met 4194304 h)
 
 pub repeats_pass_limits : RepeatsPassLimits
 repeats_pass_limits before met k h = pass before met k h

@@ -2,6 +2,7 @@
 -- instances is TooLarge, whatever follows them.
 use Rattle.std.specs.Prelude.{◌≡◌, ◌⊎◌, ℕ, ◌+◌, ◌*◌, ◌<◌, false, List, [], ◌∷◌, ◌++◌, length, map, Option, Some, Ok, Err}
 use Rattle.std.specs.List.{sum_by}
+use Rattle.x3d_values.specs.Ranges.{max_instances, max_items, max_nodes, max_put_in}
 use Rattle.classic_tree.specs.declared.tree.Document.{Document}
 use Rattle.classic_tree.specs.declared.tree.NodeText.TheVariants as node
 use Rattle.classic_tree.specs.declared.tree.ProtoText.{ProtoText}
@@ -59,8 +60,8 @@ RowsAreSums =
 -- one of these counts is over its limit
 abbrev pub IsOver : ((Met → ℕ) → ℕ) → Type 0
 IsOver count =
-    (65536 < count nodes_met) ⊎ (8388608 < count instances_met) ⊎ (8388608 < count items_met)
-    ⊎ (134217728 < count all_met)
+    (max_nodes < count nodes_met) ⊎ (max_instances < count instances_met)
+    ⊎ (max_items < count items_met) ⊎ (max_put_in < count all_met)
 
 -- what is counted k times, after what was counted before, is over a limit if the counts are
 abbrev pub RepeatsPassLimits : Type 0
