@@ -4,7 +4,7 @@ pub mod Runs
 pub mod Turns
 pub mod SceneOutputs
 pub mod Fuel
-pub mod Tasks
+pub mod TaskLists
 pub mod Gains
 pub mod Keeping
 mod Arrivals
@@ -24,3 +24,5 @@ pub mod RunFaults
 mod Skipped
 mod Walks
 mod Beginnings
+pub mod Sends
+pub mod Shown

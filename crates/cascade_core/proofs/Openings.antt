@@ -22,7 +22,7 @@ use Rattle.cascade_core.specs.Scripts.{are_begun, scripts_in}
 use Rattle.cascade_core.specs.Settles.{settle}
 use Rattle.cascade_core.specs.Sound.{HasScriptsOf, RunsItsScripts, IsSound, are_outputs, are_sent}
 use Rattle.cascade_core.specs.Stack.{IsReady}
-use Rattle.cascade_rules.specs.Replies.{send_by}
+use Rattle.cascade_core.specs.Replies.{send_by}
 use Rattle.cascade_core.specs.declared.routed.RoutedScene.{RoutedScene}
 use Rattle.cascade_world.specs.declared.world.Live.{Live}
 use Rattle.cascade_core.proofs.Keeping.{replies-of}

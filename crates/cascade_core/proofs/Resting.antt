@@ -5,7 +5,7 @@ use Rattle.react_core.specs.declared.outbox.SentEvent.{SentEvent}
 use Rattle.pick_core.specs.declared.row.BoxRow.{BoxRow}
 use Rattle.script_host.specs.Hosting.{SlotView}
 use Rattle.script_running.specs.Acting.{kinds_of}
-use Rattle.cascade_rules.specs.declared.tasks.CascadeTask.{CascadeTask}
+use Rattle.cascade_core.specs.declared.tasks.CascadeTask.{CascadeTask}
 use Rattle.cascade_world.specs.declared.world.Live.{Live}
 use Rattle.cascade_core.specs.Course.{Course, Wiring, course}
 use Rattle.cascade_core.specs.Resting.{HasSameScripts, IsAtRest, IsWorking}

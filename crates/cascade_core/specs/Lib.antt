@@ -16,3 +16,4 @@ pub mod Installing
 pub mod Sound
 pub mod FaultNames
 pub mod Placing
+pub mod Replies

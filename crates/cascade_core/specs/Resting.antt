@@ -6,7 +6,7 @@ use Rattle.pick_core.specs.Sites.{rows_of}
 use Rattle.pick_core.specs.declared.row.BoxRow.{BoxRow}
 use Rattle.scene_core.specs.Scene.{shapes_of}
 use Rattle.script_running.specs.Acting.{kinds_of}
-use Rattle.cascade_rules.specs.declared.tasks.CascadeTask.{CascadeTask}
+use Rattle.cascade_core.specs.declared.tasks.CascadeTask.{CascadeTask}
 use Rattle.cascade_core.specs.Course.{Course, wiring_at}
 use Rattle.cascade_core.specs.Scripts.{kinds_in}
 use Rattle.cascade_core.specs.Sound.{HasScriptsOf, RunsItsScripts}

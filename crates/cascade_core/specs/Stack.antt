@@ -8,8 +8,8 @@ use Rattle.cascade_core.specs.Course.{Course, Wiring}
 use Rattle.cascade_trace.specs.Ends.{has_sent, targets_of}
 use Rattle.cascade_core.specs.Outputs.{is_scene_output, ends_from}
 use Rattle.cascade_core.specs.Cascade.{deliver, send_full}
-use Rattle.cascade_rules.specs.declared.tasks.CascadeTask.{CascadeTask}
-use Rattle.cascade_rules.specs.declared.tasks.CascadeTask.TheVariants.{Send, Follow}
+use Rattle.cascade_core.specs.declared.tasks.CascadeTask.{CascadeTask}
+use Rattle.cascade_core.specs.declared.tasks.CascadeTask.TheVariants.{Send, Follow}
 use Rattle.cascade_world.specs.declared.world.Live.{Live}
 
 -- the effect of a task, by the definition of the cascade

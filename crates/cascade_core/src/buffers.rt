@@ -1,6 +1,6 @@
 //! The working memory of a stage.
 
-use cascade_rules::CascadeTask;
+use crate::tasks::CascadeTask;
 use cascade_world::Concerned;
 use pick_core::BoxCache;
 

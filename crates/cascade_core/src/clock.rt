@@ -11,9 +11,10 @@ ghost use Rattle.cascade_core.specs.Apply.{tick_node as tick_node_of};
 ghost use Rattle.cascade_core.specs.Walks.{over_block, where_passes};
 
 use crate::course::Course;
+use crate::nodes::is_clock;
 use crate::routed::RoutedScene;
 use crate::stack::send_replies;
-use cascade_rules::{CascadeTask, is_clock};
+use crate::tasks::CascadeTask;
 use cascade_world::BLOCK;
 use pick_core::BoxCache;
 use react_core::Outbox;

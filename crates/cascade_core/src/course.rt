@@ -7,8 +7,8 @@ ghost use Rattle.cascade_core.specs.Cascade.{arrival, reached, received_by};
 ghost use Rattle.cascade_core.specs.Sound.{HasScriptsOf};
 ghost use Rattle.cascade_core.specs.Resting.{HasSameScripts, IsAtRest};
 
+use crate::boxes::deliver;
 use crate::routed::RoutedScene;
-use cascade_rules::deliver;
 use cascade_world::Live;
 use pick_core::BoxCache;
 use react_core::Outbox;

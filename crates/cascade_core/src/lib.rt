@@ -2,27 +2,36 @@
 //! recorded in a trace (ISO/IEC 19775-1, event model).
 #![tactic(auto)]
 
+mod boxes;
 mod buffers;
 mod clock;
 mod course;
 mod fault;
 mod input;
 mod laws;
+mod nodes;
 mod opening;
 mod parts;
 mod pointer;
 mod pressed;
 mod routed;
+mod sending;
 mod series;
 mod settle;
 mod stack;
 mod stage;
+mod tasks;
 mod work;
 
+pub use boxes::{deliver, put_boxes};
 pub use cascade_trace::{LineHead, Trace, TraceLine, WritesLines};
 pub use cascade_world::{State, Watched, WorldData};
 pub use fault::{ApplyFault, LoadFault, PlaceFault, StatesFault, TextFault};
 pub use laws::{kinds_law, places_law, settling_law, states_law};
+pub use nodes::is_clock;
+pub use pick_core::is_sensor;
+pub use sending::send;
 pub use series::run;
 pub use stage::Stage;
+pub use tasks::{CascadeTask, push_before, push_replies};
 pub use work::Work;

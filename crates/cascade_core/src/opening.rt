@@ -18,7 +18,7 @@ use crate::course::Course;
 use crate::routed::RoutedScene;
 use crate::settle::settle;
 use crate::stack::send_replies;
-use cascade_rules::CascadeTask;
+use crate::tasks::CascadeTask;
 use cascade_world::Live;
 use pick_core::BoxCache;
 use react_core::Outbox;

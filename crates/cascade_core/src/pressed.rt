@@ -7,8 +7,8 @@ ghost use Rattle.scene_core.specs.Scene.{types_of};
 ghost use Rattle.cascade_world.specs.Pointer.{is_pressed, pressed as pressed_by, tracking};
 ghost use Rattle.cascade_core.specs.Walks.{appended, over_block, presses, where_passes};
 
-use cascade_rules::is_sensor;
 use cascade_world::{BLOCK, Concerned, WorldData};
+use pick_core::is_sensor;
 use scene_core::Scene;
 use std::alloc::AllocError;
 use x3d_values::Pointer;

@@ -9,7 +9,7 @@ ghost use Rattle.cascade_core.specs.Settles.{settle as settle_of, settle_one as 
 use crate::course::Course;
 use crate::routed::RoutedScene;
 use crate::stack::send_replies;
-use cascade_rules::CascadeTask;
+use crate::tasks::CascadeTask;
 use pick_core::BoxCache;
 use react_core::Outbox;
 use script_host::Behaviour;

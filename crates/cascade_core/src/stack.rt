@@ -4,7 +4,7 @@ ghost use Rattle.std.specs.Prelude.{◌≡◌, ◌+◌, ◌≤◌, ◌<◌, ◌^
 ghost use Rattle.std.specs.List.{AllByRecursion};
 ghost use Rattle.scene_core.specs.Scene.{shapes_of};
 ghost use Rattle.cascade_trace.specs.Ends.{targets_of};
-ghost use Rattle.cascade_rules.specs.Replies.{send_by};
+ghost use Rattle.cascade_core.specs.Replies.{send_by};
 ghost use Rattle.cascade_core.specs.Outputs.{is_scene_output};
 ghost use Rattle.cascade_core.specs.Course.{wiring_at, seen};
 ghost use Rattle.cascade_core.specs.Cascade.{send_full, send_replies as send_replies_of};
@@ -13,7 +13,8 @@ ghost use Rattle.cascade_core.specs.Stack.{do_task, finish, IsReady, weight, wor
 
 use crate::course::Course;
 use crate::routed::RoutedScene;
-use cascade_rules::{CascadeTask, push_before, push_replies, send};
+use crate::sending::send;
+use crate::tasks::{CascadeTask, push_before, push_replies};
 use pick_core::BoxCache;
 use react_core::Outbox;
 use route_core::Routes;

@@ -1,5 +1,6 @@
 //! A stage holds the world of a scene, and applies inputs to it.
 
+use crate::boxes::put_boxes;
 use crate::buffers::Buffers;
 use crate::course::Course;
 use crate::fault::{ApplyFault, LoadFault, PlaceFault, StatesFault, TextFault};
@@ -8,7 +9,6 @@ use crate::opening::open;
 use crate::parts::{Parts, parts_of, routed_of};
 use crate::routed::RoutedScene;
 use crate::work::Work;
-use cascade_rules::put_boxes;
 use cascade_trace::push_trace;
 use cascade_world::WorldData;
 use route_core::Routes;

@@ -20,7 +20,7 @@ use Rattle.sensor_plane.specs.declared.drag.Drag.{Drag}
 use Rattle.sensor_plane.specs.declared.pointing.PointingState.{PointingState}
 use Rattle.sensor_plane.specs.declared.pointing.PointingState.TheVariants.{Plane}
 use Rattle.sensor_plane.specs.Pointing.{pointing_fits}
-use Rattle.pick_track.specs.Paths.{leads_to}
+use Rattle.pick_core.specs.Paths.{leads_to}
 use Rattle.scene_core.specs.Scene.{SceneView, shapes_of}
 use Rattle.scene_core.specs.Shape.{Shape, rows_of}
 use Rattle.cascade_trace.specs.declared.trace.TraceLine.{TraceLine}

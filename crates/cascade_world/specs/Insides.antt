@@ -11,7 +11,7 @@ use Rattle.pick_core.specs.Local.{local_of}
 use Rattle.pick_core.specs.Picked.{picked}
 use Rattle.pick_core.specs.Sensors.{sensors_of}
 use Rattle.pick_core.specs.declared.hit.Hit.{Hit}
-use Rattle.pick_track.specs.Paths.{depth_along}
+use Rattle.pick_core.specs.Paths.{depth_along}
 use Rattle.sensor_plane.specs.declared.pointer.Contact.{Contact}
 use Rattle.sensor_plane.specs.Paths.{list_path}
 use Rattle.cascade_world.specs.declared.aim.Inside.{Inside}

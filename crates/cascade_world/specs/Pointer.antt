@@ -7,7 +7,7 @@ use Rattle.x3d_values.specs.Pointing.{PointerView, RayView}
 use Rattle.x3d_values.specs.declared.fields.Fields.{Fields}
 use Rattle.x3d_values.specs.declared.vector.Vec3.{Vec3}
 use Rattle.scene_core.specs.Scene.{SceneView, types_of}
-use Rattle.pick_track.specs.Track.{track_of}
+use Rattle.pick_core.specs.Track.{track_of}
 use Rattle.sensor_plane.specs.declared.drag.Drag.{Drag}
 use Rattle.sensor_plane.specs.declared.pointing.PointingState.{PointingState}
 use Rattle.sensor_plane.specs.Pointing.{drag_by, is_pressed_by}

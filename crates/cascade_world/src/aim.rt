@@ -10,11 +10,10 @@ ghost use Rattle.cascade_world.specs.Insides.{contact_by, contact_in, contact_of
 
 use crate::world::{Live, WorldData};
 use arrayvec::ArrayVec;
-use pick_core::{BoxCache, Hit, Path, local_point, sensors_of};
-use pick_track::sensor_depth;
+use pick_core::{BoxCache, Hit, Path, local_point, sensor_depth, sensors_of};
 use scene_core::Scene;
 use sensor_plane::{Contact, ListPath, SensorPointer};
-use x3d_values::{MAX_SENSORS, Fields, Pointer, Ray, Vec3};
+use x3d_values::{Fields, MAX_SENSORS, Pointer, Ray, Vec3};
 
 /// A sensor that a pointer is inside of: the place of the hit in the sensor's coordinates, in
 /// millionths, and the number of positions of the hit's path that lead to the list that holds the

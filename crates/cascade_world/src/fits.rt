@@ -14,12 +14,11 @@ ghost use Rattle.cascade_world.specs.Fits.{all_lead, drag_leads, leads, line_fit
 
 use crate::world::{VIEWERS, WorldData};
 use cascade_trace::{LineHead, TestsLines};
-use pick_track::leads_to;
+use pick_core::leads_to;
 use scene_core::{NodeField, Scene};
 use sensor_core::TimeState;
 use sensor_plane::{Drag, PointingSlot, PointingState};
-use snapshot_codec::kept_field;
-use snapshot_ranges::{is_moment, kept_fits, place_fits, typed_fits};
+use snapshot_codec::{is_moment, kept_field, kept_fits, place_fits, typed_fits};
 use x3d_values::{FieldType, Fields, MAX_INPUTS, NodeType, Position, Value};
 
 /// Reports whether a node may keep this value in its field of that number.

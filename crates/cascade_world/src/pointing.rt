@@ -16,8 +16,7 @@ ghost use Rattle.cascade_world.specs.Pointer.{is_pressed, tracked_at, tracked_by
 use crate::aim::{AimedAt, Concerned, Inside, inside_at};
 use crate::watched::{BLOCK, Watched};
 use crate::world::WorldData;
-use pick_core::is_enabled;
-use pick_track::track_point;
+use pick_core::{is_enabled, track_point};
 use react_core::Outbox;
 use scene_core::{End, Scene};
 use sensor_core::TOUCH_ENABLED;

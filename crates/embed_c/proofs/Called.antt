@@ -12,7 +12,7 @@ use Rattle.embed_world.specs.declared.fault.LookFault.{LookFault}
 use Rattle.embed_world.specs.declared.lists.ListEntry.{ListEntry}
 use Rattle.embed_world.specs.declared.world.EmbeddedWorld.{EmbeddedWorld}
 use Rattle.embed_c.specs.Answers.{AppliesAt, LoadsAt, MeetsAt, Meeting, counted, saved_as, status_of_load, status_of_meet, status_of_work, told}
-use Rattle.embed_answers.specs.Status.{Calls, CallsOut, HandsOut, IsHandedOut}
+use Rattle.embed_world.specs.Status.{Calls, CallsOut, HandsOut, IsHandedOut}
 use Rattle.embed_c.specs.declared.inputs.WorkCount.{WorkCount}
 use Rattle.embed_c.specs.declared.lists.Met.{Met}
 use Rattle.embed_c.specs.declared.shots.SavedAs.{SavedAs}

@@ -1,9 +1,9 @@
 -- The numbers that C sees for the answers of a world, and what an export does with a handle.
 use Rattle.std.specs.Prelude.{◌≡◌, ℕ, List, [], Option, Some, None, Result, Ok, Err}
 use Rattle.std.specs.Result.{result_ok}
-use Rattle.share_jobs.specs.declared.fault.JobFault.{JobFault}
-use Rattle.share_program.specs.Refusal.{refusal_text, status}
-use Rattle.share_program.specs.declared.refusal.Failure.TheVariants.{Job}
+use Rattle.app_jobs.specs.declared.fault.JobFault.{JobFault}
+use Rattle.app_program.specs.Refusal.{refusal_text, status}
+use Rattle.app_program.specs.declared.refusal.Failure.TheVariants.{Job}
 use Rattle.snapshot_core.specs.declared.fault.SnapFault.{SnapFault}
 use Rattle.snapshot_core.specs.declared.loading.Saved.{Saved}
 use Rattle.cascade_core.specs.declared.fault.ApplyFault.{ApplyFault}
@@ -16,7 +16,7 @@ use Rattle.embed_world.specs.Looks.{meeting_in}
 use Rattle.embed_world.specs.declared.fault.LookFault.{LookFault}
 use Rattle.embed_world.specs.declared.lists.ListEntry.{ListEntry}
 use Rattle.embed_world.specs.declared.world.EmbeddedWorld.{EmbeddedWorld}
-use Rattle.embed_answers.specs.Status.{Calls, IsCopied, closed, out_of_range, status_of_apply, status_of_look, status_of_place, status_of_snap}
+use Rattle.embed_world.specs.Status.{Calls, IsCopied, closed, out_of_range, status_of_apply, status_of_look, status_of_place, status_of_snap}
 use Rattle.embed_c.specs.declared.inputs.WorkCount.{WorkCount}
 use Rattle.embed_c.specs.declared.lists.Met.{Met}
 use Rattle.embed_c.specs.declared.shots.SavedAs.{SavedAs}

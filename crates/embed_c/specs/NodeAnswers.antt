@@ -1,16 +1,16 @@
 -- What the exports do with the handles of hosts and viewers.
 use Rattle.std.specs.Prelude.{◌≡◌, ◌⊎◌, ℕ, Bool, true, false, List, [], Option, Some, None, Result, Ok, Err}
 use Rattle.std.specs.Result.{result_ok}
-use Rattle.share_jobs.specs.declared.fault.JobFault.{JobFault}
-use Rattle.share_program.specs.Refusal.{refusal_text, status}
-use Rattle.share_program.specs.declared.refusal.Failure.TheVariants.{Job}
-use Rattle.embed_nodes.specs.Viewers.{IsStarted, Meets, forgetting}
-use Rattle.embed_nodes.specs.declared.host.EmbeddedHost.{EmbeddedHost}
-use Rattle.embed_nodes.specs.declared.viewer.EmbeddedViewer.{EmbeddedViewer}
+use Rattle.app_jobs.specs.declared.fault.JobFault.{JobFault}
+use Rattle.app_program.specs.Refusal.{refusal_text, status}
+use Rattle.app_program.specs.declared.refusal.Failure.TheVariants.{Job}
+use Rattle.embed_world.specs.Viewers.{IsStarted, Meets, forgetting}
+use Rattle.embed_world.specs.declared.host.EmbeddedHost.{EmbeddedHost}
+use Rattle.embed_world.specs.declared.viewer.EmbeddedViewer.{EmbeddedViewer}
 use Rattle.embed_world.specs.Looks.{meeting_in}
 use Rattle.share_core.specs.Viewer.{stage_in}
 use Rattle.x3d_values.specs.Pointing.{RayView}
-use Rattle.embed_answers.specs.Status.{CallsOut, IsCopied, out_of_range}
+use Rattle.embed_world.specs.Status.{CallsOut, IsCopied, out_of_range}
 use Rattle.embed_c.specs.Answers.{status_of_meet, told}
 use Rattle.embed_c.specs.declared.lists.Met.{Met}
 

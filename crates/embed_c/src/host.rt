@@ -1,19 +1,18 @@
 //! The host of a shared world.
 
 ghost use Rattle.std.specs.Prelude.{◌≡◌, Some, None, IfSome, length};
-ghost use Rattle.embed_nodes.specs.Hosts as hosts;
-ghost use Rattle.embed_nodes.specs.declared.host.EmbeddedHost.{EmbeddedHost as Embedded};
-ghost use Rattle.embed_answers.specs.Status.{Asks, Calls, CallsOut, out_of_range, HandsOut, no_packet};
+ghost use Rattle.embed_world.specs.Hosts as hosts;
+ghost use Rattle.embed_world.specs.declared.host.EmbeddedHost.{EmbeddedHost as Embedded};
+ghost use Rattle.embed_world.specs.Status.{Asks, Calls, CallsOut, out_of_range, HandsOut, no_packet};
 ghost use Rattle.embed_c.specs.NodeAnswers.{HostOpens};
-ghost use Rattle.embed_answers.specs.NodeStatus.{number_by, replied, status_by, status_of_floor, status_of_host, status_of_number};
+ghost use Rattle.embed_world.specs.PeerStatus.{number_by, replied, status_by, status_of_floor, status_of_host, status_of_number};
 
-use embed_answers::{
-    CLOSED, DONE, MEMORY, NO_PACKET, RANGE, ReplyAs, hand_out, status_of_floor, tell_number,
-    tell_reply,
-};
 use embed_handles::HostHandle;
 use embed_handles::host_handle::{put, take};
-use embed_nodes::EmbeddedHost;
+use embed_world::{
+    CLOSED, DONE, EmbeddedHost, MEMORY, NO_PACKET, RANGE, ReplyAs, hand_out, status_of_floor,
+    tell_number, tell_reply,
+};
 use std::alloc::Global;
 
 /// Frees the host of a handle, if it has one.

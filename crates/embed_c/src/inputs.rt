@@ -6,10 +6,9 @@ ghost use Rattle.embed_world.specs.Pointing as pointing;
 ghost use Rattle.embed_c.specs.Answers.{AppliesAt, InputIsApplied};
 ghost use Rattle.embed_c.specs.Points.{aimed, direction_of, origin_of, pointed};
 
-use embed_answers::{CLOSED, DONE, RANGE, status_of_apply};
 use embed_handles::WorldHandle;
 use embed_handles::world_handle::{put, take};
-use embed_world::{pointer_of, ray_of, stamped};
+use embed_world::{CLOSED, DONE, RANGE, pointer_of, ray_of, stamped, status_of_apply};
 use std::alloc::Global;
 use x3d_values::{Cause, Ray, Stamped, Vec3};
 

@@ -1,17 +1,17 @@
 //! A viewer begins again in the world of a snapshot.
 
 ghost use Rattle.std.specs.Prelude.{◌≡◌};
-ghost use Rattle.embed_nodes.specs.Viewers as viewers;
-ghost use Rattle.embed_nodes.specs.declared.viewer.EmbeddedViewer.{EmbeddedViewer as Embedded};
-ghost use Rattle.embed_answers.specs.Status.{Asks, Calls, CallsOut, status_of_save, status_of_snap, HandsOut, no_packet};
+ghost use Rattle.embed_world.specs.Viewers as viewers;
+ghost use Rattle.embed_world.specs.declared.viewer.EmbeddedViewer.{EmbeddedViewer as Embedded};
+ghost use Rattle.embed_world.specs.Status.{Asks, Calls, CallsOut, status_of_save, status_of_snap, HandsOut, no_packet};
 ghost use Rattle.embed_c.specs.NodeAnswers.{forgets, status_of_nothing};
-ghost use Rattle.embed_answers.specs.NodeStatus.{gathered_by, number_by, status_by, status_of_gather, status_of_join};
+ghost use Rattle.embed_world.specs.PeerStatus.{gathered_by, number_by, status_by, status_of_gather, status_of_join};
 
-use embed_answers::{
-    CLOSED, DONE, NO_PACKET, hand_out, status_of_save, tell_gathered, tell_joined, tell_rewound,
-};
 use embed_handles::ViewerHandle;
 use embed_handles::viewer_handle::{put, take};
+use embed_world::{
+    CLOSED, DONE, NO_PACKET, hand_out, status_of_save, tell_gathered, tell_joined, tell_rewound,
+};
 use std::alloc::Global;
 
 /// Makes the snapshot of the viewer's world, taken as its boot. It is copied like a text.

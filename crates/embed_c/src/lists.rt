@@ -3,20 +3,21 @@
 ghost use Rattle.std.specs.Prelude.{◌≡◌, length};
 ghost use Rattle.cascade_core.specs.Held.{applied_of};
 ghost use Rattle.scene_core.specs.Scene.{rows_at};
-ghost use Rattle.embed_reading.specs.Names.{number_named};
+ghost use Rattle.embed_world.specs.Names.{number_named};
 ghost use Rattle.embed_world.specs.Calls.{Lists};
 ghost use Rattle.embed_world.specs.Looks as look;
-ghost use Rattle.embed_answers.specs.Status.{Asks, Calls, Copies, Finds, status_of_look};
+ghost use Rattle.embed_world.specs.Status.{Asks, Calls, Copies, Finds, status_of_look};
 ghost use Rattle.embed_c.specs.Answers.{Meeting, met_of, status_of_meet, told};
 ghost use Rattle.embed_c.specs.Points.{direction_of, origin_of};
 ghost use Rattle.embed_world.specs.Pointing.{ray_of};
 ghost use Rattle.embed_world.specs.declared.world.EmbeddedWorld.{EmbeddedWorld as Embedded};
 
 use crate::inputs::{Aim, direction_of, origin_of};
-use embed_answers::{CLOSED, DONE, RANGE, copy_numbers, status_of_look, tell_field};
 use embed_handles::WorldHandle;
 use embed_handles::world_handle::{put, take};
-use embed_world::{ListEntry, LookFault, ray_of};
+use embed_world::{
+    CLOSED, DONE, ListEntry, LookFault, RANGE, copy_numbers, ray_of, status_of_look, tell_field,
+};
 use std::alloc::Global;
 
 /// Lists the roots of the scene.

@@ -2,18 +2,17 @@
 
 ghost use Rattle.std.specs.Prelude.{◌≡◌, ℕ, None};
 ghost use Rattle.std.specs.Result.{result_map_both};
-ghost use Rattle.share_program.specs.Refusal.{refusal_text, status};
-ghost use Rattle.share_program.specs.declared.refusal.Failure.TheVariants.{Job};
+ghost use Rattle.app_program.specs.Refusal.{refusal_text, status};
+ghost use Rattle.app_program.specs.declared.refusal.Failure.TheVariants.{Job};
 ghost use Rattle.embed_world.specs.Calls.{IsWorldOpened};
-ghost use Rattle.embed_answers.specs.Status.{IsCopied};
+ghost use Rattle.embed_world.specs.Status.{IsCopied};
 ghost use Rattle.embed_c.specs.Answers.{Opens};
 
-use embed_answers::{DONE, copy_text};
+use app_jobs::JobFault;
+use app_program::{Failure, refusal_line, status_of};
 use embed_handles::WorldHandle;
 use embed_handles::world_handle::{put, take};
-use embed_world::EmbeddedWorld;
-use share_jobs::JobFault;
-use share_program::{Failure, refusal_line, status_of};
+use embed_world::{DONE, EmbeddedWorld, copy_text};
 use std::alloc::Global;
 
 /// Returns a world on the heap.

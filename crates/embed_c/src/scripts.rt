@@ -3,13 +3,13 @@
 ghost use Rattle.std.specs.Prelude.{◌≡◌, Option, Some, None, length};
 ghost use Rattle.cascade_core.specs.Scripts.{kinds_in};
 ghost use Rattle.embed_world.specs.declared.world.EmbeddedWorld.{EmbeddedWorld as Embedded};
-ghost use Rattle.embed_answers.specs.Status.{Asks};
+ghost use Rattle.embed_world.specs.Status.{Asks};
 ghost use Rattle.embed_c.specs.Answers.{IsReplacing};
 ghost use Rattle.embed_c.specs.Points.{kind_of};
 
-use embed_answers::{CLOSED, DONE, RANGE, status_of_place};
 use embed_handles::WorldHandle;
 use embed_handles::world_handle::{put, take};
+use embed_world::{CLOSED, DONE, RANGE, status_of_place};
 use std::alloc::Global;
 use x3d_values::Kind;
 

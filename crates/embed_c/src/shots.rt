@@ -1,13 +1,13 @@
 //! A world as bytes, and back.
 
 ghost use Rattle.embed_world.specs.Calls.{Saves};
-ghost use Rattle.embed_answers.specs.Status.{Calls, status_of_save};
+ghost use Rattle.embed_world.specs.Status.{Calls, status_of_save};
 ghost use Rattle.embed_c.specs.Answers.{LoadsAt};
 ghost use Rattle.embed_world.specs.declared.world.EmbeddedWorld.{EmbeddedWorld as Embedded};
 
-use embed_answers::{CLOSED, DONE, status_of_save, status_of_snap};
 use embed_handles::WorldHandle;
 use embed_handles::world_handle::{put, take};
+use embed_world::{CLOSED, DONE, status_of_save, status_of_snap};
 use std::alloc::Global;
 
 /// The boot that a snapshot was taken as, and how many inputs its world had applied.

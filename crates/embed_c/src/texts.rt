@@ -3,12 +3,12 @@
 ghost use Rattle.std.specs.Prelude.{◌≡◌};
 ghost use Rattle.embed_world.specs.Calls.{Makes};
 ghost use Rattle.embed_world.specs.Looks as look;
-ghost use Rattle.embed_answers.specs.Status.{Calls, Copies, status_of_look};
+ghost use Rattle.embed_world.specs.Status.{Calls, Copies, status_of_look};
 ghost use Rattle.embed_world.specs.declared.world.EmbeddedWorld.{EmbeddedWorld as Embedded};
 
-use embed_answers::{CLOSED, copy_text, status_of_look};
 use embed_handles::WorldHandle;
 use embed_handles::world_handle::{put, take};
+use embed_world::{CLOSED, copy_text, status_of_look};
 use std::alloc::Global;
 
 /// Makes the lines of the trace of inputs from a number on.

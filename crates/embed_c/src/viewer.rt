@@ -6,22 +6,22 @@ ghost use Rattle.x3d_values.specs.Ranges.{is_viewer};
 ghost use Rattle.share_wire.specs.Messages.{is_ordinal};
 ghost use Rattle.share_law.specs.Viewer.{applied_in};
 ghost use Rattle.share_core.specs.Viewer.{machine_of};
-ghost use Rattle.embed_nodes.specs.Viewers as viewers;
-ghost use Rattle.embed_nodes.specs.declared.viewer.EmbeddedViewer.{EmbeddedViewer as Embedded};
-ghost use Rattle.embed_answers.specs.Status.{Asks, CallsOut, HandsOut, no_packet};
+ghost use Rattle.embed_world.specs.Viewers as viewers;
+ghost use Rattle.embed_world.specs.declared.viewer.EmbeddedViewer.{EmbeddedViewer as Embedded};
+ghost use Rattle.embed_world.specs.Status.{Asks, CallsOut, HandsOut, no_packet};
 ghost use Rattle.embed_c.specs.NodeAnswers.{ViewerOpens, ViewerOpensIf};
-ghost use Rattle.embed_answers.specs.NodeStatus.{number_by, status_by, status_of_offer, status_of_take, taken_by};
+ghost use Rattle.embed_world.specs.PeerStatus.{number_by, status_by, status_of_offer, status_of_take, taken_by};
 ghost use Rattle.embed_c.specs.Points.{point_of};
 
 use crate::inputs::{Aim, direction_of, origin_of};
 use crate::open::refuse;
-use embed_answers::{
-    CLOSED, DONE, NO_PACKET, RANGE, TakenAs, copy_text, hand_out, tell_offer, tell_taken,
-};
+use app_jobs::JobFault;
 use embed_handles::ViewerHandle;
 use embed_handles::viewer_handle::{put, take};
-use embed_nodes::EmbeddedViewer;
-use share_jobs::JobFault;
+use embed_world::{
+    CLOSED, DONE, EmbeddedViewer, NO_PACKET, RANGE, TakenAs, copy_text, hand_out, tell_offer,
+    tell_taken,
+};
 use share_wire::{is_ordinal, is_viewer};
 use std::alloc::Global;
 use x3d_values::Point;

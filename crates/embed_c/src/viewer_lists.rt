@@ -3,20 +3,20 @@
 ghost use Rattle.std.specs.Prelude.{◌≡◌, length};
 ghost use Rattle.scene_core.specs.Scene.{rows_at};
 ghost use Rattle.share_core.specs.Viewer.{stage_in};
-ghost use Rattle.embed_reading.specs.Names.{number_named};
-ghost use Rattle.embed_nodes.specs.Viewers.{Lists, Meets};
+ghost use Rattle.embed_world.specs.Names.{number_named};
+ghost use Rattle.embed_world.specs.Viewers.{Lists, Meets};
 ghost use Rattle.embed_world.specs.Looks as look;
-ghost use Rattle.embed_answers.specs.Status.{Asks, Calls, CallsOut, Copies, Finds, status_of_look};
+ghost use Rattle.embed_world.specs.Status.{Asks, Calls, CallsOut, Copies, Finds, status_of_look};
 ghost use Rattle.embed_c.specs.Answers.{status_of_meet, told};
 ghost use Rattle.embed_c.specs.NodeAnswers.{ViewerMeets};
 ghost use Rattle.embed_c.specs.Points.{aimed};
-ghost use Rattle.embed_nodes.specs.declared.viewer.EmbeddedViewer.{EmbeddedViewer as Embedded};
+ghost use Rattle.embed_world.specs.declared.viewer.EmbeddedViewer.{EmbeddedViewer as Embedded};
 
 use crate::inputs::{Aim, aimed};
 use crate::lists::{Met, tell_met};
-use embed_answers::{CLOSED, DONE, RANGE, copy_numbers, status_of_look, tell_field};
 use embed_handles::ViewerHandle;
 use embed_handles::viewer_handle::{put, take};
+use embed_world::{CLOSED, DONE, RANGE, copy_numbers, status_of_look, tell_field};
 use std::alloc::Global;
 use x3d_values::Ray;
 

@@ -1,15 +1,15 @@
 //! Texts of a viewer's world: one is made, then copied out.
 
 ghost use Rattle.std.specs.Prelude.{◌≡◌};
-ghost use Rattle.embed_nodes.specs.Viewers.{Makes};
+ghost use Rattle.embed_world.specs.Viewers.{Makes};
 ghost use Rattle.share_core.specs.Viewer.{stage_in};
 ghost use Rattle.embed_world.specs.Looks as look;
-ghost use Rattle.embed_answers.specs.Status.{Calls, Copies, status_of_look};
-ghost use Rattle.embed_nodes.specs.declared.viewer.EmbeddedViewer.{EmbeddedViewer as Embedded};
+ghost use Rattle.embed_world.specs.Status.{Calls, Copies, status_of_look};
+ghost use Rattle.embed_world.specs.declared.viewer.EmbeddedViewer.{EmbeddedViewer as Embedded};
 
-use embed_answers::{CLOSED, copy_text, status_of_look};
 use embed_handles::ViewerHandle;
 use embed_handles::viewer_handle::{put, take};
+use embed_world::{CLOSED, copy_text, status_of_look};
 use std::alloc::Global;
 
 /// Makes the lines of the trace of inputs from a number on.

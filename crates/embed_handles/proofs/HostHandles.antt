@@ -11,7 +11,7 @@ use denote.Steps.{nothing}
 use denote.Struct.Struct.{within}
 use denote.Struct.Owning.{shape}
 use Rattle.std.specs.Prelude.{Option}
-use Rattle.embed_nodes.specs.declared.host.EmbeddedHost.{EmbeddedHost}
+use Rattle.embed_world.specs.declared.host.EmbeddedHost.{EmbeddedHost}
 use Rattle.embed_handles.specs.HostHeld.{held}
 use Rattle.embed_handles.specs.contracts.host_handle.HostHandle as handle
 use Rattle.embed_handles.specs.declared.host_handle.HostHandle.{HostHandle}

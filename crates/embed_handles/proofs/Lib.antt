@@ -1,3 +1,4 @@
 pub mod HostHandles
 pub mod ViewerHandles
 pub mod WorldHandles
+pub mod Values

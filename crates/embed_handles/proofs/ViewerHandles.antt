@@ -11,7 +11,7 @@ use denote.Steps.{nothing}
 use denote.Struct.Struct.{within}
 use denote.Struct.Owning.{shape}
 use Rattle.std.specs.Prelude.{Option}
-use Rattle.embed_nodes.specs.declared.viewer.EmbeddedViewer.{EmbeddedViewer}
+use Rattle.embed_world.specs.declared.viewer.EmbeddedViewer.{EmbeddedViewer}
 use Rattle.embed_handles.specs.ViewerHeld.{held}
 use Rattle.embed_handles.specs.contracts.viewer_handle.ViewerHandle as handle
 use Rattle.embed_handles.specs.declared.viewer_handle.ViewerHandle.{ViewerHandle}

@@ -5,8 +5,8 @@ use base.Fml.{Fml, feq}
 use denote.RawPtr.{Ptr, null_ptr}
 use Rattle.std.specs.Box.Ownership.{box_owns}
 use Rattle.std.specs.contracts.impls.GlobalAllocator.TheImpl.{ghosts}
-use Rattle.embed_nodes.specs.declared.host.EmbeddedHost.{EmbeddedHost}
-use Rattle.embed_nodes.specs.contracts.host.EmbeddedHost.{the_row}
+use Rattle.embed_world.specs.declared.host.EmbeddedHost.{EmbeddedHost}
+use Rattle.embed_world.specs.contracts.host.EmbeddedHost.{the_row}
 use Rattle.embed_handles.specs.Heap.{heap}
 
 abbrev pub held : Ptr → Option EmbeddedHost → Fml

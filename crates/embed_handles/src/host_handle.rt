@@ -1,11 +1,11 @@
 //! A handle: a pointer to a host on the heap, or null.
 
 ghost use Rattle.std.specs.Prelude.{◌≡◌, Option, Some, None, option_map};
-ghost use Rattle.embed_nodes.specs.declared.host.EmbeddedHost.{EmbeddedHost as Embedded};
+ghost use Rattle.embed_world.specs.declared.host.EmbeddedHost.{EmbeddedHost as Embedded};
 ghost use Rattle.embed_handles.specs.HostHeld.{held};
 
-use embed_box::Loose;
-use embed_nodes::EmbeddedHost;
+use crate::loose::Loose;
+use embed_world::EmbeddedHost;
 use std::alloc::Global;
 use std::marker::Model;
 use std::{mem, ptr};

@@ -3,9 +3,11 @@
 #![tactic(auto)]
 
 pub mod host_handle;
+mod loose;
 pub mod viewer_handle;
 pub mod world_handle;
 
 pub use host_handle::HostHandle;
+pub use loose::Loose;
 pub use viewer_handle::ViewerHandle;
 pub use world_handle::WorldHandle;

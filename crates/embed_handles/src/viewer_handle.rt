@@ -1,11 +1,11 @@
 //! A handle: a pointer to a viewer on the heap, or null.
 
 ghost use Rattle.std.specs.Prelude.{◌≡◌, Option, Some, None, option_map};
-ghost use Rattle.embed_nodes.specs.declared.viewer.EmbeddedViewer.{EmbeddedViewer as Embedded};
+ghost use Rattle.embed_world.specs.declared.viewer.EmbeddedViewer.{EmbeddedViewer as Embedded};
 ghost use Rattle.embed_handles.specs.ViewerHeld.{held};
 
-use embed_box::Loose;
-use embed_nodes::EmbeddedViewer;
+use crate::loose::Loose;
+use embed_world::EmbeddedViewer;
 use std::alloc::Global;
 use std::marker::Model;
 use std::{mem, ptr};

@@ -4,7 +4,7 @@ ghost use Rattle.std.specs.Prelude.{◌≡◌, Option, Some, None, option_map};
 ghost use Rattle.embed_world.specs.declared.world.EmbeddedWorld.{EmbeddedWorld as Embedded};
 ghost use Rattle.embed_handles.specs.WorldHeld.{held};
 
-use embed_box::Loose;
+use crate::loose::Loose;
 use embed_world::EmbeddedWorld;
 use std::alloc::Global;
 use std::marker::Model;

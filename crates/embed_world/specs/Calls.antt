@@ -11,8 +11,8 @@ use Rattle.snapshot_core.specs.declared.fault.SaveFault.TheVariants as save
 use Rattle.snapshot_core.specs.declared.fault.SnapFault.{SnapFault}
 use Rattle.snapshot_core.specs.declared.fault.SnapFault.TheVariants as snap
 use Rattle.snapshot_core.specs.declared.loading.Saved.{Saved}
-use Rattle.share_jobs.specs.declared.fault.JobFault.{JobFault}
-use Rattle.share_jobs.specs.declared.fault.JobFault.TheVariants.{Memory}
+use Rattle.app_jobs.specs.declared.fault.JobFault.{JobFault}
+use Rattle.app_jobs.specs.declared.fault.JobFault.TheVariants.{Memory}
 use Rattle.cascade_core.specs.declared.fault.ApplyFault.{ApplyFault}
 use Rattle.cascade_core.specs.declared.fault.ApplyFault.TheVariants as apply
 use Rattle.cascade_core.specs.declared.fault.PlaceFault.{PlaceFault}
@@ -22,7 +22,7 @@ use Rattle.x3d_lists.specs.Answers.{Gives}
 use Rattle.x3d_values.specs.Stamp.{StampedView}
 use Rattle.x3d_values.specs.declared.script.Kind.{Kind}
 use Rattle.embed_world.specs.Looks.{snapshot_in}
-use Rattle.share_stages.specs.Stages.{opened_stage}
+use Rattle.app_program.specs.Stages.{opened_stage}
 use Rattle.embed_world.specs.declared.fault.LookFault.{LookFault}
 use Rattle.embed_world.specs.declared.fault.LookFault.TheVariants as look
 use Rattle.embed_world.specs.declared.lists.ListEntry.{ListEntry}

@@ -1,3 +1,12 @@
 pub mod Calls
 pub mod Looks
 pub mod Pointing
+pub mod Lines
+pub mod Meeting
+pub mod Names
+pub mod Numbers
+pub mod Values
+pub mod Hosts
+pub mod Viewers
+pub mod PeerStatus
+pub mod Status

@@ -13,10 +13,10 @@ use Rattle.snapshot_core.specs.declared.fault.SaveFault.{SaveFault}
 use Rattle.snapshot_core.specs.declared.fault.SaveFault.TheVariants as save
 use Rattle.cascade_trace.specs.LineText.{line_text}
 use Rattle.cascade_world.specs.declared.world.WorldData.{WorldData}
-use Rattle.embed_reading.specs.Lines.{change_text, from_on}
-use Rattle.embed_reading.specs.Meeting.{hit_by}
-use Rattle.embed_reading.specs.Numbers.{node_numbers, numbers_of}
-use Rattle.embed_reading.specs.Values.{value_now}
+use Rattle.embed_world.specs.Lines.{change_text, from_on}
+use Rattle.embed_world.specs.Meeting.{hit_by}
+use Rattle.embed_world.specs.Numbers.{node_numbers, numbers_of}
+use Rattle.embed_world.specs.Values.{value_now}
 use Rattle.x3d_values.specs.Names.{node_type_name}
 use Rattle.x3d_values.specs.Pointing.{RayView}
 use Rattle.x3d_values.specs.ValueText.{value_text}

@@ -4,21 +4,52 @@
 //! numbers. `fault` says why it could not be read.
 #![tactic(auto)]
 
+mod buffers;
 mod fault;
+mod host;
 mod input;
+mod lines;
 mod lists;
+mod meet;
+mod named;
+mod numbers;
 mod opening;
+mod peer_status;
+mod pieces;
 mod scripts;
 mod shots;
+mod status;
+mod tell;
 mod texts;
+mod value;
+mod viewer;
+mod viewer_lists;
+mod viewer_texts;
 mod world;
 
+pub use buffers::{copy_numbers, copy_text, hand_out};
 pub use fault::LookFault;
+pub use host::EmbeddedHost;
 pub use input::{pointer_of, stamped};
+pub use lines::{push_changes, push_lines};
 pub use lists::{ListEntry, write_children, write_numbers, write_roots, write_sensors};
+pub use meet::{Meeting, met_by};
+pub use named::number_named;
+pub use numbers::{push_nodes, push_numbers};
+pub use peer_status::{NO_PACKET, status_of_floor};
 pub use shots::write_snapshot;
+pub use status::{
+    CLOSED, DONE, MEMORY, RANGE, status_of_apply, status_of_look, status_of_place, status_of_save,
+    status_of_snap,
+};
+pub use tell::{
+    ReplyAs, TakenAs, tell_field, tell_gathered, tell_joined, tell_number, tell_offer, tell_reply,
+    tell_rewound, tell_taken,
+};
 pub use texts::{
     write_changes, write_field, write_label, write_scene, write_trace, write_type, write_value,
 };
+pub use value::value_now;
+pub use viewer::EmbeddedViewer;
 pub use world::EmbeddedWorld;
 pub use x3d_values::ray_of;

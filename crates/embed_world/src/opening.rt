@@ -1,8 +1,8 @@
 //! Makes a world from a scene's text.
 
 use crate::world::EmbeddedWorld;
-use share_jobs::JobFault;
-use share_stages::stage_of;
+use app_jobs::JobFault;
+use app_program::stage_of;
 use snapshot_core::scene_mark;
 use std::alloc::Global;
 

@@ -1,7 +1,7 @@
 //! A world, with what was last read of it.
 
+use crate::named::number_named;
 use cascade_core::Stage;
-use embed_reading::number_named;
 use script_boxes::StockScript;
 
 /// A stage with the stock scripts, the mark of its scene's text, and the text and the numbers that
@@ -18,7 +18,7 @@ impl EmbeddedWorld {
     ghost use Rattle.std.specs.Prelude.{◌≡◌, length};
     ghost use Rattle.cascade_core.specs.Held.{applied_of};
     ghost use Rattle.scene_core.specs.Scene.{rows_at};
-    ghost use Rattle.embed_reading.specs.Names.{number_named};
+    ghost use Rattle.embed_world.specs.Names.{number_named};
 
     /// Returns the number of inputs that were applied, or that had been when memory ran out.
     pub fn applied(&self) -> u32

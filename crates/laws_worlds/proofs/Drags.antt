@@ -24,7 +24,7 @@ use Rattle.scene_core.specs.declared.scene.End.{End}
 use Rattle.scene_core.specs.Places.{is_pointing}
 use Rattle.scene_core.specs.Scene.{SceneView}
 use Rattle.scene_core.specs.Shape.{Shape, rows_of}
-use Rattle.pick_track.specs.Paths.{leads_to}
+use Rattle.pick_core.specs.Paths.{leads_to}
 use Rattle.cascade_world.specs.Access.{is_set}
 use Rattle.cascade_world.specs.Answers.{NodeAnswer, answer, answer_as, answer_by, forgets, forgetting, is_met, is_script, keeping, meeting, met, met_as, not_run, nothing, reacting, setting, setting_at, ticked, ticking, ticking_at, touching, turns_off}
 use Rattle.cascade_world.specs.Fits.{all_lead, drag_leads, leads}

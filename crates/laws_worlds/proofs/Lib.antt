@@ -29,3 +29,13 @@ mod Routes
 mod Starts
 mod Typed
 pub mod DocumentWorlds
+pub mod Values
+pub mod Scenes
+pub mod NetworksCounted
+mod NetworksOutputs
+pub mod Sent
+pub mod Rewound
+pub mod Saved
+pub mod Countable
+pub mod TextRewound
+pub mod NetworksWorlds

@@ -21,9 +21,9 @@ use Rattle.pick_core.specs.Motion.{clamped}
 use Rattle.pick_core.specs.Picked.{picked}
 use Rattle.pick_core.specs.Sensors.{list_of, siblings_in, sensors_of}
 use Rattle.pick_core.specs.declared.hit.Hit.{Hit}
-use Rattle.pick_track.specs.Paths.{inside, inward, is_transform, leads_to, nodes_along, outward}
-use Rattle.pick_track.specs.Track.{at_height, comes_to, met, met_at, met_on, track_of, tracked}
-use Rattle.pick_track.proofs.Leading.{paths_lead}
+use Rattle.pick_core.specs.Paths.{inside, inward, is_transform, leads_to, nodes_along, outward}
+use Rattle.pick_core.specs.Track.{at_height, comes_to, met, met_at, met_on, track_of, tracked}
+use Rattle.pick_core.proofs.Leading.{paths_lead}
 use Rattle.sensor_plane.specs.declared.pointer.Contact.{Contact}
 use Rattle.sensor_plane.specs.Paths.{path_fits}
 use Rattle.sensor_plane.specs.PlaneParts.{contact_fits}

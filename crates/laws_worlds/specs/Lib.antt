@@ -9,3 +9,10 @@ pub mod Snapshots
 pub mod Openings
 pub mod Routes
 pub mod Worlds
+pub mod Scenes
+pub mod Traces
+pub mod Networks
+pub mod Rewinding
+pub mod Opened
+pub mod TextRewinding
+pub mod NetworkWorlds

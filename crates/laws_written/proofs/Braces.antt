@@ -14,8 +14,8 @@ use Rattle.classic_tree.specs.declared.tree.BodyItem.{BodyItem}
 use Rattle.classic_tree.specs.declared.tree.Given.TheVariants as given
 use Rattle.classic_tree.specs.declared.tree.NodeText.{NodeText}
 use Rattle.proto_flat.specs.declared.flat.FlatNode.{FlatNode}
-use Rattle.laws_flat.specs.Closings.{Braces, Shown, expected, in_item, in_node, in_value}
-use Rattle.laws_flat.proofs.ClosingParts.{in_declaration, in_field, in_full, in_use}
+use Rattle.laws_documents.specs.Closings.{Braces, Shown, expected, in_item, in_node, in_value}
+use Rattle.laws_documents.proofs.ClosingParts.{in_declaration, in_field, in_full, in_use}
 use Rattle.scene_core.specs.declared.numbering.Numbering.{Numbering}
 use Rattle.scene_core.specs.declared.scene.SceneNode.{SceneNode}
 use Rattle.scene_core.specs.Numbers.{appear, close}
@@ -26,10 +26,10 @@ use Rattle.scene_core.proofs.Fuel.{visit-new, visit-old}
 use Rattle.scene_text.specs.Raw.{color_run, integer_run, number_list, number_run, pair_run, string_list, truth_list, vector_run}
 use Rattle.scene_text.specs.Tree.{Declared, Makes, Plain, PlanView, Grows, def_name, each, field_tree, node_tree, one_more, opened, shown_fields, use_tree, value_tree}
 use Rattle.scene_text.specs.Tree.{Shown as Field}
-use Rattle.laws_text.proofs.NumberedLists.{length_set}
-use Rattle.laws_text.proofs.NumberedScenes.{found}
-use Rattle.laws_text.proofs.Visits.{full, unopened_few}
-use Rattle.laws_text.specs.Writable.{IsShallow}
+use Rattle.laws_written.proofs.NumberedLists.{length_set}
+use Rattle.laws_written.proofs.NumberedScenes.{found}
+use Rattle.laws_written.proofs.Visits.{full, unopened_few}
+use Rattle.laws_written.specs.Writable.{IsShallow}
 use Rattle.laws_written.proofs.OrderShown.{links}
 use Rattle.laws_written.proofs.Plans.{Stand, all_split, begins, none_shallow, one, ones_are, shallow_low, type_is}
 

@@ -17,8 +17,8 @@ use Rattle.classic_tree.specs.declared.tree.Statement.{Statement}
 use Rattle.classic_tree.specs.declared.tree.Statement.TheVariants as statement
 use Rattle.proto_flat.specs.declared.flat.Flat.{Flat}
 use Rattle.proto_flat.specs.declared.flat.FlatNode.{FlatNode}
-use Rattle.laws_flat.specs.Closings.{Braces, Shown, closings, expected, in_item, in_node, in_statement}
-use Rattle.laws_flat.proofs.ClosingParts.{in_field, in_full, in_node_statement, in_route}
+use Rattle.laws_documents.specs.Closings.{Braces, Shown, closings, expected, in_item, in_node, in_statement}
+use Rattle.laws_documents.proofs.ClosingParts.{in_field, in_full, in_node_statement, in_route}
 use Rattle.scene_core.specs.declared.numbering.Numbering.{Numbering}
 use Rattle.scene_core.specs.declared.scene.Route.{Route}
 use Rattle.scene_core.specs.Building.{scene_of}
@@ -27,9 +27,9 @@ use Rattle.scene_core.specs.Scene.{SceneView, label_of, type_at}
 use Rattle.scene_text.specs.Places.{is_named, named}
 use Rattle.scene_text.specs.Statements.{helper_root, helpers_of, root_tree, roots_of, route_of, routes_of, scene_document, statements_of, switch_of}
 use Rattle.scene_text.specs.Tree.{PlanView, Grows, each}
-use Rattle.laws_text.specs.Again.{in_place}
-use Rattle.laws_text.specs.Writable.{AreKeepable, IsShallow}
-use Rattle.laws_text.proofs.Lists.{all_weaker}
+use Rattle.laws_written.specs.ScenesAgain.{in_place}
+use Rattle.laws_written.specs.Writable.{AreKeepable, IsShallow}
+use Rattle.laws_written.proofs.Lists.{all_weaker}
 use Rattle.laws_written.specs.Braces.{WrittenNodesClose, as_switch, written_as, written_braces}
 use Rattle.laws_written.proofs.Plans.{Stand, as_many, helpers_there, numbered, one, order_is, plan, roots_are, roots_made, roots_there, s0, s1, s2, stands, tree}
 use Rattle.laws_written.proofs.Braces.{Closes, F, Making, as_written, ended, nodes_close, nodes_in_turn, told, type_named}

@@ -4,11 +4,11 @@ use Rattle.classic_tree.specs.declared.tree.Document.{Document}
 use Rattle.proto_flat.specs.declared.flat.FlatNode.{FlatNode}
 use Rattle.proto_meaning.specs.Flat.{fields_of}
 use Rattle.scene_core.specs.Shape.{declaration_entry}
-use Rattle.laws_flat.proofs.Lists.{IfSome, at_all}
-use Rattle.laws_plain.specs.Laws.{HasNamesApart}
-use Rattle.laws_plain.specs.Written.{IsWritten, written}
-use Rattle.laws_plain.proofs.Apart.{apart_distinct, apart_none_own}
-use Rattle.laws_plain.proofs.WrittenWhole.{flats_are_written, names_are_apart}
+use Rattle.laws_documents.proofs.Lists.{IfSome, at_all}
+use Rattle.laws_documents.specs.PlainLaws.{HasNamesApart}
+use Rattle.laws_documents.specs.Written.{IsWritten, written}
+use Rattle.laws_documents.proofs.Apart.{apart_distinct, apart_none_own}
+use Rattle.laws_documents.proofs.WrittenWhole.{flats_are_written, names_are_apart}
 use Rattle.laws_written.specs.Interfaces.{InterfacesAreDistinct, IsDistinctInterface}
 
 abbrev IsGoodFlat : FlatNode → Type 0

@@ -10,16 +10,16 @@ use Rattle.x3d_values.specs.Tables.{FieldRowView, are_distinct, row_named, rows}
 use Rattle.classic_tree.specs.declared.tree.Declaration.{Declaration}
 use Rattle.proto_flat.specs.declared.flat.Flat.{Flat}
 use Rattle.proto_flat.specs.declared.flat.FlatNode.{FlatNode}
-use Rattle.laws_flat.specs.Signatures.{of_row}
+use Rattle.laws_documents.specs.Signatures.{of_row}
 use Rattle.scene_core.specs.declared.row.DeclaredField.{DeclaredField}
 use Rattle.scene_core.specs.declared.scene.SceneNode.{SceneNode}
 use Rattle.scene_core.specs.Building.{scene_of}
 use Rattle.scene_core.specs.Scene.{SceneView}
 use Rattle.scene_core.specs.Shape.{declaration_entry, declared_by, declared_entry, most_declared, numbered_fields}
-use Rattle.laws_text.proofs.NumberedLists.{some_is, within}
-use Rattle.laws_text.proofs.NumberedScenes.{IsSceneOf, found, label_in, numbers_of, scene_is}
+use Rattle.laws_written.proofs.NumberedLists.{some_is, within}
+use Rattle.laws_written.proofs.NumberedScenes.{IsSceneOf, found, label_in, numbers_of, scene_is}
 use Rattle.laws_written.proofs.OrderFields.{HasValues, has_values}
-use Rattle.laws_flat.proofs.Lists.{all_map}
+use Rattle.laws_documents.proofs.Lists.{all_map}
 use Rattle.laws_written.specs.Distinct.{HasDistinctFields}
 use Rattle.laws_written.specs.FieldsFlats.{WrittenFieldsStay}
 use Rattle.laws_written.specs.Interfaces.{IsDistinctInterface, IsNoneOf}

@@ -16,19 +16,19 @@ use Rattle.classic_tree.specs.declared.tree.Statement.{Statement}
 use Rattle.classic_tree.specs.declared.tree.Statement.TheVariants as statement
 use Rattle.proto_flat.specs.declared.flat.Flat.{Flat}
 use Rattle.proto_flat.specs.declared.flat.FlatNode.{FlatNode}
-use Rattle.laws_flat.specs.Signatures.{Signature}
-use Rattle.laws_flat.specs.Fields.{interface_of, numbering}
-use Rattle.laws_flat.specs.Shapes.{FieldShape, NodeShape, Shapes, in_node, in_statement, no_node, node_of, shapes}
-use Rattle.laws_flat.proofs.ShapeParts.{all_fields, declared_shapes, in_full, in_node_statement, in_route, shape-field}
+use Rattle.laws_documents.specs.Signatures.{Signature}
+use Rattle.laws_documents.specs.Fields.{interface_of, numbering}
+use Rattle.laws_documents.specs.Shapes.{FieldShape, NodeShape, Shapes, in_node, in_statement, no_node, node_of, shapes}
+use Rattle.laws_documents.proofs.ShapeParts.{all_fields, declared_shapes, in_full, in_node_statement, in_route, shape-field}
 use Rattle.scene_core.specs.declared.scene.Route.{Route}
 use Rattle.scene_core.specs.Building.{scene_of}
 use Rattle.scene_core.specs.Numbers as order
 use Rattle.scene_core.specs.Scene.{SceneView}
 use Rattle.scene_text.specs.Statements.{helper_root, helpers_of, root_tree, roots_of, route_of, routes_of, scene_document, statements_of, switch_of}
 use Rattle.scene_text.specs.Tree.{PlanView, Grows, each}
-use Rattle.laws_text.specs.Again.{in_place}
-use Rattle.laws_text.specs.Writable.{AreKeepable, IsShallow}
-use Rattle.laws_text.proofs.Lists.{all_weaker}
+use Rattle.laws_written.specs.ScenesAgain.{in_place}
+use Rattle.laws_written.specs.Writable.{AreKeepable, IsShallow}
+use Rattle.laws_written.proofs.Lists.{all_weaker}
 use Rattle.laws_written.proofs.Braces.{type_named}
 use Rattle.laws_written.proofs.NodesParts.{holders, low_shallow}
 use Rattle.laws_written.proofs.Plans.{Stand, as_many, helpers_there, numbered, one, order_is, plan, roots_are, roots_made, roots_there, s0, s1, s2, stands, tree}

@@ -11,10 +11,10 @@ use Rattle.classic_tree.specs.declared.tree.Given.TheVariants as given
 use Rattle.classic_tree.specs.declared.tree.NodeText.{NodeText}
 use Rattle.classic_tree.specs.declared.tree.RawValue.{RawValue}
 use Rattle.classic_tree.specs.declared.tree.RawValue.TheVariants as raw
-use Rattle.laws_flat.specs.Signatures.{Signature, own_interface}
-use Rattle.laws_flat.specs.Fields.{Numbering, interface_of, numbering}
-use Rattle.laws_flat.specs.Shapes.{FieldShape, blank, item_shape, no_node, node_of}
-use Rattle.laws_flat.proofs.ShapeParts.{all_fields, declared_shapes, shape-declaration, shape-field}
+use Rattle.laws_documents.specs.Signatures.{Signature, own_interface}
+use Rattle.laws_documents.specs.Fields.{Numbering, interface_of, numbering}
+use Rattle.laws_documents.specs.Shapes.{FieldShape, blank, item_shape, no_node, node_of}
+use Rattle.laws_documents.proofs.ShapeParts.{all_fields, declared_shapes, shape-declaration, shape-field}
 use Rattle.scene_text.specs.Raw.{color_run, integer_run, number_list, number_run, pair_run, string_list, truth_list, vector_run}
 use Rattle.scene_text.specs.Tree.{Declared, Makes, Plain, Shown, Grows, each, field_tree, one_more, value_tree}
 use Rattle.laws_written.proofs.Braces.{type_named}

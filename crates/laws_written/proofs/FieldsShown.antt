@@ -9,9 +9,9 @@ use Rattle.x3d_values.specs.declared.fields.Fields.{Fields}
 use Rattle.x3d_values.specs.declared.node_type.NodeType.{NodeType}
 use Rattle.x3d_values.specs.declared.value.Value.{Value}
 use Rattle.x3d_values.specs.Tables.{FieldRowView, are_distinct, rows}
-use Rattle.laws_flat.specs.Signatures.{Signature, own_interface}
-use Rattle.laws_flat.specs.Fields.{Numbering, numbering}
-use Rattle.laws_flat.specs.Shapes.{FieldShape, NodeShape, blank, field_shape}
+use Rattle.laws_documents.specs.Signatures.{Signature, own_interface}
+use Rattle.laws_documents.specs.Fields.{Numbering, numbering}
+use Rattle.laws_documents.specs.Shapes.{FieldShape, NodeShape, blank, field_shape}
 use Rattle.scene_core.specs.declared.row.DeclaredField.{DeclaredField}
 use Rattle.scene_core.specs.declared.scene.Route.{Route}
 use Rattle.scene_core.specs.declared.scene.SceneNode.{SceneNode}

@@ -12,20 +12,20 @@ use Rattle.classic_tree.specs.declared.tree.Given.TheVariants as given
 use Rattle.proto_flat.specs.declared.flat.Flat.{Flat}
 use Rattle.proto_flat.specs.declared.flat.FlatField.{FlatField}
 use Rattle.proto_flat.specs.declared.flat.FlatNode.{FlatNode}
-use Rattle.laws_flat.specs.Signatures.{Signature, signatures}
-use Rattle.laws_flat.specs.Closings.{Braces, IsOfNode, Shown, closings, expected}
-use Rattle.laws_flat.specs.Uses.{held, some}
-use Rattle.laws_flat.specs.Shapes.{NodeShape, NodesTellTheRest, field_shape, node_shape}
-use Rattle.laws_plain.specs.Laws.{ShapesStay}
+use Rattle.laws_documents.specs.Signatures.{Signature, signatures}
+use Rattle.laws_documents.specs.Closings.{Braces, IsOfNode, Shown, closings, expected}
+use Rattle.laws_documents.specs.Uses.{held, some}
+use Rattle.laws_documents.specs.Shapes.{NodeShape, NodesTellTheRest, field_shape, node_shape}
+use Rattle.laws_documents.specs.PlainLaws.{ShapesStay}
 use Rattle.scene_core.specs.declared.row.DeclaredField.{DeclaredField}
 use Rattle.scene_core.specs.declared.scene.Route.{Route}
 use Rattle.scene_core.specs.declared.scene.SceneNode.{SceneNode}
 use Rattle.scene_core.specs.Building.{scene_of}
 use Rattle.scene_core.specs.Scene.{SceneView, declared_at}
 use Rattle.scene_text.specs.Statements.{scene_document}
-use Rattle.laws_text.specs.Children.{children}
-use Rattle.laws_text.proofs.NumberedScenes.{found}
-use Rattle.laws_text.specs.Writable.{AreKeepable}
+use Rattle.laws_written.specs.Children.{children}
+use Rattle.laws_written.proofs.NumberedScenes.{found}
+use Rattle.laws_written.specs.Writable.{AreKeepable}
 use Rattle.laws_written.specs.Braces.{WrittenNodesClose, as_switch, written_as, written_braces}
 use Rattle.laws_written.specs.NodesFlats.{WrittenNodesStay}
 use Rattle.laws_written.specs.Nodes.{in_switch, written_nodes}

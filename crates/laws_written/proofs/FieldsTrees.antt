@@ -14,10 +14,10 @@ use Rattle.classic_tree.specs.declared.tree.BodyItem.{BodyItem}
 use Rattle.classic_tree.specs.declared.tree.Given.TheVariants as given
 use Rattle.classic_tree.specs.declared.tree.NodeText.{NodeText}
 use Rattle.proto_flat.specs.declared.flat.FlatNode.{FlatNode}
-use Rattle.laws_flat.specs.Signatures.{own_interface}
-use Rattle.laws_flat.specs.Fields.{numbering}
-use Rattle.laws_flat.specs.Shapes.{NodeShape, Shapes, in_node, in_value, item_shape, node_of}
-use Rattle.laws_flat.proofs.ShapeParts.{all_fields, declared_shapes, in_full, in_use, shape-declaration, shape-field}
+use Rattle.laws_documents.specs.Signatures.{own_interface}
+use Rattle.laws_documents.specs.Fields.{numbering}
+use Rattle.laws_documents.specs.Shapes.{NodeShape, Shapes, in_node, in_value, item_shape, node_of}
+use Rattle.laws_documents.proofs.ShapeParts.{all_fields, declared_shapes, in_full, in_use, shape-declaration, shape-field}
 use Rattle.scene_core.specs.declared.numbering.Numbering.{Numbering}
 use Rattle.scene_core.specs.declared.scene.SceneNode.{SceneNode}
 use Rattle.scene_core.specs.Numbers.{appear, close}
@@ -28,10 +28,10 @@ use Rattle.scene_core.proofs.Fuel.{visit-new, visit-old}
 use Rattle.scene_text.specs.Raw.{color_run, integer_run, number_list, number_run, pair_run, string_list, truth_list, vector_run}
 use Rattle.scene_text.specs.Tree.{Declared, Makes, Plain, PlanView, Grows, def_name, each, field_tree, node_tree, one_more, opened, shown_fields, use_tree, value_tree}
 use Rattle.scene_text.specs.Tree.{Shown as Field}
-use Rattle.laws_text.proofs.NumberedLists.{length_set}
-use Rattle.laws_text.proofs.NumberedScenes.{found}
-use Rattle.laws_text.proofs.Visits.{full, unopened_few}
-use Rattle.laws_text.specs.Writable.{IsShallow}
+use Rattle.laws_written.proofs.NumberedLists.{length_set}
+use Rattle.laws_written.proofs.NumberedScenes.{found}
+use Rattle.laws_written.proofs.Visits.{full, unopened_few}
+use Rattle.laws_written.specs.Writable.{IsShallow}
 use Rattle.laws_written.proofs.OrderShown.{links}
 use Rattle.laws_written.proofs.Plans.{Stand, all_split, begins, none_shallow, one, ones_are, shallow_low, type_is}
 use Rattle.laws_written.proofs.FieldsItems.{node_shown}

@@ -11,7 +11,7 @@ use Rattle.x3d_values.specs.declared.value.Value.TheVariants as value
 use Rattle.x3d_values.specs.Tables.{FieldRowView, rows}
 use Rattle.x3d_values.specs.Values.{nodes_of}
 use Rattle.proto_flat.specs.declared.flat.FlatField.{FlatField}
-use Rattle.laws_flat.specs.Order.{nodes_in}
+use Rattle.laws_documents.specs.Order.{nodes_in}
 use Rattle.scene_core.specs.declared.row.DeclaredField.{DeclaredField}
 use Rattle.scene_core.specs.declared.scene.Route.{Route}
 use Rattle.scene_core.specs.declared.scene.SceneNode.{SceneNode}

@@ -21,8 +21,8 @@ use Rattle.classic_tree.specs.declared.tree.NodeText.{NodeText}
 use Rattle.classic_tree.specs.declared.tree.NodeText.TheVariants as node
 use Rattle.classic_tree.specs.declared.tree.RawValue.TheVariants as raw
 use Rattle.classic_tree.specs.declared.tree.Statement.{Statement}
-use Rattle.laws_flat.specs.Uses.{Reading, read, some}
-use Rattle.laws_flat.proofs.Lists.{all_append, all_flat, all_push}
+use Rattle.laws_documents.specs.Uses.{Reading, read, some}
+use Rattle.laws_documents.proofs.Lists.{all_append, all_flat, all_push}
 use Rattle.scene_core.specs.declared.row.DeclaredField.{DeclaredField}
 use Rattle.scene_core.specs.declared.scene.Route.{Route}
 use Rattle.scene_core.specs.declared.scene.SceneNode.{SceneNode}
@@ -31,17 +31,17 @@ use Rattle.scene_text.specs.Raw.{color_run, integer_run, number_list, number_run
 use Rattle.scene_text.specs.Statements.{helper_root, helpers_of, root_tree, roots_of, route_of, routes_of, scene_document, statements_of, switch_of}
 use Rattle.scene_text.specs.Tree.{Declared, Makes, Plain, PlanView, Grows, def_name, each, field_tree, new_type, node_tree, one_more, opened, shown_fields, value_tree}
 use Rattle.scene_text.specs.Tree.{Shown as Field}
-use Rattle.laws_text.proofs.NumberedLists.{some_is}
+use Rattle.laws_written.proofs.NumberedLists.{some_is}
 use Rattle.laws_written.specs.Nodes.{AreNodesRead, WrittenNodesAreRead, written_nodes, written_roots}
 use Rattle.laws_written.proofs.Braces.{type_named}
 use Rattle.laws_written.proofs.Plans.{plan}
 use Rattle.laws_written.specs.Distinct.{HaveDistinctFields}
-use Rattle.laws_plain.specs.Parts.{Braces, BraceField, BraceItem, entries, in_item, in_node, in_statement, in_value, parts}
-use Rattle.laws_plain.specs.Sound.{AllNamed, AreNamed, IsOfType, IsSound, SoundDocumentsAreFlat}
+use Rattle.laws_documents.specs.Parts.{Braces, BraceField, BraceItem, entries, in_item, in_node, in_statement, in_value, parts}
+use Rattle.laws_documents.specs.Sound.{AllNamed, AreNamed, IsOfType, IsSound, SoundDocumentsAreFlat}
 use Rattle.laws_written.specs.LimitsWritten.{WrittenScenesAreFlat}
-use Rattle.laws_plain.proofs.PartTexts.{in_full, in_node_statement, in_route, in_use, part_declaration, part_field}
+use Rattle.laws_documents.proofs.PartTexts.{in_full, in_node_statement, in_route, in_use, part_declaration, part_field}
 use Rattle.laws_written.proofs.LimitsShown.{shown_entries, shown_entry, shown_once}
-use Rattle.laws_plain.proofs.SoundParts.{AreSound}
+use Rattle.laws_documents.proofs.SoundParts.{AreSound}
 
 -- ---- of each in turn
 

@@ -14,10 +14,10 @@ use Rattle.x3d_values.specs.declared.node_type.NodeType.TheVariants.{Script}
 use Rattle.x3d_values.specs.declared.table.FieldRow.{FieldRow}
 use Rattle.x3d_values.specs.declared.value.Value.{Value}
 use Rattle.x3d_values.specs.Tables.{FieldRowView as Row, are_distinct, numbered, row_named, rows}
-use Rattle.laws_flat.specs.Signatures.{KnownField}
-use Rattle.laws_flat.specs.Signatures.{Signature, numbered_from, of_declared, of_row, of_type, own_interface}
-use Rattle.laws_flat.specs.Fields.{Numbering, number_of, numbering}
-use Rattle.laws_flat.proofs.Lists.{all_push, all_weaker}
+use Rattle.laws_documents.specs.Signatures.{KnownField}
+use Rattle.laws_documents.specs.Signatures.{Signature, numbered_from, of_declared, of_row, of_type, own_interface}
+use Rattle.laws_documents.specs.Fields.{Numbering, number_of, numbering}
+use Rattle.laws_documents.proofs.Lists.{all_push, all_weaker}
 use Rattle.scene_core.specs.declared.row.DeclaredField.{DeclaredField}
 use Rattle.scene_core.specs.declared.scene.SceneNode.{SceneNode}
 use Rattle.scene_core.specs.Scene.{declared_at}
@@ -25,14 +25,14 @@ use Rattle.scene_core.specs.Shape.{declared_entry, numbered_fields}
 use Rattle.scene_core.proofs.RowLemmas.{named-append}
 use Rattle.scene_text.specs.Defaulted.{is_default}
 use Rattle.scene_text.specs.Tree.{Declared, Plain, PlanView, Shown, declared_from, present_value, shown_field, shown_fields, shown_from, shown_if}
-use Rattle.laws_text.proofs.NumberedLists.{some_is}
+use Rattle.laws_written.proofs.NumberedLists.{some_is}
 use Rattle.laws_written.specs.Distinct.{HasDistinctFields}
 use Rattle.laws_written.specs.Fields.{declared_signature}
 use Rattle.laws_written.proofs.Naming.{AreNumbered, fields_numbered, owned}
 use Rattle.laws_written.proofs.Naming.{signed as signatures_of}
-use Rattle.laws_plain.specs.Parts.{Declares, BraceField, Gives}
-use Rattle.laws_plain.specs.Sound.{AreOnce, IsNext, IsOfType, entry_number, is_among, signed, with_next}
-use Rattle.laws_plain.specs.Sound.{unless_own as unless}
+use Rattle.laws_documents.specs.Parts.{Declares, BraceField, Gives}
+use Rattle.laws_documents.specs.Sound.{AreOnce, IsNext, IsOfType, entry_number, is_among, signed, with_next}
+use Rattle.laws_documents.specs.Sound.{unless_own as unless}
 
 -- ---- the numbers of fields
 

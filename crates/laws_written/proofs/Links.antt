@@ -15,14 +15,14 @@ use Rattle.classic_tree.specs.declared.tree.RawValue.{RawValue}
 use Rattle.classic_tree.specs.declared.tree.RawValue.TheVariants as value
 use Rattle.classic_tree.specs.declared.tree.Statement.{Statement}
 use Rattle.classic_tree.specs.declared.tree.Statement.TheVariants as statement
-use Rattle.laws_flat.specs.Closings.{Braces, closings, in_given, in_item, in_node, in_statement, in_value}
-use Rattle.laws_flat.specs.Uses.{OpenBraces, has_name}
-use Rattle.laws_flat.proofs.ClosingParts.{in_declaration, in_field, in_full, in_item_proto, in_item_route, in_node_statement, in_proto, in_route, in_use}
-use Rattle.laws_flat.proofs.Trees.{Layers, OfGiven, OfValue, every}
-use Rattle.laws_flat.proofs.Lists.{all_append, get_middle, set_middle}
-use Rattle.laws_flat.specs.Readings.{StateChange, each, read_document, read_given, read_item, read_node, read_statement, read_value}
-use Rattle.laws_flat.specs.Routes.{Reading, closes, last_from, node_at, node_of, nothing_read, opens, routes, steps}
-use Rattle.laws_flat.proofs.Readings.{read-declaration, read-field, read-full, read-item-proto, read-item-route, read-node-statement, read-proto, read-route, read-use}
+use Rattle.laws_documents.specs.Closings.{Braces, closings, in_given, in_item, in_node, in_statement, in_value}
+use Rattle.laws_documents.specs.Uses.{OpenBraces, has_name}
+use Rattle.laws_documents.proofs.ClosingParts.{in_declaration, in_field, in_full, in_item_proto, in_item_route, in_node_statement, in_proto, in_route, in_use}
+use Rattle.laws_documents.proofs.Trees.{Layers, OfGiven, OfValue, every}
+use Rattle.laws_documents.proofs.Lists.{all_append, get_middle, set_middle}
+use Rattle.laws_documents.specs.Readings.{StateChange, each, read_document, read_given, read_item, read_node, read_statement, read_value}
+use Rattle.laws_documents.specs.Routes.{Reading, closes, last_from, node_at, node_of, nothing_read, opens, routes, steps}
+use Rattle.laws_documents.proofs.Readings.{read-declaration, read-field, read-full, read-item-proto, read-item-route, read-node-statement, read-proto, read-route, read-use}
 
 abbrev pub open_braces : Option (List ℕ) → OpenBraces
 open_braces name = record { name = name; node = None }

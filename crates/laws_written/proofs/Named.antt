@@ -5,14 +5,14 @@ use Rattle.std.specs.List.{AllByRecursion, flat_map, range_with_len}
 use Rattle.std.proofs.lemmas.Bool.{le-leb, ltb-false, ltb-true}
 use Rattle.std.proofs.lemmas.Slice.Eq.{bytes_eq-Decides}
 use Rattle.classic_tree.specs.declared.tree.Document.{Document}
-use Rattle.laws_flat.specs.Closings.{Braces, Shown, closings, expected}
-use Rattle.laws_flat.specs.Uses.{has_name}
-use Rattle.laws_flat.specs.Readings.{read_document}
-use Rattle.laws_flat.specs.Routes.{last_from, node_at, nothing_read, steps}
+use Rattle.laws_documents.specs.Closings.{Braces, Shown, closings, expected}
+use Rattle.laws_documents.specs.Uses.{has_name}
+use Rattle.laws_documents.specs.Readings.{read_document}
+use Rattle.laws_documents.specs.Routes.{last_from, node_at, nothing_read, steps}
 use Rattle.scene_core.specs.declared.scene.Route.{Route}
 use Rattle.scene_core.specs.Scene.{SceneView, label_of, name_at}
 use Rattle.scene_text.specs.Places.{ends_of, is_named, places, times}
-use Rattle.laws_text.proofs.Lists.{all_weaker}
+use Rattle.laws_written.proofs.Lists.{all_weaker}
 use Rattle.laws_written.specs.Braces.{as_switch, written_as, written_braces, written_name}
 use Rattle.laws_written.proofs.Counts.{hits, hits_are, hits_less, hits_own}
 use Rattle.laws_written.proofs.Links.{AreOnly, if_one, name_stands, names_in}

@@ -5,10 +5,10 @@ use Rattle.std.specs.Option.{option_or}
 use Rattle.std.proofs.lemmas.Bool.{cases_lt}
 use Rattle.std.proofs.lemmas.List.Sums.{fold-append}
 use Rattle.std.proofs.lemmas.Slice.Eq.{bytes_eq-Decides}
-use Rattle.laws_flat.specs.Uses.{OpenBraces, has_name, named, named_next}
+use Rattle.laws_documents.specs.Uses.{OpenBraces, has_name, named, named_next}
 use Rattle.scene_core.specs.Scene.{label_of}
 use Rattle.scene_text.specs.Tree.{PlanView, def_name}
-use Rattle.laws_text.proofs.NumberedLists.{some_is}
+use Rattle.laws_written.proofs.NumberedLists.{some_is}
 
 -- ---- a list of braces
 

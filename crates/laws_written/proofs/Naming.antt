@@ -12,9 +12,9 @@ use Rattle.x3d_values.specs.declared.node_type.NodeType.{NodeType}
 use Rattle.x3d_values.specs.declared.node_type.NodeType.TheVariants.{Script}
 use Rattle.x3d_values.specs.declared.table.FieldRow.{FieldRow}
 use Rattle.x3d_values.specs.Tables.{FieldRowView, are_distinct, numbered, row_named, rows}
-use Rattle.laws_flat.specs.Signatures.{KnownField}
-use Rattle.laws_flat.specs.Signatures.{Signature, numbered_from, of_row, of_signature, of_type, own_interface}
-use Rattle.laws_flat.specs.Fields.{Numbering, number_of, numbering}
+use Rattle.laws_documents.specs.Signatures.{KnownField}
+use Rattle.laws_documents.specs.Signatures.{Signature, numbered_from, of_row, of_signature, of_type, own_interface}
+use Rattle.laws_documents.specs.Fields.{Numbering, number_of, numbering}
 use Rattle.scene_core.specs.declared.row.DeclaredField.{DeclaredField}
 use Rattle.scene_core.specs.Shape.{declared_entry, most_declared, numbered_fields}
 use Rattle.scene_core.proofs.RowLemmas.{named-append}

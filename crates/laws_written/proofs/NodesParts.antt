@@ -23,15 +23,15 @@ use Rattle.scene_core.specs.Scene.{SceneView, rows_at, shape_of, value_at}
 use Rattle.scene_core.specs.Shape.{Shape, declaration_entry, declared_by, declared_entry, most_declared, numbered_fields, rows_of}
 use Rattle.scene_text.specs.Places.{nodes_within}
 use Rattle.scene_text.specs.Tree.{PlanView, shown_fields}
-use Rattle.laws_text.specs.Again.{HaveChildren}
-use Rattle.laws_text.specs.Children.{children}
-use Rattle.laws_text.proofs.NumberedLists.{some_is, within}
-use Rattle.laws_text.proofs.Lower.{children_lower}
-use Rattle.laws_text.proofs.NumberedScenes.{IsSceneOf, found, label_in, numbers_of, scene_is}
+use Rattle.laws_written.specs.ScenesAgain.{HaveChildren}
+use Rattle.laws_written.specs.Children.{children}
+use Rattle.laws_written.proofs.NumberedLists.{some_is, within}
+use Rattle.laws_written.proofs.Lower.{children_lower}
+use Rattle.laws_written.proofs.NumberedScenes.{IsSceneOf, found, label_in, numbers_of, scene_is}
 use Rattle.scene_core.specs.Building.{scene_of}
-use Rattle.laws_text.specs.Writable.{AreKeepable, IsShallow}
-use Rattle.laws_text.proofs.Chains.{IsClosedNode, all_shallow}
-use Rattle.laws_text.proofs.Lists.{all_weaker}
+use Rattle.laws_written.specs.Writable.{AreKeepable, IsShallow}
+use Rattle.laws_written.proofs.Chains.{IsClosedNode, all_shallow}
+use Rattle.laws_written.proofs.Lists.{all_weaker}
 use Rattle.laws_written.proofs.OrderFields.{FitDeclared, FitRows, HasValues, has_values}
 use Rattle.laws_written.proofs.OrderShown.{links, shown_links}
 

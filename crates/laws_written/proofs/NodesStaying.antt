@@ -4,15 +4,15 @@ use Rattle.std.specs.Prelude.{is_some}
 use Rattle.std.specs.List.{AllByRecursion, range_with_len}
 use Rattle.x3d_values.specs.declared.node_type.NodeType.{NodeType}
 use Rattle.classic_tree.specs.declared.tree.Document.{Document}
-use Rattle.laws_flat.specs.Closings.{Braces, IsOfNode, Shown, closings, expected}
-use Rattle.laws_flat.specs.Uses.{some}
-use Rattle.laws_plain.proofs.Closing.{nodes_close}
-use Rattle.laws_plain.proofs.Uses.{uses_are_named}
+use Rattle.laws_documents.specs.Closings.{Braces, IsOfNode, Shown, closings, expected}
+use Rattle.laws_documents.specs.Uses.{some}
+use Rattle.laws_documents.proofs.Closing.{nodes_close}
+use Rattle.laws_documents.proofs.Uses.{uses_are_named}
 use Rattle.scene_core.specs.declared.scene.Route.{Route}
 use Rattle.scene_core.specs.Scene.{SceneView}
 use Rattle.scene_text.specs.Statements.{scene_document}
-use Rattle.laws_text.proofs.NumberedScenes.{found}
-use Rattle.laws_text.specs.Labels.{LabelsAreDistinct}
+use Rattle.laws_written.proofs.NumberedScenes.{found}
+use Rattle.laws_written.specs.Labels.{LabelsAreDistinct}
 use Rattle.laws_written.specs.Braces.{as_switch, written_as, written_braces}
 use Rattle.laws_written.specs.NodesFlats.{WrittenNodesStay}
 use Rattle.laws_written.proofs.Closing.{all_close}

@@ -12,9 +12,9 @@ use Rattle.classic_tree.specs.declared.tree.BodyItem.TheVariants as item
 use Rattle.classic_tree.specs.declared.tree.Given.TheVariants as given
 use Rattle.classic_tree.specs.declared.tree.NodeText.{NodeText}
 use Rattle.proto_flat.specs.declared.flat.FlatNode.{FlatNode}
-use Rattle.laws_flat.specs.Readings.{each as each_read, read_item, read_node, read_value}
-use Rattle.laws_flat.specs.Uses.{OpenBraces, Reading, closes, named, opens, some, stands, steps}
-use Rattle.laws_flat.proofs.Readings.{read-declaration, read-field, read-full, read-use}
+use Rattle.laws_documents.specs.Readings.{each as each_read, read_item, read_node, read_value}
+use Rattle.laws_documents.specs.Uses.{OpenBraces, Reading, closes, named, opens, some, stands, steps}
+use Rattle.laws_documents.proofs.Readings.{read-declaration, read-field, read-full, read-use}
 use Rattle.scene_core.specs.declared.numbering.Numbering.{Numbering}
 use Rattle.scene_core.specs.declared.scene.SceneNode.{SceneNode}
 use Rattle.scene_core.specs.Numbers.{appear, close, is_new}
@@ -25,10 +25,10 @@ use Rattle.scene_core.proofs.Fuel.{visit-new, visit-old}
 use Rattle.scene_text.specs.Places.{places}
 use Rattle.scene_text.specs.Raw.{color_run, integer_run, number_list, number_run, pair_run, string_list, truth_list, vector_run}
 use Rattle.scene_text.specs.Tree.{Declared, Makes, Plain, PlanView, Shown, Grows, declaration, def_name, each, field_tree, node_tree, opened, shown_fields, use_tree, value_tree}
-use Rattle.laws_text.proofs.NumberedLists.{In, IsMarked, length_set, mark_was, push_keeps, push_last, set_other, within}
-use Rattle.laws_text.proofs.NumberedScenes.{found}
-use Rattle.laws_text.proofs.Visits.{Seen, full, unopened_few}
-use Rattle.laws_text.specs.Writable.{IsShallow}
+use Rattle.laws_written.proofs.NumberedLists.{In, IsMarked, length_set, mark_was, push_keeps, push_last, set_other, within}
+use Rattle.laws_written.proofs.NumberedScenes.{found}
+use Rattle.laws_written.proofs.Visits.{Seen, full, unopened_few}
+use Rattle.laws_written.specs.Writable.{IsShallow}
 use Rattle.laws_written.proofs.OrderShown.{links}
 use Rattle.laws_written.proofs.Counts.{appear_less, hits, hits_append, hits_less, hits_own, unwritten}
 use Rattle.laws_written.proofs.Plans.{none_shallow, one, shallow_low, type_is}

@@ -15,9 +15,9 @@ use Rattle.classic_tree.specs.declared.tree.RawValue.TheVariants as raw
 use Rattle.classic_tree.specs.declared.tree.Statement.{Statement}
 use Rattle.proto_flat.specs.declared.flat.Flat.{Flat}
 use Rattle.proto_flat.specs.declared.flat.FlatNode.{FlatNode}
-use Rattle.laws_flat.specs.Readings.{each as each_read, read_node, read_statement}
-use Rattle.laws_flat.specs.Uses.{Reading, closes, nothing_read, opens, read, some, steps}
-use Rattle.laws_flat.proofs.Readings.{read-field, read-full, read-node-statement, read-route}
+use Rattle.laws_documents.specs.Readings.{each as each_read, read_node, read_statement}
+use Rattle.laws_documents.specs.Uses.{Reading, closes, nothing_read, opens, read, some, steps}
+use Rattle.laws_documents.proofs.Readings.{read-field, read-full, read-node-statement, read-route}
 use Rattle.scene_core.specs.declared.numbering.Numbering.{Numbering}
 use Rattle.scene_core.specs.declared.scene.Route.{Route}
 use Rattle.scene_core.specs.Building.{scene_of}
@@ -27,13 +27,13 @@ use Rattle.scene_core.specs.Scene.{SceneView}
 use Rattle.scene_text.specs.Places.{nodes_within, places}
 use Rattle.scene_text.specs.Statements.{helper_root, helpers_of, root_tree, roots_of, route_of, routes_of, scene_document, statements_of, switch_of}
 use Rattle.scene_text.specs.Tree.{Makes, PlanView, Grows, each, one_more}
-use Rattle.laws_text.specs.Again.{HaveChildren, in_place}
-use Rattle.laws_text.specs.Children.{children}
-use Rattle.laws_text.proofs.NumberedLists.{some_is}
-use Rattle.laws_text.proofs.NumberedScenes.{found}
-use Rattle.laws_text.specs.Labels.{LabelsAreDistinct}
-use Rattle.laws_text.specs.Writable.{AreKeepable}
-use Rattle.laws_text.proofs.Lists.{all_weaker}
+use Rattle.laws_written.specs.ScenesAgain.{HaveChildren, in_place}
+use Rattle.laws_written.specs.Children.{children}
+use Rattle.laws_written.proofs.NumberedLists.{some_is}
+use Rattle.laws_written.proofs.NumberedScenes.{found}
+use Rattle.laws_written.specs.Labels.{LabelsAreDistinct}
+use Rattle.laws_written.specs.Writable.{AreKeepable}
+use Rattle.laws_written.proofs.Lists.{all_weaker}
 use Rattle.laws_written.specs.Nodes.{AreNodesRead, WrittenNodesAreRead, in_switch, switch_root}
 use Rattle.laws_written.proofs.Counts.{all_unwritten, hits, hits_append, named_twice, unwritten}
 use Rattle.laws_written.proofs.Names.{count, names_begin, names_open}

@@ -30,7 +30,7 @@ use Rattle.scene_core.specs.Labels.{label_by}
 use Rattle.scene_core.specs.Parts.{given, inner_nodes}
 use Rattle.scene_core.specs.Shape.{declaration_entry, declared_by, is_rotation, numbered_fields}
 use Rattle.scene_core.specs.Typed.{accepted, accepted_in_range, all_taken, at_line, declared_from, declared_value, default_of, dropped_rotation, field_value, in_range, no_rotation, typed_value, values_from, values_of}
-use Rattle.laws_text.proofs.Inner.{bind_is, default_none, inner_if, line_is, range_is, scene_ok_is, typed_nodes}
+use Rattle.laws_written.proofs.Inner.{bind_is, default_none, inner_if, line_is, range_is, scene_ok_is, typed_nodes}
 
 -- ---- a value that was given
 

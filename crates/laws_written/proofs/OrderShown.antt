@@ -23,10 +23,10 @@ use Rattle.scene_core.specs.Scene.{declared_at, value_at}
 use Rattle.scene_core.specs.Shape.{declared_by, most_declared, numbered_fields}
 use Rattle.scene_text.specs.Defaulted.{is_default}
 use Rattle.scene_text.specs.Tree.{Declared, Plain, PlanView, Shown, declared_from, held_value, present_value, shown_field, shown_fields, shown_from, shown_if}
-use Rattle.laws_text.specs.Children.{children}
-use Rattle.laws_text.proofs.Inner.{default_none}
-use Rattle.laws_text.specs.Writable.{AreKeepable}
-use Rattle.laws_text.proofs.Defaults.{left_out_are_defaults}
+use Rattle.laws_written.specs.Children.{children}
+use Rattle.laws_written.proofs.Inner.{default_none}
+use Rattle.laws_written.specs.Writable.{AreKeepable}
+use Rattle.laws_written.proofs.Defaults.{left_out_are_defaults}
 use Rattle.laws_written.proofs.OrderFields.{FitDeclared, FitRows, FitsDeclared, FitsRow, HasValues}
 
 -- the nodes in a field that stands in the text

@@ -25,14 +25,14 @@ use Rattle.scene_core.specs.Tasks.{unopened}
 use Rattle.scene_core.proofs.Fuel.{visit-new, visit-old}
 use Rattle.scene_text.specs.Statements.{helpers_of, root_tree, roots_of}
 use Rattle.scene_text.specs.Tree.{Declared, Makes, Plain, PlanView, Shown, Grows, each, field_tree, node_tree, one_more, opened, shown_fields, value_tree}
-use Rattle.laws_text.specs.Children.{children}
-use Rattle.laws_text.proofs.NumberedLists.{length_set, some_is, within}
-use Rattle.laws_text.proofs.Lower.{children_lower, helpers_low, roots_low}
-use Rattle.laws_text.proofs.NumberedScenes.{IsSceneOf, found, label_in, numbers_of, scene_is}
-use Rattle.laws_text.proofs.Visits.{full, unopened_few}
-use Rattle.laws_text.specs.Writable.{IsShallow}
-use Rattle.laws_text.proofs.Chains.{IsClosedNode, all_shallow}
-use Rattle.laws_text.proofs.Lists.{all_weaker}
+use Rattle.laws_written.specs.Children.{children}
+use Rattle.laws_written.proofs.NumberedLists.{length_set, some_is, within}
+use Rattle.laws_written.proofs.Lower.{children_lower, helpers_low, roots_low}
+use Rattle.laws_written.proofs.NumberedScenes.{IsSceneOf, found, label_in, numbers_of, scene_is}
+use Rattle.laws_written.proofs.Visits.{full, unopened_few}
+use Rattle.laws_written.specs.Writable.{IsShallow}
+use Rattle.laws_written.proofs.Chains.{IsClosedNode, all_shallow}
+use Rattle.laws_written.proofs.Lists.{all_weaker}
 use Rattle.laws_written.specs.Order.{HelpersInOrder, IsWritten, NodesInOrder, RootsInOrder}
 use Rattle.laws_written.proofs.OrderFields.{HasValues, has_values}
 use Rattle.laws_written.proofs.OrderShown.{links, shown_links}

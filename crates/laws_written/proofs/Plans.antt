@@ -21,12 +21,12 @@ use Rattle.scene_core.specs.Scene.{SceneView, type_at}
 use Rattle.scene_text.specs.Places.{named}
 use Rattle.scene_text.specs.Statements.{root_tree, roots_of}
 use Rattle.scene_text.specs.Tree.{Makes, PlanView, Grows, each, node_tree, shown_fields}
-use Rattle.laws_text.specs.Again.{in_place}
-use Rattle.laws_text.proofs.Again.{all_numbered_again}
-use Rattle.laws_text.proofs.Lower.{helpers_low, roots_low}
-use Rattle.laws_text.proofs.NumberedScenes.{scene_is}
-use Rattle.laws_text.proofs.Visits.{full}
-use Rattle.laws_text.specs.Writable.{AreKeepable, IsShallow}
+use Rattle.laws_written.specs.ScenesAgain.{in_place}
+use Rattle.laws_written.proofs.TextAgain.{all_numbered_again}
+use Rattle.laws_written.proofs.Lower.{helpers_low, roots_low}
+use Rattle.laws_written.proofs.NumberedScenes.{scene_is}
+use Rattle.laws_written.proofs.Visits.{full}
+use Rattle.laws_written.specs.Writable.{AreKeepable, IsShallow}
 use Rattle.laws_written.proofs.OrderShown.{links}
 use Rattle.laws_written.proofs.NodesParts.{holders, holders_have, shallow_children, shown_are}
 

@@ -11,8 +11,8 @@ use Rattle.x3d_values.specs.Tables.{FieldRowView}
 use Rattle.proto_flat.specs.declared.flat.FlatEnd.{FlatEnd}
 use Rattle.proto_flat.specs.declared.flat.FlatEnd.TheVariants.{At, NoNode, NoField, WrongWay}
 use Rattle.proto_flat.specs.declared.flat.FlatRoute.{FlatRoute}
-use Rattle.laws_flat.specs.Routes.{Shown, route_shown}
-use Rattle.laws_plain.specs.Laws.{RoutesAreRead}
+use Rattle.laws_documents.specs.Routes.{Shown, route_shown}
+use Rattle.laws_documents.specs.PlainLaws.{RoutesAreRead}
 use Rattle.scene_core.specs.declared.scene.Route.{Route}
 use Rattle.scene_core.specs.Scene.{SceneView, field_name, number_of, rows_at}
 use Rattle.route_core.specs.Names.{target_field, source_field}
@@ -22,9 +22,9 @@ use Rattle.route_core.specs.declared.fault.RouteFault.{RouteFault}
 use Rattle.route_core.specs.declared.fault.RouteFaultKind.{RouteFaultKind}
 use Rattle.route_core.specs.declared.fault.RouteFaultKind.TheVariants.{NodeEvent, NotInput, NotOutput, TypesDiffer}
 use Rattle.route_core.proofs.Repeats.{limited_is}
-use Rattle.laws_text.specs.Labels.{LabelsAreDistinct}
-use Rattle.laws_text.specs.Writable.{IsEnd, IsWritableRoute}
-use Rattle.laws_text.proofs.Lists.{all_push, all_weaker}
+use Rattle.laws_written.specs.Labels.{LabelsAreDistinct}
+use Rattle.laws_written.specs.Writable.{IsEnd, IsWritableRoute}
+use Rattle.laws_written.proofs.Lists.{all_push, all_weaker}
 use Rattle.laws_written.specs.Braces.{WrittenNodesClose}
 use Rattle.laws_written.specs.Resolved.{KeepsRows, WrittenRoutesResolve}
 use Rattle.laws_written.specs.Routes.{written_end, written_route}

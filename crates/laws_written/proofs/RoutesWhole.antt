@@ -9,22 +9,22 @@ use Rattle.x3d_values.specs.declared.node_type.NodeType.{NodeType}
 use Rattle.classic_tree.specs.declared.tree.Document.{Document}
 use Rattle.classic_tree.specs.declared.tree.Statement.{Statement}
 use Rattle.proto_flat.specs.declared.flat.FlatEnd.{FlatEnd}
-use Rattle.laws_flat.specs.Closings.{Braces, IsOfNode, closings, expected}
-use Rattle.laws_flat.specs.Closings.{Shown as ShownBraces}
-use Rattle.laws_flat.specs.Uses.{OpenBraces}
-use Rattle.laws_flat.specs.Readings.{each, read_document, read_statement}
-use Rattle.laws_flat.specs.Routes.{ReadRoute, Reading, Shown, end_at, end_shown, nothing_read, read_end, read_shown, routes, routes_read, steps}
-use Rattle.laws_flat.proofs.Readings.{read-route}
-use Rattle.laws_plain.specs.Laws.{RoutesAreRead}
+use Rattle.laws_documents.specs.Closings.{Braces, IsOfNode, closings, expected}
+use Rattle.laws_documents.specs.Closings.{Shown as ShownBraces}
+use Rattle.laws_documents.specs.Uses.{OpenBraces}
+use Rattle.laws_documents.specs.Readings.{each, read_document, read_statement}
+use Rattle.laws_documents.specs.Routes.{ReadRoute, Reading, Shown, end_at, end_shown, nothing_read, read_end, read_shown, routes, routes_read, steps}
+use Rattle.laws_documents.proofs.Readings.{read-route}
+use Rattle.laws_documents.specs.PlainLaws.{RoutesAreRead}
 use Rattle.scene_core.specs.declared.scene.End.{End}
 use Rattle.scene_core.specs.declared.scene.Route.{Route}
 use Rattle.scene_core.specs.Scene.{SceneView, field_name, label_of}
 use Rattle.scene_text.specs.Places.{ends_of, is_named}
 use Rattle.scene_text.specs.Statements.{helper_root, helpers_of, place_of, roots_of, route_of, routes_of, scene_document, statements_of}
 use Rattle.scene_text.specs.Tree.{PlanView}
-use Rattle.laws_text.proofs.NumberedScenes.{found}
-use Rattle.laws_text.specs.Labels.{LabelsAreDistinct}
-use Rattle.laws_text.specs.Writable.{IsWritableRoute}
+use Rattle.laws_written.proofs.NumberedScenes.{found}
+use Rattle.laws_written.specs.Labels.{LabelsAreDistinct}
+use Rattle.laws_written.specs.Writable.{IsWritableRoute}
 use Rattle.laws_written.specs.Braces.{WrittenNodesClose, as_switch, written_as, written_braces}
 use Rattle.laws_written.proofs.NodesParts.{all_join}
 use Rattle.laws_written.proofs.Plans.{plan, type_is}

@@ -15,9 +15,9 @@ use Rattle.classic_tree.specs.declared.tree.RawValue.{RawValue}
 use Rattle.classic_tree.specs.declared.tree.RawValue.TheVariants as raw
 use Rattle.classic_tree.specs.declared.tree.Statement.{Statement}
 use Rattle.classic_tree.specs.declared.tree.Statement.TheVariants as statement
-use Rattle.laws_flat.specs.Readings.{each, read_item, read_node, read_statement, read_value}
-use Rattle.laws_flat.specs.Routes.{Reading, opens, steps}
-use Rattle.laws_flat.proofs.Readings.{read-declaration, read-field, read-full, read-node-statement, read-use}
+use Rattle.laws_documents.specs.Readings.{each, read_item, read_node, read_statement, read_value}
+use Rattle.laws_documents.specs.Routes.{Reading, opens, steps}
+use Rattle.laws_documents.proofs.Readings.{read-declaration, read-field, read-full, read-node-statement, read-use}
 use Rattle.scene_core.specs.Scene.{label_of}
 use Rattle.scene_text.specs.Raw.{color_run, integer_run, number_list, number_run, pair_run, string_list, truth_list, vector_run}
 use Rattle.scene_text.specs.Statements.{helper_root, helpers_of, root_tree, roots_of, switch_of}

@@ -4,16 +4,16 @@ use Rattle.std.specs.List.{AllByRecursion, flat_map, fold}
 use Rattle.std.proofs.lemmas.List.{map-append}
 use Rattle.std.proofs.lemmas.List.Sums.{fold-append}
 use Rattle.proto_flat.specs.declared.flat.FlatNode.{FlatNode}
-use Rattle.laws_flat.specs.Readings.{each as each_read}
-use Rattle.laws_flat.specs.Uses.{OpenBraces, Reading, some}
+use Rattle.laws_documents.specs.Readings.{each as each_read}
+use Rattle.laws_documents.specs.Uses.{OpenBraces, Reading, some}
 use Rattle.scene_core.specs.declared.numbering.Numbering.{Numbering}
 use Rattle.scene_core.specs.declared.scene.SceneNode.{SceneNode}
 use Rattle.scene_core.specs.Numbers.{appear, close, is_new, visit}
 use Rattle.scene_core.specs.Parts.{parts_of}
 use Rattle.scene_text.specs.Places.{places}
 use Rattle.scene_text.specs.Tree.{Makes, PlanView, Grows, each, one_more}
-use Rattle.laws_text.proofs.NumberedLists.{In, push_keeps}
-use Rattle.laws_text.proofs.Visits.{Seen, full}
+use Rattle.laws_written.proofs.NumberedLists.{In, push_keeps}
+use Rattle.laws_written.proofs.Visits.{Seen, full}
 use Rattle.laws_written.proofs.Counts.{hits, unwritten}
 use Rattle.laws_written.proofs.Plans.{Stand, all_split, begins, one, ones_are}
 use Rattle.laws_written.proofs.Names.{AreApart, NamesAre, count, is_named}

@@ -5,13 +5,13 @@ use Rattle.std.specs.List.{range_with_len}
 use Rattle.x3d_values.specs.declared.fields.Fields.{Fields}
 use Rattle.x3d_values.specs.declared.node_type.NodeType.TheVariants.{Switch}
 use Rattle.proto_flat.specs.declared.flat.Flat.{Flat}
-use Rattle.laws_flat.specs.Closings.{Shown, closings, expected}
+use Rattle.laws_documents.specs.Closings.{Shown, closings, expected}
 use Rattle.scene_core.specs.declared.scene.Route.{Route}
 use Rattle.scene_core.specs.Building.{scene_of}
 use Rattle.scene_core.specs.Scene.{SceneView, label_of, type_at}
 use Rattle.scene_text.specs.Places.{is_named}
 use Rattle.scene_text.specs.Statements.{scene_document}
-use Rattle.laws_text.specs.Writable.{AreKeepable}
+use Rattle.laws_written.specs.Writable.{AreKeepable}
 
 -- a node that needs a DEF is named by its label
 abbrev pub written_name : SceneView → List Route → ℕ → Option (List ℕ)

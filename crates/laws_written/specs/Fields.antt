@@ -13,7 +13,7 @@ use Rattle.x3d_values.specs.Tables.{FieldRowView, rows}
 use Rattle.classic_tree.specs.declared.tree.RawValue.{RawValue}
 use Rattle.classic_tree.specs.declared.tree.RawValue.TheVariants as raw
 use Rattle.proto_flat.specs.declared.flat.FlatField.{FlatField}
-use Rattle.laws_flat.specs.Signatures.{Signature}
+use Rattle.laws_documents.specs.Signatures.{Signature}
 use Rattle.scene_core.specs.declared.row.DeclaredField.{DeclaredField}
 use Rattle.scene_core.specs.Scene.{SceneView, declared_at, type_at}
 use Rattle.scene_text.specs.Defaulted.{is_default}

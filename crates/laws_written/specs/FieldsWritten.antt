@@ -3,12 +3,12 @@ use Rattle.std.specs.Prelude.{◌≡◌, ℕ, List, [], ◌∷◌, ◌++◌, len
 use Rattle.std.specs.List.{range_with_len}
 use Rattle.x3d_values.specs.declared.fields.Fields.{Fields}
 use Rattle.proto_flat.specs.declared.flat.Flat.{Flat}
-use Rattle.laws_flat.specs.Shapes.{NodeShape, field_shape, shapes}
+use Rattle.laws_documents.specs.Shapes.{NodeShape, field_shape, shapes}
 use Rattle.scene_core.specs.declared.scene.Route.{Route}
 use Rattle.scene_core.specs.Building.{scene_of}
 use Rattle.scene_core.specs.Scene.{SceneView}
 use Rattle.scene_text.specs.Statements.{scene_document}
-use Rattle.laws_text.specs.Writable.{AreKeepable}
+use Rattle.laws_written.specs.Writable.{AreKeepable}
 use Rattle.laws_written.specs.Distinct.{HaveDistinctFields}
 use Rattle.laws_written.specs.Fields.{children_field, written_fields, written_interface}
 

@@ -8,7 +8,7 @@ use Rattle.classic_tree.specs.declared.tree.Declaration.{Declaration}
 use Rattle.classic_tree.specs.declared.tree.Document.{Document}
 use Rattle.proto_flat.specs.declared.flat.Flat.{Flat}
 use Rattle.proto_flat.specs.declared.flat.FlatNode.{FlatNode}
-use Rattle.laws_flat.specs.Signatures.{of_type}
+use Rattle.laws_documents.specs.Signatures.{of_type}
 use Rattle.proto_meaning.specs.Flat.{flat}
 use Rattle.scene_core.specs.Shape.{declaration_entry}
 

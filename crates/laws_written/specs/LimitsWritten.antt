@@ -7,9 +7,9 @@ use Rattle.scene_core.specs.declared.scene.Route.{Route}
 use Rattle.scene_core.specs.Building.{scene_of}
 use Rattle.scene_core.specs.Scene.{SceneView}
 use Rattle.scene_text.specs.Statements.{scene_document}
-use Rattle.laws_text.specs.Writable.{AreKeepable}
+use Rattle.laws_written.specs.Writable.{AreKeepable}
 use Rattle.laws_written.specs.Distinct.{HaveDistinctFields}
-use Rattle.laws_plain.specs.Sound.{IsFlatOrTooLarge}
+use Rattle.laws_documents.specs.Sound.{IsFlatOrTooLarge}
 
 -- the document that a document's scene is written as, with any routes, has a flat form, or is too
 -- large

@@ -3,13 +3,13 @@
 use Rattle.std.specs.Prelude.{◌≡◌, ◌≤◌, ◌^◌, ◌++◌, ℕ, List, [], ◌∷◌, length, map, Ok}
 use Rattle.x3d_values.specs.declared.fields.Fields.{Fields}
 use Rattle.proto_flat.specs.declared.flat.Flat.{Flat}
-use Rattle.laws_flat.specs.Uses.{Reading, read, some}
+use Rattle.laws_documents.specs.Uses.{Reading, read, some}
 use Rattle.scene_core.specs.declared.scene.Route.{Route}
 use Rattle.scene_core.specs.Building.{scene_of}
 use Rattle.scene_core.specs.Scene.{SceneView}
 use Rattle.scene_text.specs.Statements.{scene_document}
-use Rattle.laws_text.specs.Children.{children}
-use Rattle.laws_text.specs.Writable.{AreKeepable}
+use Rattle.laws_written.specs.Children.{children}
+use Rattle.laws_written.specs.Writable.{AreKeepable}
 
 -- the helpers, if there are any, are in one more node
 abbrev pub in_switch : List ℕ → List (List ℕ)

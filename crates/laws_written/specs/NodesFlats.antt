@@ -4,13 +4,13 @@ use Rattle.std.specs.Prelude.{◌≡◌, ◌≤◌, ◌^◌, List, length, map, 
 use Rattle.x3d_values.specs.declared.fields.Fields.{Fields}
 use Rattle.proto_flat.specs.declared.flat.Flat.{Flat}
 use Rattle.proto_meaning.specs.Flat.{flat}
-use Rattle.laws_flat.specs.Closings.{shown}
-use Rattle.laws_flat.specs.Uses.{held, some}
+use Rattle.laws_documents.specs.Closings.{shown}
+use Rattle.laws_documents.specs.Uses.{held, some}
 use Rattle.scene_core.specs.declared.scene.Route.{Route}
 use Rattle.scene_core.specs.Building.{scene_of}
 use Rattle.scene_core.specs.Scene.{SceneView}
 use Rattle.scene_text.specs.Statements.{scene_document}
-use Rattle.laws_text.specs.Writable.{AreKeepable}
+use Rattle.laws_written.specs.Writable.{AreKeepable}
 use Rattle.laws_written.specs.Braces.{written_braces}
 use Rattle.laws_written.specs.Nodes.{written_nodes, written_roots}
 

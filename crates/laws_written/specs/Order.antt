@@ -7,8 +7,8 @@ use Rattle.scene_core.specs.Building.{scene_of}
 use Rattle.scene_core.specs.Numbers.{numbering, visit}
 use Rattle.scene_text.specs.Statements.{helpers_of, roots_of}
 use Rattle.scene_text.specs.Tree.{PlanView, node_tree}
-use Rattle.laws_text.specs.Again.{HaveChildren}
-use Rattle.laws_text.specs.Writable.{AreKeepable, IsShallow}
+use Rattle.laws_written.specs.ScenesAgain.{HaveChildren}
+use Rattle.laws_written.specs.Writable.{AreKeepable, IsShallow}
 
 -- a document's scene is written, with what its nodes keep; each node contains the nodes that the
 -- scene's node contains

@@ -9,7 +9,7 @@ use Rattle.scene_core.specs.declared.scene.Route.{Route}
 use Rattle.scene_core.specs.Building.{scene_of}
 use Rattle.scene_core.specs.Scene.{SceneView, rows_at}
 use Rattle.scene_text.specs.Statements.{scene_document}
-use Rattle.laws_text.specs.Writable.{AreKeepable}
+use Rattle.laws_written.specs.Writable.{AreKeepable}
 
 -- the other scene has each node of this one under the same number, with the same fields
 pub record KeepsRows (s other : SceneView) : Type 0 where

@@ -6,13 +6,13 @@ use Rattle.proto_flat.specs.declared.flat.Flat.{Flat}
 use Rattle.proto_flat.specs.declared.flat.FlatEnd.{FlatEnd}
 use Rattle.proto_flat.specs.declared.flat.FlatEnd.TheVariants.{At}
 use Rattle.proto_meaning.specs.Flat.{flat}
-use Rattle.laws_flat.specs.Routes.{Shown, route_shown}
+use Rattle.laws_documents.specs.Routes.{Shown, route_shown}
 use Rattle.scene_core.specs.declared.scene.End.{End}
 use Rattle.scene_core.specs.declared.scene.Route.{Route}
 use Rattle.scene_core.specs.Building.{scene_of}
 use Rattle.scene_core.specs.Scene.{SceneView, field_name}
 use Rattle.scene_text.specs.Statements.{scene_document}
-use Rattle.laws_text.specs.Writable.{AreKeepable, IsWritableRoute}
+use Rattle.laws_written.specs.Writable.{AreKeepable, IsWritableRoute}
 
 -- the node by its number in the scene, and the field by its own name
 abbrev pub written_end : SceneView → End → FlatEnd

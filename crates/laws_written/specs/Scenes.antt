@@ -9,7 +9,7 @@ use Rattle.scene_core.specs.declared.scene.Route.{Route}
 use Rattle.scene_core.specs.Building.{scene_of}
 use Rattle.scene_core.specs.Scene.{SceneView}
 use Rattle.scene_text.specs.Statements.{scene_document}
-use Rattle.laws_text.specs.Writable.{AreKeepable}
+use Rattle.laws_written.specs.Writable.{AreKeepable}
 use Rattle.laws_written.specs.Distinct.{HaveDistinctFields}
 use Rattle.laws_written.specs.FieldsFlats.{HasFieldsOf}
 

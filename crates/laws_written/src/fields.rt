@@ -4,8 +4,7 @@ ghost use Rattle.laws_written.specs.FieldsFlats.{WrittenFieldsStay};
 ghost use Rattle.laws_written.specs.FieldsWritten.{WrittenShapes};
 
 use crate::nodes::{written_nodes_close, written_nodes_stay};
-use laws_flat::nodes_tell_the_rest;
-use laws_plain::shapes_stay;
+use laws_documents::{nodes_tell_the_rest, shapes_stay};
 
 /// The braces of each node of a written scene contain its fields, by their numbers.
 pub fn written_shapes()

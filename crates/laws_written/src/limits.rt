@@ -4,7 +4,7 @@
 ghost use Rattle.laws_written.specs.LimitsWritten.{WrittenScenesAreFlat};
 
 use crate::nodes::written_nodes_are_read;
-use laws_plain::sound_documents_are_flat;
+use laws_documents::sound_documents_are_flat;
 
 /// The document that a document's scene is written as has a flat form, or is too large.
 pub fn written_scenes_are_flat()

@@ -4,7 +4,7 @@ ghost use Rattle.laws_written.specs.Braces.{WrittenNodesClose};
 ghost use Rattle.laws_written.specs.NodesFlats.{WrittenNodesStay};
 ghost use Rattle.laws_written.specs.Nodes.{WrittenNodesAreRead};
 
-use laws_text::labels_are_distinct;
+use crate::text_laws::labels_are_distinct;
 
 /// Each node of a written scene is read with its own number, and each USE is read as its node.
 pub fn written_nodes_are_read()

@@ -4,8 +4,8 @@ ghost use Rattle.laws_written.specs.Resolved.{WrittenRoutesResolve};
 ghost use Rattle.laws_written.specs.Routes.{WrittenRoutesStay};
 
 use crate::nodes::written_nodes_close;
-use laws_plain::routes_are_read;
-use laws_text::labels_are_distinct;
+use crate::text_laws::labels_are_distinct;
+use laws_documents::routes_are_read;
 
 /// The flat form of a written scene, if there is one, has the scene's routes in their order, by the
 /// numbers of the scene's nodes and the names of their fields. They resolve to the scene's routes

@@ -14,3 +14,9 @@ pub mod Sized
 pub mod Trails
 pub mod Unique
 pub mod Within
+pub mod Growing
+pub mod Inside
+pub mod TreeRuns
+pub mod Back
+pub mod Leading
+pub mod Sizes

@@ -10,12 +10,12 @@ use Rattle.std.proofs.lemmas.Option.{same_Some, none-some, slice_get-map}
 use Rattle.x3d_values.specs.Pointing.{RayView}
 use Rattle.pick_rules.specs.Entry.{entry_of}
 use Rattle.pick_rules.specs.declared.bounds.Fraction.{Fraction}
-use Rattle.pick_tree.specs.Passed.{enters_before, enters_as, is_before}
-use Rattle.pick_tree.specs.Tree.{ArePassed, IsTreeOf, IsTreeBut}
-use Rattle.pick_tree.specs.declared.tree.Tree.{Tree}
-use Rattle.pick_tree.proofs.Runs.{tree-but}
-use Rattle.pick_ranges.specs.Ranges.{IsInRange}
-use Rattle.pick_ranges.specs.declared.ranges.RowRange.{RowRange}
+use Rattle.pick_core.specs.Passed.{enters_before, enters_as, is_before}
+use Rattle.pick_core.specs.Tree.{ArePassed, IsTreeOf, IsTreeBut}
+use Rattle.pick_core.specs.declared.tree.Tree.{Tree}
+use Rattle.pick_core.proofs.TreeRuns.{tree-but}
+use Rattle.pick_core.specs.Ranges.{IsInRange}
+use Rattle.pick_core.specs.declared.ranges.RowRange.{RowRange}
 use Rattle.pick_core.specs.Boxes.{Placed}
 use Rattle.pick_core.specs.Picked.{closer, nearer, is_nearer, fraction_of, hit_at}
 use Rattle.pick_core.specs.Runs.{seen, seen_in}

@@ -11,10 +11,10 @@ use Rattle.pick_core.specs.Renewal.{AreRangesOf}
 use Rattle.pick_core.specs.Sites.{renewed, fresh, touches}
 use Rattle.pick_core.specs.declared.row.BoxRow.{BoxRow}
 use Rattle.pick_core.specs.declared.trail.Place.{Place}
-use Rattle.pick_ranges.specs.Ranges.{IsAmong, IsInRange}
-use Rattle.pick_ranges.specs.declared.ranges.RowRange.{RowRange}
-use Rattle.pick_ranges.specs.declared.ranges.RowRanges.{RowRanges}
-use Rattle.pick_ranges.proofs.Growing.{get-put}
+use Rattle.pick_core.specs.Ranges.{IsAmong, IsInRange}
+use Rattle.pick_core.specs.declared.ranges.RowRange.{RowRange}
+use Rattle.pick_core.specs.declared.ranges.RowRanges.{RowRanges}
+use Rattle.pick_core.proofs.Growing.{get-put}
 
 -- ---- places of a list
 

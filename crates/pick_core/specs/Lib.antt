@@ -12,3 +12,11 @@ pub mod Sites
 pub mod Spread
 pub mod Trail
 pub mod Within
+pub mod Ranges
+pub mod Passed
+pub mod Tree
+pub mod Paths
+pub mod Track
+pub mod TrackAgain
+pub mod SensorPaths
+pub mod TrackExamples

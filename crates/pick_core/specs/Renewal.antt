@@ -1,7 +1,7 @@
 -- Which rows of a cache a change at a node concerns.
 use Rattle.std.specs.Prelude.{◌≡◌, ℕ, List, Some, true, slice_get}
-use Rattle.pick_ranges.specs.Ranges.{HasRow}
-use Rattle.pick_ranges.specs.declared.ranges.RowRanges.{RowRanges}
+use Rattle.pick_core.specs.Ranges.{HasRow}
+use Rattle.pick_core.specs.declared.ranges.RowRanges.{RowRanges}
 use Rattle.pick_core.specs.Sites.{touches}
 use Rattle.pick_core.specs.declared.row.BoxRow.{BoxRow}
 

@@ -5,16 +5,16 @@ ghost use Rattle.std.specs.List.{fold};
 ghost use Rattle.pick_core.specs.Picked.{nearer};
 ghost use Rattle.pick_core.specs.Runs.{seen_in};
 ghost use Rattle.pick_core.specs.Sites as spec;
-ghost use Rattle.pick_tree.specs.Tree.{IsTreeOf};
+ghost use Rattle.pick_core.specs.Tree.{IsTreeOf};
 
 use crate::gather::gathered;
 use crate::hit::Hit;
 use crate::nearest::{fraction_of, keep_nearer};
+use crate::ranges::{RowRanges, first_place};
 use crate::renewal::{ranges_of, renew_ranges};
 use crate::row::{BoxRow, refresh_all};
 use crate::runs::{renew_runs, tree_of};
-use pick_ranges::{RowRanges, first_place};
-use pick_tree::{Tree, passed};
+use crate::tree::{Tree, passed};
 use scene_core::Scene;
 use std::alloc::{AllocError, Global};
 use std::marker::Model;
@@ -34,7 +34,7 @@ impl Model for BoxCache {
     ghost use Rattle.pick_core.specs.declared.row.BoxRow.{BoxRow};
     ghost use Rattle.pick_core.specs.Renewal.{AreRangesOf};
     ghost use Rattle.pick_core.specs.Runs.{seen_in};
-    ghost use Rattle.pick_tree.specs.Tree.{IsTreeOf};
+    ghost use Rattle.pick_core.specs.Tree.{IsTreeOf};
 
     ghost Value = { List BoxRow };
 

@@ -5,10 +5,10 @@ ghost use Rattle.x3d_values.specs.Ranges.{max_depth};
 ghost use Rattle.pick_core.specs.Picked as spec;
 ghost use Rattle.pick_core.specs.Trail.{positions};
 
+use crate::cover::is_before;
 use crate::hit::{Hit, Path};
 use crate::trail::Place;
 use pick_rules::{Bounds, Fraction, entry};
-use pick_tree::is_before;
 use x3d_values::Ray;
 
 /// Keeps the hit of a box at the end of a trail if it is nearer than the best.

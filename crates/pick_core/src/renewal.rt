@@ -1,18 +1,18 @@
 //! The rows of a cache that a change at a node concerns.
 
 ghost use Rattle.std.specs.Prelude.{◌≡◌, ℕ, true, Some, length, map, slice_get, IfOk, OnOk};
-ghost use Rattle.pick_ranges.specs.Ranges.{HasRow, IsAmong, IsInRange};
+ghost use Rattle.pick_core.specs.Ranges.{HasRow, IsAmong, IsInRange};
 ghost use Rattle.pick_core.specs.declared.row.BoxRow.{BoxRow as RowOf};
 ghost use Rattle.pick_core.specs.Renewal.{AreRangesOf};
 ghost use Rattle.pick_core.specs.Runs.{seen_in};
 ghost use Rattle.pick_core.specs.Sites.{renewed, touches};
-ghost use Rattle.pick_tree.specs.Tree.{IsTreeOf};
+ghost use Rattle.pick_core.specs.Tree.{IsTreeOf};
 
+use crate::ranges::{RowRange, RowRanges, add_row, no_rows};
 use crate::row::{BoxRow, renew_row};
 use crate::runs::renew_runs;
 use crate::trail::Place;
-use pick_ranges::{RowRange, RowRanges, add_row, no_rows};
-use pick_tree::Tree;
+use crate::tree::Tree;
 use scene_core::Scene;
 use std::alloc::{AllocError, Global};
 use x3d_values::Fields;

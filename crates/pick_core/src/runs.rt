@@ -2,12 +2,13 @@
 
 ghost use Rattle.std.specs.Prelude.{◌≡◌, ℕ, Option, Some, slice_get, IfOk};
 ghost use Rattle.pick_rules.specs.declared.bounds.Bounds.{Bounds as BoundsOf};
-ghost use Rattle.pick_tree.specs.Tree.{IsIn, IsOf, IsOverBut, IsRenewed, IsTreeOf, IsTreeBut};
+ghost use Rattle.pick_core.specs.Tree.{IsIn, IsOf, IsOverBut, IsRenewed, IsTreeOf, IsTreeBut};
 ghost use Rattle.pick_core.specs.Runs as spec;
 
+use crate::cover::joined;
 use crate::row::BoxRow;
+use crate::tree::{Tree, WIDTH, empty_tree, renew_groups};
 use pick_rules::Bounds;
-use pick_tree::{Tree, WIDTH, empty_tree, joined, renew_groups};
 use std::alloc::{AllocError, Global};
 
 /// Returns the box of a row, if the row is shown.

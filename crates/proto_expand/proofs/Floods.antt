@@ -12,19 +12,19 @@ use Rattle.proto_meaning.specs.Names.{Name}
 use Rattle.proto_meaning.specs.Sight.{OfProto, Prototype, Sight, and_see}
 use Rattle.proto_meaning.specs.Flat as flat
 use Rattle.proto_meaning.specs.Flat.{Does, ◌>>=◌, Item, Node, Stated, Walk, full_node, pure, refuse, through}
-use Rattle.proto_limits.specs.declared.room.Room.{Room}
-use Rattle.proto_limits.specs.Settled.{State, beside, doing, onward, settle, spend, spend_all, too_large}
-use Rattle.proto_limits.proofs.Settling.{parts_settle_in_turn, settle-then}
-use Rattle.proto_sizes.specs.Sizes.{IsSized}
-use Rattle.proto_sizes.specs.Rows.{Known, MetIn, add_root, bare, mets, stated_of, times}
-use Rattle.proto_sizes.proofs.InRows.{bare_instances_stand_in_rows, rows_are_sums}
-use Rattle.proto_tree.specs.Meaning.{item_step, node, node_step, statement}
-use Rattle.proto_tree.specs.declared.tree.BodyTree.{BodyTree}
-use Rattle.proto_tree.specs.declared.tree.BodyTree.TheVariants as body
-use Rattle.proto_tree.specs.declared.tree.ItemTree.{ItemTree}
-use Rattle.proto_tree.specs.declared.tree.ItemTree.TheOpen.{NodeTree-F}
-use Rattle.proto_tree.specs.declared.tree.NodeTree.{NodeTree, fold-roll-NodeTree, out-NodeTree, roll-NodeTree, roll-out-NodeTree}
-use Rattle.proto_tree.specs.declared.tree.Word.TheVariants as word
+use Rattle.proto_parts.specs.declared.room.Room.{Room}
+use Rattle.proto_parts.specs.Settled.{State, beside, doing, onward, settle, spend, spend_all, too_large}
+use Rattle.proto_parts.proofs.Settling.{parts_settle_in_turn, settle-then}
+use Rattle.proto_meaning.specs.Sizes.{IsSized}
+use Rattle.proto_meaning.specs.Rows.{Known, MetIn, add_root, bare, mets, stated_of, times}
+use Rattle.proto_meaning.proofs.InRows.{bare_instances_stand_in_rows, rows_are_sums}
+use Rattle.proto_meaning.specs.Meaning.{item_step, node, node_step, statement}
+use Rattle.proto_meaning.specs.declared.tree.BodyTree.{BodyTree}
+use Rattle.proto_meaning.specs.declared.tree.BodyTree.TheVariants as body
+use Rattle.proto_meaning.specs.declared.tree.ItemTree.{ItemTree}
+use Rattle.proto_meaning.specs.declared.tree.ItemTree.TheOpen.{NodeTree-F}
+use Rattle.proto_meaning.specs.declared.tree.NodeTree.{NodeTree, fold-roll-NodeTree, out-NodeTree, roll-NodeTree, roll-out-NodeTree}
+use Rattle.proto_meaning.specs.declared.tree.Word.TheVariants as word
 use Rattle.proto_expand.specs.Rows.{RootSized, bare_in, is_bare_of, look_along, number_between, row_len}
 
 -- ---- room

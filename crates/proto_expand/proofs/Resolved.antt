@@ -10,9 +10,9 @@ use Rattle.proto_flat.specs.declared.flat.Flat.{Flat}
 use Rattle.proto_meaning.specs.Flat.{flat, header_of}
 use Rattle.proto_meaning.specs.Limits.{limited}
 use Rattle.proto_meaning.specs.Sight.{Prototype}
-use Rattle.proto_tree.specs.Meaning.{stand_together}
-use Rattle.proto_tree.specs.declared.tree.BodyTree.{BodyTree}
-use Rattle.proto_tree.specs.declared.tree.ProtoTree.{ProtoTree}
+use Rattle.proto_meaning.specs.Meaning.{stand_together}
+use Rattle.proto_meaning.specs.declared.tree.BodyTree.{BodyTree}
+use Rattle.proto_meaning.specs.declared.tree.ProtoTree.{ProtoTree}
 use Rattle.proto_resolver.specs.Laws.{IsTreeOf}
 use Rattle.proto_resolver.specs.Parts.{IsResolved}
 use Rattle.proto_resolver.proofs.Numbers.{numbers_mean_their_trees, resolved_texts_stand_for_the_same}

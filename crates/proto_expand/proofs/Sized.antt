@@ -10,22 +10,22 @@ use Rattle.proto_meaning.specs.Flat as flat
 use Rattle.proto_meaning.specs.Flat.{Stated}
 use Rattle.proto_meaning.specs.Sight.{OfProto, Prototype, Sight, no_names}
 use Rattle.proto_meaning.proofs.Trees.{statement-node, statement-proto}
-use Rattle.proto_sizes.specs.Sizes.{AreSized, IsSized}
-use Rattle.proto_sizes.proofs.SizeWalks.{none_sized}
-use Rattle.proto_sizes.proofs.SizeNodes.{OwnerSized, meant_sized}
-use Rattle.proto_sizes.proofs.SizeWhole.{prototypes_are_sized}
-use Rattle.proto_tree.specs.Meaning.{owner}
-use Rattle.proto_tree.specs.Resolved as rule
-use Rattle.proto_tree.specs.Resolved.{AreStatements, IsNode, Seen}
-use Rattle.proto_tree.proofs.Whole.{node_means}
-use Rattle.proto_tree.specs.declared.tree.BodyTree.{BodyTree}
-use Rattle.proto_tree.specs.declared.tree.BodyTree.TheVariants as body
-use Rattle.proto_tree.specs.declared.tree.ItemTree.{ItemTree}
-use Rattle.proto_tree.specs.declared.tree.ItemTree.TheOpen.{NodeTree-F}
-use Rattle.proto_tree.specs.declared.tree.NodeTree.{NodeTree, out-roll-NodeTree}
-use Rattle.proto_tree.specs.declared.tree.NodeTree.TheVariants as tree_node
-use Rattle.proto_tree.specs.declared.tree.Word.{Word}
-use Rattle.proto_tree.specs.declared.tree.Word.TheVariants as word
+use Rattle.proto_meaning.specs.Sizes.{AreSized, IsSized}
+use Rattle.proto_meaning.proofs.SizeWalks.{none_sized}
+use Rattle.proto_meaning.proofs.SizeNodes.{OwnerSized, meant_sized}
+use Rattle.proto_meaning.proofs.SizeWhole.{prototypes_are_sized}
+use Rattle.proto_meaning.specs.Meaning.{owner}
+use Rattle.proto_meaning.specs.Resolved as rule
+use Rattle.proto_meaning.specs.Resolved.{AreStatements, IsNode, Seen}
+use Rattle.proto_meaning.proofs.Whole.{node_means}
+use Rattle.proto_meaning.specs.declared.tree.BodyTree.{BodyTree}
+use Rattle.proto_meaning.specs.declared.tree.BodyTree.TheVariants as body
+use Rattle.proto_meaning.specs.declared.tree.ItemTree.{ItemTree}
+use Rattle.proto_meaning.specs.declared.tree.ItemTree.TheOpen.{NodeTree-F}
+use Rattle.proto_meaning.specs.declared.tree.NodeTree.{NodeTree, out-roll-NodeTree}
+use Rattle.proto_meaning.specs.declared.tree.NodeTree.TheVariants as tree_node
+use Rattle.proto_meaning.specs.declared.tree.Word.{Word}
+use Rattle.proto_meaning.specs.declared.tree.Word.TheVariants as word
 use Rattle.proto_expand.specs.Rows.{RootSized, RootsSized, bare_in, number_between}
 
 -- ---- one statement

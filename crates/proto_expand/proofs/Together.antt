@@ -17,17 +17,17 @@ use Rattle.proto_meaning.specs.Flat as flat
 use Rattle.proto_meaning.specs.Flat.{Walk, ◌>>=◌, pure, comes, note_route, begin, field}
 use Rattle.proto_meaning.specs.Limits.{Outcome, and_then, limited, with_few_routes}
 use Rattle.proto_meaning.specs.Sight.{Prototype, Put, and_see}
-use Rattle.proto_limits.specs.declared.room.Room.{Room}
-use Rattle.proto_limits.specs.Settled.{State, full, settle, onward, doing}
-use Rattle.proto_limits.proofs.Settling.{limits_are_settled, settle-then, see-assoc, see-congr}
-use Rattle.proto_routes.specs.Ends.{few}
-use Rattle.proto_walker.specs.Shown.{Sound, Steps, shown, before}
-use Rattle.proto_walker.specs.declared.walker.Walker.{Walker}
-use Rattle.proto_tree.specs.Meaning.{instance, node, stand_together}
-use Rattle.proto_tree.specs.declared.tree.BodyTree.{BodyTree}
-use Rattle.proto_tree.specs.declared.tree.BodyTree.TheVariants as body
-use Rattle.proto_tree.specs.declared.tree.NodeTree.{NodeTree}
-use Rattle.proto_tree.specs.declared.tree.ProtoTree.{ProtoTree}
+use Rattle.proto_parts.specs.declared.room.Room.{Room}
+use Rattle.proto_parts.specs.Settled.{State, full, settle, onward, doing}
+use Rattle.proto_parts.proofs.Settling.{limits_are_settled, settle-then, see-assoc, see-congr}
+use Rattle.proto_parts.specs.Ends.{few}
+use Rattle.proto_nodes.specs.Shown.{Sound, Steps, shown, before}
+use Rattle.proto_nodes.specs.declared.walker.Walker.{Walker}
+use Rattle.proto_meaning.specs.Meaning.{instance, node, stand_together}
+use Rattle.proto_meaning.specs.declared.tree.BodyTree.{BodyTree}
+use Rattle.proto_meaning.specs.declared.tree.BodyTree.TheVariants as body
+use Rattle.proto_meaning.specs.declared.tree.NodeTree.{NodeTree}
+use Rattle.proto_meaning.specs.declared.tree.ProtoTree.{ProtoTree}
 use Rattle.proto_nodes.specs.declared.frames.Proto.{Proto}
 use Rattle.proto_expand.specs.declared.whole.Content.{Content}
 use Rattle.proto_nodes.specs.Protos.{AreKnown, Knows}
@@ -36,7 +36,7 @@ use Rattle.proto_nodes.specs.Does.{Comes}
 use Rattle.proto_nodes.specs.Frames.{Ends}
 use Rattle.proto_expand.specs.Rows.{RootsSized, look_along, row_len}
 use Rattle.proto_expand.specs.Whole.{all_of, content_by, content_of, content_or, root_does, roots_do, with_content}
-use Rattle.proto_nodes.proofs.Steps.{did, stopped, same-stop}
+use Rattle.proto_nodes.proofs.NodeSteps.{did, stopped, same-stop}
 use Rattle.proto_expand.proofs.Floods.{look_fails, row_floods}
 
 -- ---- the prototypes

@@ -4,15 +4,15 @@ use Rattle.std.specs.List.{AllByRecursion, prefix_len}
 use Rattle.std.specs.Option.{option_map_or}
 use Rattle.proto_flat.specs.declared.fault.ExpandFault.{ExpandFault}
 use Rattle.proto_meaning.specs.Sight.{Prototype}
-use Rattle.proto_limits.specs.Settled.{too_large}
-use Rattle.proto_sizes.specs.Sizes.{IsSized}
-use Rattle.proto_tree.specs.declared.tree.BodyTree.{BodyTree}
-use Rattle.proto_tree.specs.declared.tree.BodyTree.TheVariants as body
-use Rattle.proto_tree.specs.declared.tree.ItemTree.{ItemTree}
-use Rattle.proto_tree.specs.declared.tree.ItemTree.TheOpen.{NodeTree-F}
-use Rattle.proto_tree.specs.declared.tree.NodeTree.{NodeTree, out-NodeTree}
-use Rattle.proto_tree.specs.declared.tree.Word.{Word}
-use Rattle.proto_tree.specs.declared.tree.Word.TheVariants as word
+use Rattle.proto_parts.specs.Settled.{too_large}
+use Rattle.proto_meaning.specs.Sizes.{IsSized}
+use Rattle.proto_meaning.specs.declared.tree.BodyTree.{BodyTree}
+use Rattle.proto_meaning.specs.declared.tree.BodyTree.TheVariants as body
+use Rattle.proto_meaning.specs.declared.tree.ItemTree.{ItemTree}
+use Rattle.proto_meaning.specs.declared.tree.ItemTree.TheOpen.{NodeTree-F}
+use Rattle.proto_meaning.specs.declared.tree.NodeTree.{NodeTree, out-NodeTree}
+use Rattle.proto_meaning.specs.declared.tree.Word.{Word}
+use Rattle.proto_meaning.specs.declared.tree.Word.TheVariants as word
 
 -- the number of the prototype, for an instance
 abbrev pub instance_number : Word → Option ℕ

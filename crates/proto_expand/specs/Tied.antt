@@ -4,8 +4,8 @@ use Rattle.classic_tree.specs.declared.tree.ProtoText.{out-ProtoText}
 use Rattle.proto_meaning.specs.Flat.{field}
 use Rattle.proto_meaning.specs.Names.{Field, Filled}
 use Rattle.proto_meaning.specs.Sight.{Put, Prototype}
-use Rattle.proto_tree.specs.Meaning.{instance}
-use Rattle.proto_tree.specs.declared.tree.ProtoTree.{ProtoTree}
+use Rattle.proto_meaning.specs.Meaning.{instance}
+use Rattle.proto_meaning.specs.declared.tree.ProtoTree.{ProtoTree}
 use Rattle.proto_nodes.specs.declared.frames.Proto.{Proto}
 
 -- an instance of the prototype is what the tree stands for, and the interface is the tree's

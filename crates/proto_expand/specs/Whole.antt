@@ -8,10 +8,10 @@ use Rattle.proto_flat.specs.declared.flat.FlatRoute.{FlatRoute}
 use Rattle.proto_flat.specs.declared.flat.Header.{Header}
 use Rattle.proto_meaning.specs.Flat.{Does, ◌>>=◌, pure, through, Stated}
 use Rattle.proto_meaning.specs.Sight.{Prototype, Put, and_see}
-use Rattle.proto_limits.specs.Settled.{State, doing}
-use Rattle.proto_routes.specs.Ends.{few}
-use Rattle.proto_tree.specs.Meaning.{statement}
-use Rattle.proto_tree.specs.declared.tree.BodyTree.{BodyTree}
+use Rattle.proto_parts.specs.Settled.{State, doing}
+use Rattle.proto_parts.specs.Ends.{few}
+use Rattle.proto_meaning.specs.Meaning.{statement}
+use Rattle.proto_meaning.specs.declared.tree.BodyTree.{BodyTree}
 use Rattle.proto_expand.specs.declared.whole.Content.{Content}
 use Rattle.proto_nodes.specs.Does.{Comes}
 

@@ -6,7 +6,7 @@ ghost use Rattle.proto_expand.specs.Rows as rows;
 ghost use Rattle.proto_expand.specs.Rows.{bare_in, bare_number, instance_number, is_bare_of};
 
 use proto_flat::{ExpandFault, ExpandFaultKind};
-use proto_tree::{BodyTree, NodeTree, Word};
+use proto_meaning::{BodyTree, NodeTree, Word};
 
 /// Returns the number of the prototype, if the word means an instance.
 fn instance_of(word: Word) -> Option<usize>

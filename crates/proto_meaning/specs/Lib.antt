@@ -4,3 +4,11 @@ pub mod Sight
 pub mod Flat
 pub mod Values
 pub mod Laws
+pub mod Sizes
+pub mod Rows
+pub mod SizeLaws
+pub mod Texts
+pub mod Given
+pub mod Meaning
+pub mod Resolved
+pub mod TreeLaws

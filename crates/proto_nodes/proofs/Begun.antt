@@ -15,24 +15,24 @@ use Rattle.proto_meaning.specs.Flat.{Walk, Does, ◌>>=◌, pure, meet, unless_t
 use Rattle.proto_meaning.specs.Limits.{ANode, AnInstance, Outcome, and_then}
 use Rattle.proto_meaning.specs.Names.{Name, Field, Filled, Scope}
 use Rattle.proto_meaning.specs.Sight.{Prototype, Put, Instance, OfType, OfProto, and_see, no_names}
-use Rattle.proto_inside.specs.Held.{fields_in, filled_in, fields_of_owner, declared_fields}
-use Rattle.proto_inside.specs.Closing.{flat_fields}
-use Rattle.proto_inside.specs.declared.inside.Inside.{Inside}
-use Rattle.proto_inside.specs.declared.inside.Owner as holder
-use Rattle.proto_inside.specs.declared.inside.Owner.TheVariants as held
-use Rattle.proto_limits.specs.declared.room.Room.{Room}
-use Rattle.proto_limits.specs.Settled.{State, settle, onward, doing}
-use Rattle.proto_limits.proofs.Settling.{settle-then, see-assoc, see-congr}
-use Rattle.proto_scope.specs.Held as scope
-use Rattle.proto_scope.specs.Held.{nothing}
-use Rattle.proto_scope.specs.declared.scope.Scope as scopes
-use Rattle.proto_walker.specs.Steps.{opening}
-use Rattle.proto_tree.specs.Meaning.{item, owner, default}
-use Rattle.proto_tree.specs.declared.tree.DefaultTree.{DefaultTree}
-use Rattle.proto_tree.specs.declared.tree.ItemTree.{ItemTree}
-use Rattle.proto_tree.specs.declared.tree.ProtoTree.{ProtoTree}
-use Rattle.proto_tree.specs.declared.tree.Word.{Word}
-use Rattle.proto_tree.specs.declared.tree.Word.TheVariants as word
+use Rattle.proto_parts.specs.Inside.{fields_in, filled_in, fields_of_owner, declared_fields}
+use Rattle.proto_parts.specs.Closing.{flat_fields}
+use Rattle.proto_parts.specs.declared.inside.Inside.{Inside}
+use Rattle.proto_parts.specs.declared.inside.Owner as holder
+use Rattle.proto_parts.specs.declared.inside.Owner.TheVariants as held
+use Rattle.proto_parts.specs.declared.room.Room.{Room}
+use Rattle.proto_parts.specs.Settled.{State, settle, onward, doing}
+use Rattle.proto_parts.proofs.Settling.{settle-then, see-assoc, see-congr}
+use Rattle.proto_parts.specs.Scope as scope
+use Rattle.proto_parts.specs.Scope.{nothing}
+use Rattle.proto_parts.specs.declared.scope.Scope as scopes
+use Rattle.proto_nodes.specs.Steps.{opening}
+use Rattle.proto_meaning.specs.Meaning.{item, owner, default}
+use Rattle.proto_meaning.specs.declared.tree.DefaultTree.{DefaultTree}
+use Rattle.proto_meaning.specs.declared.tree.ItemTree.{ItemTree}
+use Rattle.proto_meaning.specs.declared.tree.ProtoTree.{ProtoTree}
+use Rattle.proto_meaning.specs.declared.tree.Word.{Word}
+use Rattle.proto_meaning.specs.declared.tree.Word.TheVariants as word
 use Rattle.proto_nodes.specs.declared.frames.Around.{Around}
 use Rattle.proto_nodes.specs.declared.frames.Filling.{Filling}
 use Rattle.proto_nodes.specs.declared.frames.Open.{Open}
@@ -41,7 +41,7 @@ use Rattle.proto_nodes.specs.declared.frames.NodeTask.TheVariants as task
 use Rattle.proto_nodes.specs.Protos.{IsKnown, AreKnown, Knows, owner_by, proto_by, found}
 use Rattle.proto_nodes.specs.Does.{Comes, after, items_do, closes, open_does, inside_now, braces_do, instance_do, leaves_by, filled_now, filling_comes, statements_do, finds}
 use Rattle.proto_nodes.specs.Frames.{task_comes}
-use Rattle.proto_nodes.proofs.Steps.{doing-then, doing-assoc, did, stopped}
+use Rattle.proto_nodes.proofs.NodeSteps.{doing-then, doing-assoc, did, stopped}
 
 -- ---- numbers of prototypes
 

@@ -2,7 +2,7 @@
 use Rattle.std.proofs.Common.{◌≡◌, ℕ, Bool, true, false, not, true≢false, if◌then◌else◌, List, [], ◌∷◌, ◌++◌, Bor, Option, Some, None, Result, Ok, Err, refl, ap, sym, subst, ◌∙◌}
 use Rattle.std.specs.Prelude.{is_none, is_some, option_map, IfOk}
 use Rattle.std.specs.declared.alloc.AllocError.{AllocError}
-use Rattle.proto_given.specs.declared.given.Given as tables
+use Rattle.proto_parts.specs.declared.given.Given as tables
 use Rattle.std.specs.Option.{option_or}
 use Rattle.std.specs.Str.{bytes_eq}
 use Rattle.std.proofs.lemmas.List.{append_assoc}
@@ -14,14 +14,14 @@ use Rattle.proto_meaning.specs.Flat as flat
 use Rattle.proto_meaning.specs.Flat.{Does, ◌>>=◌, pure, put_in, put_default}
 use Rattle.proto_meaning.specs.Names.{Name, Filled, value_of}
 use Rattle.proto_meaning.specs.Sight.{Prototype}
-use Rattle.proto_given.specs.Held as table
+use Rattle.proto_parts.specs.Given as table
 use Rattle.proto_meaning.specs.Values as values
-use Rattle.proto_limits.specs.Settled.{State, doing}
-use Rattle.proto_tree.specs.Meaning.{node, default, value_in, with_given}
-use Rattle.proto_tree.specs.declared.tree.DefaultTree.{DefaultTree}
-use Rattle.proto_tree.specs.Given.{GivenTree}
-use Rattle.proto_tree.specs.declared.tree.GivenTree.TheVariants as tree
-use Rattle.proto_tree.specs.declared.tree.NodeTree.{NodeTree}
+use Rattle.proto_parts.specs.Settled.{State, doing}
+use Rattle.proto_meaning.specs.Meaning.{node, default, value_in, with_given}
+use Rattle.proto_meaning.specs.declared.tree.DefaultTree.{DefaultTree}
+use Rattle.proto_meaning.specs.Given.{GivenTree}
+use Rattle.proto_meaning.specs.declared.tree.GivenTree.TheVariants as tree
+use Rattle.proto_meaning.specs.declared.tree.NodeTree.{NodeTree}
 use Rattle.proto_nodes.specs.declared.frames.Around.{Around}
 use Rattle.proto_nodes.specs.declared.frames.Filling.{Filling}
 use Rattle.proto_nodes.specs.declared.frames.Next.{Next}
@@ -29,7 +29,7 @@ use Rattle.proto_nodes.specs.declared.frames.Next.TheVariants as next
 use Rattle.proto_nodes.specs.declared.frames.FieldAt.{FieldAt}
 use Rattle.proto_nodes.specs.Does.{Comes, after, done, nodes_do, statements_do, leaves, finds, defaults_do, filling_comes, filled_now, default_value, default_comes}
 use Rattle.proto_nodes.specs.Frames.{AllValued, DefaultGoes, DefaultSound, FillingFits, FillingSound, HasFilled, filling_next}
-use Rattle.proto_nodes.proofs.Steps.{then-assoc, then-same, doing-assoc}
+use Rattle.proto_nodes.proofs.NodeSteps.{then-assoc, then-same, doing-assoc}
 
 -- ---- default values
 

@@ -16,29 +16,29 @@ use Rattle.proto_meaning.specs.Flat.{Does, ◌>>=◌, pure, fill, refuse}
 use Rattle.proto_meaning.specs.Limits.{item_count}
 use Rattle.proto_meaning.specs.Names.{Name, Field}
 use Rattle.proto_meaning.specs.Sight.{Prototype, Owner}
-use Rattle.proto_given.specs.Held.{has_name}
-use Rattle.proto_interface.specs.Fields.{numbered}
-use Rattle.proto_interface.specs.declared.fields.KnownField.{KnownField}
-use Rattle.proto_inside.specs.Held as braces
-use Rattle.proto_inside.specs.Held.{fields_in, filled_in}
+use Rattle.proto_parts.specs.Given.{has_name}
+use Rattle.proto_parts.specs.Fields.{numbered}
+use Rattle.proto_parts.specs.declared.fields.KnownField.{KnownField}
+use Rattle.proto_parts.specs.Inside as braces
+use Rattle.proto_parts.specs.Inside.{fields_in, filled_in}
 use Rattle.proto_meaning.specs.Values as values
-use Rattle.proto_inside.specs.declared.inside.Inside.{Inside}
-use Rattle.proto_inside.specs.declared.inside.Owner as holder
-use Rattle.proto_inside.specs.declared.inside.Owner.TheVariants as held
-use Rattle.proto_limits.specs.Settled.{State, doing}
-use Rattle.proto_giving.specs.Giving as giving
-use Rattle.proto_giving.specs.Giving.{Gives, inside_of, is_type}
-use Rattle.proto_giving.specs.Scripts.{is_script, declares}
-use Rattle.proto_walker.specs.Shown.{Steps, shown}
-use Rattle.proto_walker.specs.declared.walker.Walker.{Walker}
-use Rattle.proto_tree.specs.Meaning as meaning
-use Rattle.proto_tree.specs.Meaning.{item, node}
-use Rattle.proto_tree.specs.Given.{GivenTree}
-use Rattle.proto_tree.specs.declared.tree.GivenTree.TheVariants as tree
-use Rattle.proto_tree.specs.declared.tree.ItemTree.{ItemTree}
-use Rattle.proto_tree.specs.declared.tree.ItemTree.TheVariants as tree_item
-use Rattle.proto_tree.specs.declared.tree.NodeTree.{NodeTree}
-use Rattle.proto_tree.specs.declared.tree.Word.{Word}
+use Rattle.proto_parts.specs.declared.inside.Inside.{Inside}
+use Rattle.proto_parts.specs.declared.inside.Owner as holder
+use Rattle.proto_parts.specs.declared.inside.Owner.TheVariants as held
+use Rattle.proto_parts.specs.Settled.{State, doing}
+use Rattle.proto_nodes.specs.Giving as giving
+use Rattle.proto_nodes.specs.Giving.{Gives, inside_of, is_type}
+use Rattle.proto_nodes.specs.Scripts.{is_script, declares}
+use Rattle.proto_nodes.specs.Shown.{Steps, shown}
+use Rattle.proto_nodes.specs.declared.walker.Walker.{Walker}
+use Rattle.proto_meaning.specs.Meaning as meaning
+use Rattle.proto_meaning.specs.Meaning.{item, node}
+use Rattle.proto_meaning.specs.Given.{GivenTree}
+use Rattle.proto_meaning.specs.declared.tree.GivenTree.TheVariants as tree
+use Rattle.proto_meaning.specs.declared.tree.ItemTree.{ItemTree}
+use Rattle.proto_meaning.specs.declared.tree.ItemTree.TheVariants as tree_item
+use Rattle.proto_meaning.specs.declared.tree.NodeTree.{NodeTree}
+use Rattle.proto_meaning.specs.declared.tree.Word.{Word}
 use Rattle.proto_nodes.specs.declared.frames.Next.{Next}
 use Rattle.proto_nodes.specs.declared.frames.Next.TheVariants as next
 use Rattle.proto_nodes.specs.declared.frames.Open.{Open}
@@ -47,7 +47,7 @@ use Rattle.proto_nodes.specs.Protos.{owner_by}
 use Rattle.proto_nodes.specs.Does.{Comes, after, nodes_do, given_by, field_does, route_does, items_do, closes, open_does, inside_now, with_value}
 use Rattle.proto_nodes.specs.Frames.{OpenGoes, OpenSound, given_at, item_comes, open_next, on_or}
 use Rattle.proto_nodes.proofs.Fillings.{put-plain}
-use Rattle.proto_nodes.proofs.Steps.{then-same, doing-then, doing-assoc, doing-inside, did, stopped, same-stop}
+use Rattle.proto_nodes.proofs.NodeSteps.{then-same, doing-then, doing-assoc, doing-inside, did, stopped, same-stop}
 
 -- ---- whose braces they are
 

@@ -7,24 +7,24 @@ use Rattle.proto_flat.specs.declared.fault.ExpandFault.{ExpandFault}
 use Rattle.proto_flat.specs.declared.fault.ExpandFaultKind.TheVariants.{EmptyBody}
 use Rattle.proto_flat.specs.declared.flat.FlatEnd.{FlatEnd}
 use Rattle.proto_flat.specs.declared.flat.FlatRoute.{FlatRoute}
-use Rattle.proto_put.specs.Held as put
-use Rattle.proto_put.specs.declared.put.PutIn as puts
-use Rattle.proto_scope.specs.Held as scope
-use Rattle.proto_scope.specs.declared.scope.Scope as scopes
-use Rattle.proto_walker.specs.Steps.{standing_in}
+use Rattle.proto_parts.specs.Put as put
+use Rattle.proto_parts.specs.declared.put.PutIn as puts
+use Rattle.proto_parts.specs.Scope as scope
+use Rattle.proto_parts.specs.declared.scope.Scope as scopes
+use Rattle.proto_nodes.specs.Steps.{standing_in}
 use Rattle.proto_meaning.specs.Flat as flat
 use Rattle.proto_meaning.specs.Flat.{Does, pure, comes, note_route, in_body}
 use Rattle.proto_meaning.specs.Names.{Name, Filled}
 use Rattle.proto_meaning.specs.Sight.{Prototype}
-use Rattle.proto_limits.specs.Settled.{State, doing}
-use Rattle.proto_walker.specs.Shown.{Steps, shown}
-use Rattle.proto_walker.specs.declared.walker.Walker.{Walker}
-use Rattle.proto_tree.specs.Meaning.{node, statement}
-use Rattle.proto_tree.specs.declared.tree.BodyTree.{BodyTree}
-use Rattle.proto_tree.specs.declared.tree.BodyTree.TheVariants as body
-use Rattle.proto_tree.specs.declared.tree.DefaultTree.{DefaultTree}
-use Rattle.proto_tree.specs.declared.tree.GivenTree.TheVariants as tree
-use Rattle.proto_tree.specs.declared.tree.NodeTree.{NodeTree}
+use Rattle.proto_parts.specs.Settled.{State, doing}
+use Rattle.proto_nodes.specs.Shown.{Steps, shown}
+use Rattle.proto_nodes.specs.declared.walker.Walker.{Walker}
+use Rattle.proto_meaning.specs.Meaning.{node, statement}
+use Rattle.proto_meaning.specs.declared.tree.BodyTree.{BodyTree}
+use Rattle.proto_meaning.specs.declared.tree.BodyTree.TheVariants as body
+use Rattle.proto_meaning.specs.declared.tree.DefaultTree.{DefaultTree}
+use Rattle.proto_meaning.specs.declared.tree.GivenTree.TheVariants as tree
+use Rattle.proto_meaning.specs.declared.tree.NodeTree.{NodeTree}
 use Rattle.proto_nodes.specs.declared.frames.Around.{Around}
 use Rattle.proto_nodes.specs.declared.frames.ProtoBody.{ProtoBody}
 use Rattle.proto_nodes.specs.declared.frames.Frame.TheVariants as frame
@@ -32,7 +32,7 @@ use Rattle.proto_nodes.specs.declared.frames.NodeTask.{NodeTask}
 use Rattle.proto_nodes.specs.declared.frames.NodeTask.TheVariants as task
 use Rattle.proto_nodes.specs.Does.{Comes, after, done, statements_do, line_of, outside, leaves, first_of, body_comes, defaults_do, filling_comes}
 use Rattle.proto_nodes.specs.Frames.{Goes, body_or, held, frame_comes, task_comes}
-use Rattle.proto_nodes.proofs.Steps.{then-assoc, then-same, doing-then, doing-assoc, then-stop}
+use Rattle.proto_nodes.proofs.NodeSteps.{then-assoc, then-same, doing-then, doing-assoc, then-stop}
 
 -- ---- statements
 

@@ -7,13 +7,13 @@ use Rattle.proto_flat.specs.Fault.{memory}
 use Rattle.proto_flat.specs.declared.fault.ExpandFault.{ExpandFault}
 use Rattle.proto_meaning.specs.Flat.{pure}
 use Rattle.proto_meaning.specs.Sight.{Prototype}
-use Rattle.proto_limits.specs.Settled.{State, doing}
-use Rattle.proto_walker.specs.Shown.{shown, Sound}
-use Rattle.proto_walker.specs.declared.walker.Walker.{Walker}
-use Rattle.proto_tree.specs.Meaning.{node}
+use Rattle.proto_parts.specs.Settled.{State, doing}
+use Rattle.proto_nodes.specs.Shown.{shown, Sound}
+use Rattle.proto_nodes.specs.declared.walker.Walker.{Walker}
+use Rattle.proto_meaning.specs.Meaning.{node}
 use Rattle.std.specs.declared.alloc.AllocError.{AllocError}
-use Rattle.proto_tree.specs.declared.tree.DefaultTree.{DefaultTree}
-use Rattle.proto_tree.specs.declared.tree.NodeTree.{NodeTree}
+use Rattle.proto_meaning.specs.declared.tree.DefaultTree.{DefaultTree}
+use Rattle.proto_meaning.specs.declared.tree.NodeTree.{NodeTree}
 use Rattle.proto_nodes.specs.declared.frames.ProtoBody.{ProtoBody}
 use Rattle.proto_nodes.specs.declared.frames.Filling.{Filling}
 use Rattle.proto_nodes.specs.declared.frames.Open.{Open}
@@ -32,7 +32,7 @@ use Rattle.proto_nodes.specs.declared.frames.Proto.{Proto}
 use Rattle.proto_nodes.specs.Protos.{Knows}
 use Rattle.proto_nodes.specs.Does.{Comes, after, nodes_do, body_comes, first_of, default_value, filled_now, filling_comes, inside_now, open_does, with_value}
 use Rattle.proto_nodes.specs.Frames.{AllGoes, BodySound, DefaultGoes, DefaultSound, Ends, FrameSound, FramesSound, Goes, HasFilled, HolderFits, HolderGoes, HolderGoesSound, HolderSound, OpenGoes, OpenSound, next_or, IsFree, MachineSound, TaskSound, all_comes, frame_comes, frames_come, holder_comes, holder_next, list_comes, task_comes, value_comes}
-use Rattle.proto_nodes.proofs.Steps.{goes-as, same-stop, then-assoc, then-same, then-done, then-stop, doing-assoc}
+use Rattle.proto_nodes.proofs.NodeSteps.{goes-as, same-stop, then-assoc, then-same, then-done, then-stop, doing-assoc}
 
 -- ---- the frames
 

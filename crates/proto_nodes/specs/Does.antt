@@ -12,23 +12,23 @@ use Rattle.proto_meaning.specs.Flat as flat
 use Rattle.proto_meaning.specs.Flat.{Does, ◌>>=◌, pure, note, through}
 use Rattle.proto_meaning.specs.Names.{Name, Field, Filled, Scope}
 use Rattle.proto_meaning.specs.Sight.{Prototype, OfProto, and_see, no_names}
-use Rattle.proto_given.specs.Held as table
-use Rattle.proto_inside.specs.Held.{fields_of_owner}
-use Rattle.proto_inside.specs.declared.inside.Owner as holder
-use Rattle.proto_inside.specs.declared.inside.Owner.TheVariants.{Node, Instance}
-use Rattle.proto_interface.specs.Fields.{numbered}
-use Rattle.proto_limits.specs.Settled.{State, doing}
-use Rattle.proto_scope.specs.Held as scope
-use Rattle.proto_giving.specs.Giving.{inside_of}
-use Rattle.proto_walker.specs.Steps.{standing_in}
-use Rattle.proto_tree.specs.Meaning.{item, node, statement, default, gives, value_in, with_given}
-use Rattle.proto_tree.specs.declared.tree.BodyTree.{BodyTree}
-use Rattle.proto_tree.specs.declared.tree.DefaultTree.{DefaultTree}
-use Rattle.proto_tree.specs.Given.{GivenTree}
-use Rattle.proto_tree.specs.declared.tree.GivenTree.TheVariants as tree
-use Rattle.proto_tree.specs.declared.tree.ItemTree.{ItemTree}
-use Rattle.proto_tree.specs.declared.tree.NodeTree.{NodeTree}
-use Rattle.proto_tree.specs.declared.tree.Word.{Word}
+use Rattle.proto_parts.specs.Given as table
+use Rattle.proto_parts.specs.Inside.{fields_of_owner}
+use Rattle.proto_parts.specs.declared.inside.Owner as holder
+use Rattle.proto_parts.specs.declared.inside.Owner.TheVariants.{Node, Instance}
+use Rattle.proto_parts.specs.Fields.{numbered}
+use Rattle.proto_parts.specs.Settled.{State, doing}
+use Rattle.proto_parts.specs.Scope as scope
+use Rattle.proto_nodes.specs.Giving.{inside_of}
+use Rattle.proto_nodes.specs.Steps.{standing_in}
+use Rattle.proto_meaning.specs.Meaning.{item, node, statement, default, gives, value_in, with_given}
+use Rattle.proto_meaning.specs.declared.tree.BodyTree.{BodyTree}
+use Rattle.proto_meaning.specs.declared.tree.DefaultTree.{DefaultTree}
+use Rattle.proto_meaning.specs.Given.{GivenTree}
+use Rattle.proto_meaning.specs.declared.tree.GivenTree.TheVariants as tree
+use Rattle.proto_meaning.specs.declared.tree.ItemTree.{ItemTree}
+use Rattle.proto_meaning.specs.declared.tree.NodeTree.{NodeTree}
+use Rattle.proto_meaning.specs.declared.tree.Word.{Word}
 use Rattle.proto_nodes.specs.declared.frames.Around.{Around}
 use Rattle.proto_nodes.specs.declared.frames.Filling.{Filling}
 use Rattle.proto_nodes.specs.declared.frames.Open.{Open}

@@ -9,16 +9,16 @@ use Rattle.proto_meaning.specs.Flat as flat
 use Rattle.proto_meaning.specs.Flat.{Does, ◌>>=◌, pure, comes}
 use Rattle.proto_meaning.specs.Names.{Name, Filled}
 use Rattle.proto_meaning.specs.Sight.{Prototype}
-use Rattle.proto_given.specs.Held as table
-use Rattle.proto_inside.specs.Held as inside
-use Rattle.proto_interface.specs.Fields.{numbered}
-use Rattle.proto_limits.specs.Settled.{State, doing}
-use Rattle.proto_scope.specs.Held as scope
-use Rattle.proto_tree.specs.Meaning.{node, gives}
-use Rattle.proto_tree.specs.Given.{GivenTree}
-use Rattle.proto_tree.specs.declared.tree.NodeTree.{NodeTree}
-use Rattle.proto_walker.specs.Shown as shown
-use Rattle.proto_walker.specs.declared.walker.Walker.{Walker}
+use Rattle.proto_parts.specs.Given as table
+use Rattle.proto_parts.specs.Inside as inside
+use Rattle.proto_parts.specs.Fields.{numbered}
+use Rattle.proto_parts.specs.Settled.{State, doing}
+use Rattle.proto_parts.specs.Scope as scope
+use Rattle.proto_meaning.specs.Meaning.{node, gives}
+use Rattle.proto_meaning.specs.Given.{GivenTree}
+use Rattle.proto_meaning.specs.declared.tree.NodeTree.{NodeTree}
+use Rattle.proto_nodes.specs.Shown as shown
+use Rattle.proto_nodes.specs.declared.walker.Walker.{Walker}
 use Rattle.proto_nodes.specs.declared.frames.ProtoBody.{ProtoBody}
 use Rattle.proto_nodes.specs.declared.frames.Filling.{Filling}
 use Rattle.proto_nodes.specs.declared.frames.Frame.{Frame}

@@ -5,12 +5,12 @@ use Rattle.proto_flat.specs.Fault.{memory}
 use Rattle.proto_meaning.specs.Flat.{comes, field}
 use Rattle.proto_meaning.specs.Names.{Field, Filled}
 use Rattle.proto_meaning.specs.Sight.{Put, Prototype, Owner, OfType, OfProto, no_names}
-use Rattle.proto_inside.specs.declared.inside.Owner as holder
-use Rattle.proto_inside.specs.declared.inside.Owner.TheVariants.{Node, Instance}
-use Rattle.proto_tree.specs.Meaning.{instance}
-use Rattle.proto_tree.specs.declared.tree.ProtoTree.{ProtoTree}
-use Rattle.proto_tree.specs.declared.tree.Word.{Word}
-use Rattle.proto_tree.specs.declared.tree.Word.TheVariants as word
+use Rattle.proto_parts.specs.declared.inside.Owner as holder
+use Rattle.proto_parts.specs.declared.inside.Owner.TheVariants.{Node, Instance}
+use Rattle.proto_meaning.specs.Meaning.{instance}
+use Rattle.proto_meaning.specs.declared.tree.ProtoTree.{ProtoTree}
+use Rattle.proto_meaning.specs.declared.tree.Word.{Word}
+use Rattle.proto_meaning.specs.declared.tree.Word.TheVariants as word
 use Rattle.proto_nodes.specs.declared.frames.Proto.{Proto}
 
 -- an instance of the prototype is what its tree stands for, and it has that interface

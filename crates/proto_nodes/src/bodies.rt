@@ -3,22 +3,21 @@
 ghost use Rattle.std.specs.Prelude.{◌≡◌, [], List, Some, option_map, IfOk};
 ghost use Rattle.proto_meaning.specs.Flat as flat;
 ghost use Rattle.proto_meaning.specs.Sight.{Prototype};
-ghost use Rattle.proto_joins.specs.Joined.{ends_in};
-ghost use Rattle.proto_joins.specs.Sides.{made_routes};
-ghost use Rattle.proto_limits.specs.Settled.{doing};
-ghost use Rattle.proto_scope.specs.Held as scope;
-ghost use Rattle.proto_walker.specs.Shown as shown;
-ghost use Rattle.proto_walker.specs.Steps.{standing_in};
+ghost use Rattle.proto_parts.specs.Joined.{ends_in};
+ghost use Rattle.proto_parts.specs.Sides.{made_routes};
+ghost use Rattle.proto_parts.specs.Settled.{doing};
+ghost use Rattle.proto_parts.specs.Scope as scope;
+ghost use Rattle.proto_nodes.specs.Shown as shown;
+ghost use Rattle.proto_nodes.specs.Steps.{standing_in};
 ghost use Rattle.proto_nodes.specs.Does.{body_comes, filled_now, filling_comes, first_of, leaves, outside, after};
 ghost use Rattle.proto_nodes.specs.Frames.{BodySound, FillingSound, Goes, IsSplit, TaskSound, body_or, frame_comes, held};
 
 use crate::frames::{Around, Filling, Frame, NodeTask, ProtoBody};
+use crate::walker::Walker;
 use classic_tree::RouteText;
 use proto_flat::{ExpandFault, ExpandFaultKind};
-use proto_joins::{InstanceEnds, JoinedEnds};
-use proto_routes::Wires;
-use proto_tree::BodyTree;
-use proto_walker::Walker;
+use proto_meaning::BodyTree;
+use proto_parts::{InstanceEnds, JoinedEnds, Wires};
 use std::alloc::{AllocError, Global};
 use std::rc::Rc;
 

@@ -3,18 +3,16 @@
 ghost use Rattle.std.specs.Prelude.{◌≡◌, ◌++◌, List, false, is_none, option_map, IfOk};
 ghost use Rattle.proto_meaning.specs.Names.{value_of};
 ghost use Rattle.proto_meaning.specs.Sight.{Prototype};
-ghost use Rattle.proto_given.specs.Held as table;
+ghost use Rattle.proto_parts.specs.Given as table;
 ghost use Rattle.proto_meaning.specs.Values as values;
-ghost use Rattle.proto_limits.specs.Settled.{State};
+ghost use Rattle.proto_parts.specs.Settled.{State};
 ghost use Rattle.proto_nodes.specs.Does.{default_comes, default_value, filled_now, filling_comes};
 ghost use Rattle.proto_nodes.specs.Frames.{DefaultGoes, DefaultSound, FillingSound, HasFilled, IsSplit};
 
 use crate::frames::{FieldAt, Filling, Next};
 use classic_tree::{Declaration, NodeText, RawValue};
-use proto_given::{Given, GivenField};
-use proto_inside::plain;
-use proto_interface::KnownField;
-use proto_tree::{DefaultTree, GivenTree};
+use proto_meaning::{DefaultTree, GivenTree};
+use proto_parts::{Given, GivenField, KnownField, plain};
 use std::alloc::{AllocError, Global};
 use std::rc::Rc;
 use x3d_lists::Text;

@@ -2,22 +2,24 @@
 
 ghost use Rattle.std.specs.Prelude.{◌≡◌, List, map, option_map, false, IfOk};
 ghost use Rattle.proto_meaning.specs.Sight.{Prototype};
-ghost use Rattle.proto_given.specs.Held as table;
-ghost use Rattle.proto_inside.specs.Held as braces;
-ghost use Rattle.proto_limits.specs.Settled.{State, doing};
-ghost use Rattle.proto_tree.specs.Meaning as meaning;
-ghost use Rattle.proto_tree.specs.declared.tree.GivenTree.TheVariants as tree;
-ghost use Rattle.proto_walker.specs.Shown as shown;
+ghost use Rattle.proto_parts.specs.Given as table;
+ghost use Rattle.proto_parts.specs.Inside as braces;
+ghost use Rattle.proto_parts.specs.Settled.{State, doing};
+ghost use Rattle.proto_meaning.specs.Meaning as meaning;
+ghost use Rattle.proto_meaning.specs.declared.tree.GivenTree.TheVariants as tree;
+ghost use Rattle.proto_nodes.specs.Shown as shown;
 ghost use Rattle.proto_nodes.specs.Does.{field_does, given_by, inside_now, open_does, route_does, with_value};
 ghost use Rattle.proto_nodes.specs.Frames.{IsSplit, OpenGoes, OpenSound, given_at, item_comes, on_or};
 
+use crate::declared::{Declared, declare};
 use crate::frames::{FieldAt, Next, Open};
+use crate::giving::{put_is, put_nothing};
+use crate::values::{keep_value, meet_value, put_aside};
+use crate::walker::Walker;
 use classic_tree::{Declaration, NodeText, RawValue, RouteText};
 use proto_flat::{ExpandFault, ExpandFaultKind};
-use proto_giving::{Declared, declare, keep_value, meet_value, put_aside, put_is, put_nothing};
-use proto_inside::{item_count, plain};
-use proto_tree::{FieldTree, GivenTree, ItemTree, NodeTree};
-use proto_walker::Walker;
+use proto_meaning::{FieldTree, GivenTree, ItemTree, NodeTree};
+use proto_parts::{item_count, plain};
 use std::alloc::{AllocError, Global};
 use x3d_lists::Text;
 

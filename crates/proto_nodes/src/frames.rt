@@ -1,11 +1,8 @@
 //! The work that is left, on the heap.
 
-use proto_given::Given;
-use proto_inside::Inside;
-use proto_interface::{Interface, KnownField};
-use proto_scope::Scope;
-use proto_tree::{BodyTree, DefaultTree, ItemTree, NodeTree, ProtoTree, Word};
-use proto_walker::Walker;
+use crate::walker::Walker;
+use proto_meaning::{BodyTree, DefaultTree, ItemTree, NodeTree, ProtoTree, Word};
+use proto_parts::{Given, Inside, Interface, KnownField, Scope};
 use x3d_lists::{Items, Text};
 
 /// A prototype, and its interface.

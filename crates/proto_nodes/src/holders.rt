@@ -2,8 +2,8 @@
 
 ghost use Rattle.std.specs.Prelude.{◌≡◌, ℕ, ◌++◌, ◌∷◌, [], List, option_map, IfOk};
 ghost use Rattle.proto_meaning.specs.Sight.{Prototype};
-ghost use Rattle.proto_limits.specs.Settled.{State};
-ghost use Rattle.proto_walker.specs.Shown as shown;
+ghost use Rattle.proto_parts.specs.Settled.{State};
+ghost use Rattle.proto_nodes.specs.Shown as shown;
 ghost use Rattle.proto_nodes.specs.Does.{Comes};
 ghost use Rattle.proto_nodes.specs.Protos.{Knows};
 ghost use Rattle.proto_nodes.specs.Frames.{Goes, HolderFits, HolderGoes, HolderGoesSound, HolderSound, IsFree, IsSplit, TaskSound, holder_comes, holder_next, list_comes, next_or, value_comes};
@@ -13,10 +13,10 @@ use crate::braces::close_braces;
 use crate::defaults::{fill, next_default};
 use crate::fields::{next_item, set_value};
 use crate::frames::{FieldAt, Filling, Frame, Holder, Listing, Next, NodeTask, Open, Proto};
+use crate::walker::Walker;
 use classic_tree::RawValue;
 use proto_flat::ExpandFault;
-use proto_tree::NodeTree;
-use proto_walker::Walker;
+use proto_meaning::NodeTree;
 use std::alloc::{AllocError, Global};
 use x3d_lists::Items;
 

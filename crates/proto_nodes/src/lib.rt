@@ -3,11 +3,20 @@
 
 mod bodies;
 mod braces;
+mod declared;
 mod defaults;
 mod fields;
 mod frames;
+mod giving;
 mod holders;
 mod nodes;
+mod steps;
+mod values;
+mod walker;
 
+pub use declared::{Declared, declare};
 pub use frames::{Frame, NodeTask, Proto, WalkState};
+pub use giving::{put_is, put_nothing};
 pub use nodes::put_node;
+pub use values::{keep_none, keep_value, meet_value, put_aside};
+pub use walker::Walker;

@@ -2,9 +2,9 @@
 
 ghost use Rattle.std.specs.Prelude.{◌≡◌, [], List, IfOk, IfSome};
 ghost use Rattle.proto_meaning.specs.Sight.{Prototype};
-ghost use Rattle.proto_limits.specs.Settled.{doing};
-ghost use Rattle.proto_tree.specs.Meaning as meaning;
-ghost use Rattle.proto_walker.specs.Shown as shown;
+ghost use Rattle.proto_parts.specs.Settled.{doing};
+ghost use Rattle.proto_meaning.specs.Meaning as meaning;
+ghost use Rattle.proto_nodes.specs.Shown as shown;
 ghost use Rattle.proto_nodes.specs.Protos.{Knows};
 ghost use Rattle.proto_nodes.specs.Does.{after};
 ghost use Rattle.proto_nodes.specs.Frames.{AllGoes, Ends, FrameSound, Goes, MachineSound, StepsOn, TaskSound, all_comes, frame_comes, frames_come};
@@ -15,7 +15,7 @@ use crate::frames::{Frame, NodeTask, WalkState};
 use crate::holders::{add_number, go_on, keep, next_in_list};
 use classic_tree::RawValue;
 use proto_flat::{ExpandFault, ExpandFaultKind};
-use proto_tree::NodeTree;
+use proto_meaning::NodeTree;
 use std::alloc::Global;
 use std::mem;
 

@@ -15,10 +15,10 @@ use Rattle.proto_flat.specs.declared.fault.ExpandFaultKind.TheVariants.{ProtoTwi
 use Rattle.proto_meaning.specs.Names.{Name}
 use Rattle.proto_meaning.specs.Sight.{Prototype, Sight, and_see, declared, opened}
 use Rattle.proto_meaning.specs.Flat as flat
-use Rattle.proto_sight.specs.Texts.{closed, has_node, finds_inside, unless_found, checked, enters, declares, sees_inside}
-use Rattle.proto_sight.proofs.Equations.{proto-sees}
-use Rattle.proto_tree.specs.declared.tree.ProtoTree.{ProtoTree}
-use Rattle.proto_tree.specs.Resolved.{Seen}
+use Rattle.proto_meaning.specs.Texts.{closed, has_node, finds_inside, unless_found, checked, enters, declares, sees_inside}
+use Rattle.proto_meaning.proofs.Equations.{proto-sees}
+use Rattle.proto_meaning.specs.declared.tree.ProtoTree.{ProtoTree}
+use Rattle.proto_meaning.specs.Resolved.{Seen}
 use Rattle.proto_resolver.specs.declared.scopes.KnownProto.{KnownProto}
 use Rattle.proto_resolver.specs.declared.scopes.Table.{Table}
 use Rattle.proto_resolver.specs.declared.scopes.TakenNames.{TakenNames}

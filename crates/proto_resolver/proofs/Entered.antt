@@ -8,13 +8,13 @@ use Rattle.proto_flat.specs.declared.fault.ExpandFault.{ExpandFault}
 use Rattle.proto_meaning.specs.Names.{Name, Filled}
 use Rattle.proto_meaning.specs.Sight.{Names, Put, Prototype, Sight, declared, no_names, opened}
 use Rattle.proto_meaning.specs.Flat as flat
-use Rattle.proto_sight.specs.Texts.{prototype_of, closed, checked}
-use Rattle.proto_tree.specs.declared.tree.BodyTree.{BodyTree}
-use Rattle.proto_tree.specs.declared.tree.DefaultTree.{DefaultTree}
-use Rattle.proto_tree.specs.declared.tree.ProtoTree.{ProtoTree}
-use Rattle.proto_tree.specs.Meaning.{instance}
-use Rattle.proto_tree.specs.Resolved.{Seen, AreDefaults, IsProto}
-use Rattle.proto_tree.proofs.Prototypes.{prototypes_are_the_same}
+use Rattle.proto_meaning.specs.Texts.{prototype_of, closed, checked}
+use Rattle.proto_meaning.specs.declared.tree.BodyTree.{BodyTree}
+use Rattle.proto_meaning.specs.declared.tree.DefaultTree.{DefaultTree}
+use Rattle.proto_meaning.specs.declared.tree.ProtoTree.{ProtoTree}
+use Rattle.proto_meaning.specs.Meaning.{instance}
+use Rattle.proto_meaning.specs.Resolved.{Seen, AreDefaults, IsProto}
+use Rattle.proto_meaning.proofs.Prototypes.{prototypes_are_the_same}
 use Rattle.proto_resolver.specs.declared.scopes.KnownProto.{KnownProto}
 use Rattle.proto_resolver.specs.declared.scopes.Scopes.{Scopes}
 use Rattle.proto_resolver.specs.declared.scopes.Table.{Table}

@@ -1,4 +1,4 @@
--- What the walk does by proto_tree's rules: default values, what stands in a prototype, and a whole
+-- What the walk does by proto_meaning's rules: default values, what stands in a prototype, and a whole
 -- text.
 use Rattle.std.proofs.Common.{◌≡◌, ℕ, Bool, true, false, List, [], ◌∷◌, cond, length, Option, Some, None, Ok, Err, refl, ap, sym, ◌∙◌, subst, true≢false}
 use Rattle.std.specs.Borrow.{Bor}
@@ -10,19 +10,19 @@ use Rattle.classic_tree.specs.declared.tree.Statement.{Statement}
 use Rattle.proto_flat.specs.declared.fault.ExpandFault.{ExpandFault}
 use Rattle.proto_meaning.specs.Sight.{Names, Prototype, Sight, Look, no_names, and_see, each}
 use Rattle.proto_meaning.specs.Flat as flat
-use Rattle.proto_sight.specs.Texts as texts
-use Rattle.proto_sight.specs.Texts.{sees_inside}
-use Rattle.proto_tree.specs.Given.{GivenTree}
-use Rattle.proto_tree.specs.declared.tree.NodeTree.{NodeTree}
-use Rattle.proto_tree.specs.declared.tree.BodyTree.{BodyTree}
-use Rattle.proto_tree.specs.declared.tree.DefaultTree.{DefaultTree}
-use Rattle.proto_tree.specs.Resolved as rule
-use Rattle.proto_tree.specs.Resolved.{Seen, wrong_in, is_value, IsGiven, AreStatements, AreDefaults}
-use Rattle.proto_tree.proofs.Same.{in_bared, never}
+use Rattle.proto_meaning.specs.Texts as texts
+use Rattle.proto_meaning.specs.Texts.{sees_inside}
+use Rattle.proto_meaning.specs.Given.{GivenTree}
+use Rattle.proto_meaning.specs.declared.tree.NodeTree.{NodeTree}
+use Rattle.proto_meaning.specs.declared.tree.BodyTree.{BodyTree}
+use Rattle.proto_meaning.specs.declared.tree.DefaultTree.{DefaultTree}
+use Rattle.proto_meaning.specs.Resolved as rule
+use Rattle.proto_meaning.specs.Resolved.{Seen, wrong_in, is_value, IsGiven, AreStatements, AreDefaults}
+use Rattle.proto_meaning.proofs.Same.{in_bared, never}
 use Rattle.proto_resolver.specs.declared.scopes.TakenNames.{TakenNames}
 use Rattle.proto_resolver.specs.declared.resolver.Resolver.{Resolver}
 use Rattle.proto_resolver.specs.declared.scopes.Table.{Table}
-use Rattle.proto_tree.specs.declared.tree.ProtoTree.{ProtoTree}
+use Rattle.proto_meaning.specs.declared.tree.ProtoTree.{ProtoTree}
 use Rattle.proto_resolver.specs.Held.{Entries, no_entries, names_of, found, seen}
 use Rattle.proto_resolver.specs.Standing.{Means, Resolves}
 use Rattle.proto_resolver.specs.Steps.{IsAside, IsBack, defaults_taken}

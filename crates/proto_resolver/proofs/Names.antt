@@ -11,7 +11,7 @@ use Rattle.proto_flat.specs.Fault.{fault}
 use Rattle.proto_flat.specs.declared.fault.ExpandFaultKind.TheVariants.{ProtoTwice, EmptyBody}
 use Rattle.proto_meaning.specs.Names.{Name}
 use Rattle.proto_meaning.specs.Sight.{OfType, OfProto, Prototype, Sight, declared, meant, taken_by}
-use Rattle.proto_sight.specs.Texts.{is_known, finds_inside, has_node, unless_found, checked}
+use Rattle.proto_meaning.specs.Texts.{is_known, finds_inside, has_node, unless_found, checked}
 use Rattle.proto_resolver.specs.declared.scopes.KnownProto.{KnownProto}
 use Rattle.proto_resolver.specs.declared.scopes.Scopes.{Scopes}
 use Rattle.proto_resolver.specs.Held.{takes_of, found, seen, in_sight}

@@ -3,8 +3,8 @@ use Rattle.std.proofs.Common.{◌≡◌, ℕ, suc, List, [], ◌∷◌, length, 
 use Prim.Native.Nat.{zero}
 use Rattle.std.specs.Prelude.{slice_get}
 use Rattle.proto_meaning.specs.Sight.{Prototype}
-use Rattle.proto_tree.specs.declared.tree.ProtoTree.{ProtoTree}
-use Rattle.proto_tree.proofs.Whole.{texts_stand_for_the_same}
+use Rattle.proto_meaning.specs.declared.tree.ProtoTree.{ProtoTree}
+use Rattle.proto_meaning.proofs.Whole.{texts_stand_for_the_same}
 use Rattle.proto_resolver.specs.Standing.{IsOf, TreesStand}
 use Rattle.proto_resolver.specs.Laws.{IsTreeOf, NumbersMeanTheirTrees, ResolvedTextsStandForTheSame}
 use Rattle.proto_resolver.proofs.Standing.{extends_none}

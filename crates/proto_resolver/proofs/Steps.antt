@@ -20,23 +20,23 @@ use Rattle.proto_meaning.specs.Names.{Name}
 use Rattle.proto_meaning.specs.Sight.{Names, Prototype, Sight, no_names, with_name, and_see, each, meant, taken_by, is_kept}
 use Rattle.proto_meaning.specs.Flat as flat
 use Rattle.proto_meaning.specs.Flat.{Stated}
-use Rattle.proto_sight.specs.Texts as texts
-use Rattle.proto_sight.proofs.Equations.{each-map, given-sees}
-use Rattle.proto_tree.specs.Given.{GivenTree}
-use Rattle.proto_tree.specs.declared.tree.GivenTree.TheVariants as tree_given
-use Rattle.proto_tree.specs.declared.tree.ItemTree.{ItemTree}
-use Rattle.proto_tree.specs.declared.tree.ItemTree.TheVariants as tree_item
-use Rattle.proto_tree.specs.declared.tree.NodeTree.{NodeTree}
-use Rattle.proto_tree.specs.declared.tree.NodeTree.TheVariants as tree_node
-use Rattle.proto_tree.specs.declared.tree.BodyTree.{BodyTree}
-use Rattle.proto_tree.specs.declared.tree.BodyTree.TheVariants as body
-use Rattle.proto_tree.specs.declared.tree.Word.{Word}
-use Rattle.proto_tree.specs.Meaning.{owner}
-use Rattle.proto_tree.specs.Resolved as rule
-use Rattle.proto_tree.specs.Resolved.{Seen, wrong_in, given_sees, is_plain, IsNode, AreNodes, IsGiven, IsItem, AreItems, AreStatements}
-use Rattle.proto_tree.proofs.Given.{sees_given}
-use Rattle.proto_tree.proofs.Statements.{put_root, puts_roots}
-use Rattle.proto_tree.proofs.Whole.{given_means, statements_mean}
+use Rattle.proto_meaning.specs.Texts as texts
+use Rattle.proto_meaning.proofs.Equations.{each-map, given-sees}
+use Rattle.proto_meaning.specs.Given.{GivenTree}
+use Rattle.proto_meaning.specs.declared.tree.GivenTree.TheVariants as tree_given
+use Rattle.proto_meaning.specs.declared.tree.ItemTree.{ItemTree}
+use Rattle.proto_meaning.specs.declared.tree.ItemTree.TheVariants as tree_item
+use Rattle.proto_meaning.specs.declared.tree.NodeTree.{NodeTree}
+use Rattle.proto_meaning.specs.declared.tree.NodeTree.TheVariants as tree_node
+use Rattle.proto_meaning.specs.declared.tree.BodyTree.{BodyTree}
+use Rattle.proto_meaning.specs.declared.tree.BodyTree.TheVariants as body
+use Rattle.proto_meaning.specs.declared.tree.Word.{Word}
+use Rattle.proto_meaning.specs.Meaning.{owner}
+use Rattle.proto_meaning.specs.Resolved as rule
+use Rattle.proto_meaning.specs.Resolved.{Seen, wrong_in, given_sees, is_plain, IsNode, AreNodes, IsGiven, IsItem, AreItems, AreStatements}
+use Rattle.proto_meaning.proofs.Given.{sees_given}
+use Rattle.proto_meaning.proofs.Statements.{put_root, puts_roots}
+use Rattle.proto_meaning.proofs.Whole.{given_means, statements_mean}
 use Rattle.proto_resolver.specs.declared.scopes.TakenNames.{TakenNames}
 use Rattle.proto_resolver.specs.declared.scopes.Taker.{Taker}
 use Rattle.proto_resolver.specs.declared.resolver.Resolver.{Resolver}

@@ -5,11 +5,11 @@ use Rattle.classic_tree.specs.declared.tree.NodeText.{NodeText}
 use Rattle.classic_tree.specs.declared.tree.ProtoText.{ProtoText, out-ProtoText}
 use Rattle.classic_tree.specs.declared.tree.Statement.{Statement}
 use Rattle.proto_meaning.specs.Sight.{Names, no_names, Prototype, Sight, each, aside}
-use Rattle.proto_sight.specs.Texts.{sees_given, sees_interface, sees_inside}
-use Rattle.proto_tree.specs.declared.tree.BodyTree.{BodyTree}
-use Rattle.proto_tree.specs.declared.tree.DefaultTree.{DefaultTree}
-use Rattle.proto_tree.specs.declared.tree.ProtoTree.{ProtoTree}
-use Rattle.proto_tree.specs.Resolved.{Seen, AreDefaults, AreStatements}
+use Rattle.proto_meaning.specs.Texts.{sees_given, sees_interface, sees_inside}
+use Rattle.proto_meaning.specs.declared.tree.BodyTree.{BodyTree}
+use Rattle.proto_meaning.specs.declared.tree.DefaultTree.{DefaultTree}
+use Rattle.proto_meaning.specs.declared.tree.ProtoTree.{ProtoTree}
+use Rattle.proto_meaning.specs.Resolved.{Seen, AreDefaults, AreStatements}
 use Rattle.proto_resolver.specs.Standing.{TreesStand}
 use Rattle.proto_resolver.specs.Steps.{defaults_taken}
 

@@ -5,8 +5,8 @@ use Rattle.std.specs.List.{filter}
 use Rattle.classic_tree.specs.declared.tree.ProtoText.{ProtoText, out-ProtoText}
 use Rattle.proto_meaning.specs.Names.{Name}
 use Rattle.proto_meaning.specs.Sight.{Names, no_names, with_name}
-use Rattle.proto_tree.specs.declared.tree.BodyTree.{BodyTree}
-use Rattle.proto_tree.specs.declared.tree.DefaultTree.{DefaultTree}
+use Rattle.proto_meaning.specs.declared.tree.BodyTree.{BodyTree}
+use Rattle.proto_meaning.specs.declared.tree.DefaultTree.{DefaultTree}
 use Rattle.proto_resolver.specs.declared.scopes.KnownProto.{KnownProto}
 use Rattle.proto_resolver.specs.declared.scopes.Table.{Table}
 use Rattle.proto_resolver.specs.declared.scopes.TakenNames.{TakenNames}

@@ -4,8 +4,8 @@ ghost use Rattle.std.specs.Prelude.{◌≡◌, ◌∷◌, IfOk, List, option_map
 ghost use Rattle.classic_tree.specs.declared.tree.Statement.{Statement};
 ghost use Rattle.proto_meaning.specs.Flat as flat;
 ghost use Rattle.proto_meaning.specs.Sight.{Prototype, Sight};
-ghost use Rattle.proto_sight.specs.Texts.{checked};
-ghost use Rattle.proto_tree.specs.Resolved.{AreStatements};
+ghost use Rattle.proto_meaning.specs.Texts.{checked};
+ghost use Rattle.proto_meaning.specs.Resolved.{AreStatements};
 ghost use Rattle.proto_resolver.specs.Standing.{Resolves, Shows};
 ghost use Rattle.proto_resolver.specs.Parts.{AreAllDefaults, AreDefaultsAside, Before};
 ghost use Rattle.proto_resolver.specs.Parts.{IsInterior};
@@ -15,7 +15,7 @@ use crate::resolver::{Resolver, check_declaration, declare};
 use crate::walk::{Resolved, append, resolve_given, resolve_node};
 use classic_tree::{Declaration, NodeText, ProtoText, Statement};
 use proto_flat::ExpandFault;
-use proto_tree::{BodyTree, DefaultTree};
+use proto_meaning::{BodyTree, DefaultTree};
 use std::alloc::{AllocError, Global};
 use x3d_lists::Items;
 

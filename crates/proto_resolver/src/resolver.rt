@@ -2,8 +2,8 @@
 
 ghost use Rattle.std.specs.Prelude.{◌≡◌, ◌∷◌, ◌++◌, [], List, IfOk, if◌then◌else◌};
 ghost use Rattle.proto_meaning.specs.Sight.{Prototype, Sight, meant, taken_by};
-ghost use Rattle.proto_sight.specs.Texts as spec;
-ghost use Rattle.proto_tree.specs.Meaning.{owner};
+ghost use Rattle.proto_meaning.specs.Texts as spec;
+ghost use Rattle.proto_meaning.specs.Meaning.{owner};
 ghost use Rattle.proto_resolver.specs.declared.scopes.Table.{Table};
 ghost use Rattle.proto_resolver.specs.Held.{names_of, taken_names};
 ghost use Rattle.proto_resolver.specs.Standing.{Extends, Shows};
@@ -13,8 +13,7 @@ ghost use Rattle.proto_resolver.specs.Steps.{IsTaking, defaults_taken};
 use crate::scopes::{KnownProto, Scopes, Table, TakenNames, Taker};
 use classic_tree::ProtoText;
 use proto_flat::{ExpandFault, ExpandFaultKind};
-use proto_sight::{find_inside, has_node};
-use proto_tree::{BodyTree, DefaultTree, ProtoTree, Word};
+use proto_meaning::{BodyTree, DefaultTree, ProtoTree, Word, find_inside, has_node};
 use std::alloc::{AllocError, Global};
 use std::mem;
 use std::rc::Rc;

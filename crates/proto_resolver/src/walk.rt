@@ -2,7 +2,7 @@
 
 ghost use Rattle.std.specs.Prelude.{◌≡◌, ◌∷◌, ◌++◌, IfOk, List, false, option_map, true};
 ghost use Rattle.classic_tree.specs.declared.tree.BodyItem.{BodyItem};
-ghost use Rattle.proto_tree.specs.Resolved.{AreItems, AreNodes, IsGiven, IsNode};
+ghost use Rattle.proto_meaning.specs.Resolved.{AreItems, AreNodes, IsGiven, IsNode};
 ghost use Rattle.proto_resolver.specs.Held.{taken_names};
 ghost use Rattle.proto_resolver.specs.Standing.{Resolves};
 ghost use Rattle.proto_resolver.specs.Parts.{Before, one_or_none};
@@ -12,7 +12,7 @@ use crate::resolver::{Meaning, Resolver, meaning_of};
 use crate::scopes::Taker;
 use classic_tree::{BodyItem, Given, NodeText, RawValue};
 use proto_flat::ExpandFault;
-use proto_tree::{FieldTree, GivenTree, ItemTree, NodeTree};
+use proto_meaning::{FieldTree, GivenTree, ItemTree, NodeTree};
 use std::alloc::{AllocError, Global};
 use x3d_lists::{Items, Text};
 

@@ -8,7 +8,7 @@ use crate::resolver::Resolver;
 use crate::scopes::Scopes;
 use crate::walk::Resolved;
 use classic_tree::Document;
-use proto_tree::TextTree;
+use proto_meaning::TextTree;
 use std::alloc::{AllocError, Global};
 use x3d_lists::Items;
 

@@ -52,7 +52,6 @@ declaration_entry d = declared_entry (declared_by d)
 
 -- ---- numbers have 16 bits: a scene has no node with more fields (specs/Wide)
 
-
 abbrev pub most_declared : NodeType → ℕ
 most_declared t = max_fields - length (rows t)
 

@@ -9,3 +9,4 @@ pub mod Rounds
 pub mod Rewinds
 pub mod Joins
 pub mod Cuts
+pub mod Stored

@@ -5,3 +5,4 @@ pub mod Viewer
 pub mod Ahead
 pub mod Rewinds
 pub mod Pieces
+pub mod Stored

@@ -5,10 +5,10 @@ ghost use Rattle.x3d_values.specs.Ranges.{max_inputs};
 ghost use Rattle.share_law.specs.Network.{join_result};
 
 use crate::ahead::take_input;
+use crate::gathering::{Pieces, gather};
 use crate::waiting::Waiting;
 use cascade_core::{PlaceFault, Stage, TextFault};
 use script_host::Behaviour;
-use share_gather::{Pieces, gather};
 use share_law::{GatherFault, Gathered, JoinFault, OfferFault, TakeFault, Taken};
 use share_rules::Window;
 use share_wire::{Ack, Ask, Body, Floor, Message, Packet, decode, encode};

@@ -11,7 +11,7 @@ use Rattle.share_law.specs.Network.{start}
 use Rattle.share_law.proofs.Runs.{Run-reached}
 use Rattle.share_core.specs.Host.{HostView}
 use Rattle.share_core.specs.Viewer.{ViewerView}
-use Rattle.laws_networks.proofs.Worlds.{running_have}
+use Rattle.laws_worlds.proofs.NetworksWorlds.{running_have}
 use Rattle.share_rehearsal.specs.declared.answer.Answer.{Answer}
 use Rattle.share_rehearsal.specs.Calls.{Seen, AreCalls, begun_with}
 use Rattle.share_rehearsal.specs.Stands.{law_answer}

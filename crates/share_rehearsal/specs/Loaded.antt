@@ -6,7 +6,7 @@ use Rattle.scene_core.specs.Scene.{SceneView}
 use Rattle.cascade_core.specs.Apply.{opening}
 use Rattle.cascade_core.specs.Held.{StageView, Running}
 use Rattle.laws_worlds.specs.Nodes.{RunsAll}
-use Rattle.laws_networks.specs.Opened.{IsOpened}
+use Rattle.laws_worlds.specs.Opened.{IsOpened}
 
 -- stages of this scene, with these routes
 abbrev pub AreOf : SceneView → List Route → List StageView → Type 0

@@ -12,10 +12,10 @@ use Rattle.share_law.specs.Pieces.{Gathering, whole_of}
 use Rattle.share_law.specs.Viewer.{ViewerState}
 use Rattle.share_core.specs.Rewinds.{IsJoined}
 use Rattle.share_core.specs.Viewer.{ViewerView, with_gathering}
-use Rattle.share_port.specs.declared.traffic.Datagram.{Datagram}
-use Rattle.share_port.specs.declared.traffic.Traffic.{Traffic}
-use Rattle.share_port.specs.declared.traffic.Traffic.TheVariants.{Received}
-use Rattle.share_port.specs.Told.{Grows}
+use Rattle.share_turns.specs.declared.traffic.Datagram.{Datagram}
+use Rattle.share_turns.specs.declared.traffic.Traffic.{Traffic}
+use Rattle.share_turns.specs.declared.traffic.Traffic.TheVariants.{Received}
+use Rattle.share_turns.specs.Told.{Grows}
 use Rattle.share_turns.specs.declared.fault.SeriesFault.{SeriesFault}
 use Rattle.share_turns.specs.declared.fault.SeriesFault.TheVariants as series
 use Rattle.share_turns.specs.declared.fault.TurnFault.{TurnFault}

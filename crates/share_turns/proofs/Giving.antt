@@ -7,7 +7,7 @@ use Rattle.snapshot_core.specs.declared.fault.SaveFault.{SaveFault}
 use Rattle.snapshot_core.specs.declared.fault.SaveFault.TheVariants as save
 use Rattle.share_law.specs.Viewer.{ViewerWorld, Running, Spoiled}
 use Rattle.share_core.specs.Viewer.{IfRunning, IfSpoiled, ViewerView}
-use Rattle.share_port.specs.declared.traffic.Traffic.{Traffic}
+use Rattle.share_turns.specs.declared.traffic.Traffic.{Traffic}
 use Rattle.share_turns.specs.declared.fault.TurnFault.{TurnFault}
 use Rattle.share_turns.specs.declared.fault.TurnFault.TheVariants as turn_fault
 use Rattle.share_turns.specs.HostTurn.{failures_after}

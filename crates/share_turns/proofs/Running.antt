@@ -2,7 +2,7 @@
 use Rattle.std.proofs.Common.{◌≡◌, ℕ, suc, ◌+◌, ◌≤◌, true, false, List, subst, inl, inr, arith}
 use Rattle.std.specs.Prelude.{ℤ, Option, Result, Ok, Err, IfErr, OnOk, is_none, slice_get}
 use Rattle.share_law.specs.Parts.{HostPart}
-use Rattle.share_port.specs.declared.traffic.Traffic.{Traffic}
+use Rattle.share_turns.specs.declared.traffic.Traffic.{Traffic}
 use Rattle.share_turns.specs.declared.fault.SeriesFault.{SeriesFault}
 use Rattle.share_turns.specs.declared.fault.SeriesFault.TheVariants as series
 use Rattle.share_turns.specs.declared.runs.HostPlan.{HostPlan}

@@ -11,10 +11,10 @@ use Rattle.share_wire.specs.declared.message.Body.{Body}
 use Rattle.share_law.specs.declared.kept.SeatCount.{SeatCount}
 use Rattle.share_law.specs.Host.{ack_of}
 use Rattle.share_law.specs.Parts.{HostPart, part_packet}
-use Rattle.share_port.specs.declared.port.PortFault.{PortFault}
-use Rattle.share_port.specs.declared.traffic.Traffic.{Traffic}
-use Rattle.share_port.specs.declared.traffic.Traffic.TheVariants.{Sent}
-use Rattle.share_port.specs.Told.{Grows}
+use Rattle.share_turns.specs.declared.port.PortFault.{PortFault}
+use Rattle.share_turns.specs.declared.traffic.Traffic.{Traffic}
+use Rattle.share_turns.specs.declared.traffic.Traffic.TheVariants.{Sent}
+use Rattle.share_turns.specs.Told.{Grows}
 use Rattle.share_turns.specs.Exchanges.{AreSent, sent_to}
 use Rattle.share_turns.specs.HostTurn.{acks_for, ack_to, datagrams_of, listed}
 

@@ -8,10 +8,10 @@ use Rattle.cascade_core.specs.Course.{Scripted}
 use Rattle.share_law.specs.Machine.{Machine}
 use Rattle.share_law.specs.Viewer.{ViewerWorld, Running, Spoiled, ViewerState}
 use Rattle.share_core.specs.Viewer.{IfRunning, IfSpoiled, ViewerView, is_spoiled, machine_of, with_state}
-use Rattle.share_port.specs.declared.traffic.Datagram.{Datagram}
-use Rattle.share_port.specs.declared.traffic.Traffic.{Traffic}
-use Rattle.share_port.specs.declared.traffic.Traffic.TheVariants.{Received}
-use Rattle.share_port.specs.Told.{Grows}
+use Rattle.share_turns.specs.declared.traffic.Datagram.{Datagram}
+use Rattle.share_turns.specs.declared.traffic.Traffic.{Traffic}
+use Rattle.share_turns.specs.declared.traffic.Traffic.TheVariants.{Received}
+use Rattle.share_turns.specs.Told.{Grows}
 use Rattle.share_turns.specs.declared.fault.TurnFault.{TurnFault}
 use Rattle.share_turns.specs.declared.fault.TurnFault.TheVariants as turn_fault
 use Rattle.share_turns.specs.Exchanges.{AreSent, IsEnd, sent_to}

@@ -12,10 +12,10 @@ use Rattle.share_law.specs.Calls.{IsPartTakeOf}
 use Rattle.share_law.specs.Parts.{HostPart}
 use Rattle.share_law.specs.Network.{HostTook}
 use Rattle.share_law.specs.Steps.{says_memory}
-use Rattle.share_port.specs.declared.traffic.Datagram.{Datagram}
-use Rattle.share_port.specs.declared.traffic.Traffic.{Traffic}
-use Rattle.share_port.specs.declared.traffic.Traffic.TheVariants.{Received}
-use Rattle.share_port.specs.Told.{Grows}
+use Rattle.share_turns.specs.declared.traffic.Datagram.{Datagram}
+use Rattle.share_turns.specs.declared.traffic.Traffic.{Traffic}
+use Rattle.share_turns.specs.declared.traffic.Traffic.TheVariants.{Received}
+use Rattle.share_turns.specs.Told.{Grows}
 use Rattle.share_turns.specs.Exchanges.{AreSent, Exchange, IsEnd, IsSentOf, all_traffic, refusals_in, sent_to, traffic_of}
 use Rattle.share_turns.specs.HostTurn.{AreAnswered, IsAnswered, IsBegun, IsExchange, IsHeardTurn, all_heard, bodies_for, datagrams_of, hears, is_whole, is_whole_before, sender_of}
 use Rattle.share_turns.specs.Refusals.{IsAnswerAfter}

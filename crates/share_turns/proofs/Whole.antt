@@ -4,7 +4,7 @@ use Rattle.std.specs.Prelude.{Option, Result, Ok, Err, IfOk}
 use Rattle.x3d_values.specs.declared.pointing.Point.{Point}
 use Rattle.share_law.specs.Pieces.{Gathering}
 use Rattle.share_core.specs.Viewer.{ViewerView, with_state}
-use Rattle.share_port.specs.declared.traffic.Traffic.{Traffic}
+use Rattle.share_turns.specs.declared.traffic.Traffic.{Traffic}
 use Rattle.share_turns.specs.declared.fault.SeriesFault.{SeriesFault}
 use Rattle.share_turns.specs.declared.fault.SeriesFault.TheVariants as series
 use Rattle.share_turns.specs.declared.fault.TurnFault.{TurnFault}

@@ -1,10 +1,10 @@
 -- The traffic of a turn: datagrams that arrive, and what is sent to the peer of each.
 use Rattle.std.specs.Prelude.{◌≡◌, ◌⊎◌, ℕ, Bool, true, false, List, [], ◌∷◌, ◌++◌, map, Option}
 use Rattle.std.specs.List.{flat_map}
-use Rattle.share_port.specs.declared.traffic.Datagram.{Datagram}
-use Rattle.share_port.specs.declared.traffic.Traffic.{Traffic}
-use Rattle.share_port.specs.declared.traffic.Traffic.TheVariants.{Nothing, Received, Sent}
-use Rattle.share_port.specs.Told.{Grows}
+use Rattle.share_turns.specs.declared.traffic.Datagram.{Datagram}
+use Rattle.share_turns.specs.declared.traffic.Traffic.{Traffic}
+use Rattle.share_turns.specs.declared.traffic.Traffic.TheVariants.{Nothing, Received, Sent}
+use Rattle.share_turns.specs.Told.{Grows}
 
 -- a datagram that arrived, whether memory was refused to its take, and what was sent to its peer
 -- for it

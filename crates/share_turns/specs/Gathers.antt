@@ -16,8 +16,8 @@ use Rattle.share_law.specs.Steps.{says_memory}
 use Rattle.share_law.specs.Viewer.{ViewerState}
 use Rattle.share_core.specs.Rewinds.{IsJoined, IsLawfulJoin}
 use Rattle.share_core.specs.Viewer.{ViewerView, with_gathering, with_state}
-use Rattle.share_port.specs.declared.traffic.Traffic.{Traffic}
-use Rattle.share_port.specs.Told.{Grows}
+use Rattle.share_turns.specs.declared.traffic.Traffic.{Traffic}
+use Rattle.share_turns.specs.Told.{Grows}
 use Rattle.share_turns.specs.declared.fault.SeriesFault.{SeriesFault}
 use Rattle.share_turns.specs.declared.fault.SeriesFault.TheVariants.{Turn, TurnsUsedUp, Join}
 use Rattle.share_turns.specs.declared.fault.TurnFault.{TurnFault}

@@ -7,7 +7,7 @@ use Rattle.share_core.specs.Viewer.{IfRunning, IfSpoiled, ViewerView}
 use Rattle.snapshot_core.specs.Shot.{shot}
 use Rattle.snapshot_core.specs.declared.fault.SaveFault.{SaveFault}
 use Rattle.snapshot_core.specs.declared.fault.SaveFault.TheVariants as save
-use Rattle.share_port.specs.declared.traffic.Traffic.{Traffic}
+use Rattle.share_turns.specs.declared.traffic.Traffic.{Traffic}
 use Rattle.share_turns.specs.declared.fault.TurnFault.{TurnFault}
 use Rattle.share_turns.specs.declared.fault.TurnFault.TheVariants.{Memory, Port, Spoiled}
 use Rattle.share_turns.specs.Exchanges.{AreSent}

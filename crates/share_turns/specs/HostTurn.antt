@@ -4,7 +4,7 @@ use Rattle.std.specs.Prelude.{slice_get, Option, Some, None, Result, Ok, Err, is
 use Rattle.std.specs.Prelude.{if◌then◌else◌}
 use Rattle.std.specs.Cmp.Lexicographic.{pointwise}
 use Rattle.std.specs.List.{flat_map, range_with_len}
-use Rattle.share_heard.specs.Heard.{hear}
+use Rattle.share_turns.specs.Heard.{hear}
 use Rattle.share_wire.specs.Messages.{AskView}
 use Rattle.share_wire.specs.Datagram.{datagram}
 use Rattle.share_wire.specs.Decoding.{decoded}
@@ -22,9 +22,9 @@ use Rattle.share_law.specs.Parts.{HostPart, part_packet, part_floor_packet}
 use Rattle.share_law.specs.Calls.{IsPartClocked, IsPartTakeOf}
 use Rattle.share_law.specs.Network.{Clocked, HostTook}
 use Rattle.share_law.specs.Steps.{says_memory}
-use Rattle.share_port.specs.declared.traffic.Datagram.{Datagram}
-use Rattle.share_port.specs.declared.traffic.Traffic.{Traffic}
-use Rattle.share_port.specs.Told.{Grows, one_more}
+use Rattle.share_turns.specs.declared.traffic.Datagram.{Datagram}
+use Rattle.share_turns.specs.declared.traffic.Traffic.{Traffic}
+use Rattle.share_turns.specs.Told.{Grows, one_more}
 use Rattle.share_turns.specs.declared.fault.TurnFault.{TurnFault}
 use Rattle.share_turns.specs.declared.fault.TurnFault.TheVariants.{Port}
 use Rattle.share_turns.specs.Exchanges.{Exchange, all_traffic, refusals_in, sent_to}

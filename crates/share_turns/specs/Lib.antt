@@ -11,3 +11,7 @@ pub mod Seats
 pub mod Round
 pub mod Agreeing
 pub mod AgreedTexts
+pub mod Heard
+pub mod Ends
+pub mod Peers
+pub mod Told

@@ -1,10 +1,10 @@
 -- Turns of the host, one after another: what it keeps of its inputs, and when it is done.
 use Rattle.std.specs.Prelude.{◌≡◌, ◌⊎◌, ℕ, zero, suc, ◌≤◌, ◌<◌, ℤ, Bool, true, false, List, slice_get}
 use Rattle.std.specs.Prelude.{Option, None, Some, is_none, Ok, Err}
-use Rattle.share_heard.specs.Heard.{lowest, nobody}
-use Rattle.share_heard.specs.Ends.{floor_for, is_served}
+use Rattle.share_turns.specs.Heard.{lowest, nobody}
+use Rattle.share_turns.specs.Ends.{floor_for, is_served}
 use Rattle.share_law.specs.Parts.{HostPart, part_drop_below}
-use Rattle.share_port.specs.declared.traffic.Traffic.{Traffic}
+use Rattle.share_turns.specs.declared.traffic.Traffic.{Traffic}
 use Rattle.share_turns.specs.declared.fault.SeriesFault.{SeriesFault}
 use Rattle.share_turns.specs.declared.fault.SeriesFault.TheVariants as series
 use Rattle.share_turns.specs.declared.fault.TurnFault.{TurnFault}

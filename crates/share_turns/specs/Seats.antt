@@ -5,7 +5,7 @@ use Rattle.x3d_values.specs.Stamp.{StampedView}
 use Rattle.cascade_core.specs.Course.{Scripted}
 use Rattle.share_law.specs.Viewer.{ViewerState}
 use Rattle.share_core.specs.Viewer.{ViewerView, with_state}
-use Rattle.share_port.specs.declared.traffic.Traffic.{Traffic}
+use Rattle.share_turns.specs.declared.traffic.Traffic.{Traffic}
 use Rattle.share_turns.specs.declared.fault.TurnFault.{TurnFault}
 use Rattle.share_turns.specs.HostTurn.{failures_after}
 use Rattle.share_turns.specs.Views.{IsTurnOf}

@@ -12,10 +12,10 @@ use Rattle.share_law.specs.Viewer.{ViewerState, viewer_ask, viewer_offer, viewer
 use Rattle.share_law.specs.Calls.{IsTakeOf}
 use Rattle.share_law.specs.Network.{ViewerTook}
 use Rattle.share_law.specs.Steps.{says_memory}
-use Rattle.share_port.specs.declared.traffic.Datagram.{Datagram}
-use Rattle.share_port.specs.declared.traffic.Traffic.{Traffic}
-use Rattle.share_port.specs.declared.traffic.Traffic.TheVariants.{Received}
-use Rattle.share_port.specs.Told.{Grows}
+use Rattle.share_turns.specs.declared.traffic.Datagram.{Datagram}
+use Rattle.share_turns.specs.declared.traffic.Traffic.{Traffic}
+use Rattle.share_turns.specs.declared.traffic.Traffic.TheVariants.{Received}
+use Rattle.share_turns.specs.Told.{Grows}
 use Rattle.share_turns.specs.declared.fault.TurnFault.{TurnFault}
 use Rattle.share_turns.specs.Exchanges.{IsEnd, IsSentOf, most_taken, sent_to}
 use Rattle.share_turns.specs.HostTurn.{datagrams_of, listed}

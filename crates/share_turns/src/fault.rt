@@ -5,9 +5,9 @@ ghost use Rattle.share_turns.specs.Views.{turn_fault_of};
 ghost use Rattle.share_turns.specs.declared.fault.SeriesFault.TheVariants.{Turn};
 ghost use Rattle.share_turns.specs.declared.fault.TurnFault.TheVariants.{Memory, Port};
 
+use crate::port::PortFault;
 use cascade_core::TextFault;
 use share_law::SnapFault;
-use share_port::PortFault;
 use std::alloc::AllocError;
 use thiserror::Error;
 

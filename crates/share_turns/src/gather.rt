@@ -13,10 +13,10 @@ ghost use Rattle.share_turns.specs.declared.fault.TurnFault.TheVariants.{Memory}
 
 use crate::fault::{SeriesFault, TurnFault};
 use crate::most::MOST;
+use crate::port::{Port, RECEIVED};
 use script_host::Behaviour;
 use share_core::Viewer;
 use share_law::{GatherFault, Gathered, JoinFault, SnapFault};
-use share_port::{Port, RECEIVED};
 
 /// Goes on after a datagram, unless memory was refused to the first piece. A datagram that was
 /// refused for another cause is dropped.

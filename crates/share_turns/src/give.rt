@@ -3,7 +3,7 @@
 
 ghost use Rattle.std.specs.Prelude.{◌≡◌, [], Err, IfErr, OnErr, OnOk, is_ok};
 ghost use Rattle.std.specs.Option.{option_map};
-ghost use Rattle.share_port.specs.Told.{counted};
+ghost use Rattle.share_turns.specs.Told.{counted};
 ghost use Rattle.share_wire.specs.Datagram.{datagram};
 ghost use Rattle.share_core.specs.Pieces.{count_of};
 ghost use Rattle.share_turns.specs.Exchanges.{AreSent};
@@ -15,10 +15,10 @@ ghost use Rattle.share_turns.specs.declared.fault.TurnFault.TheVariants.{Port as
 
 use crate::fault::TurnFault;
 use crate::most::MOST;
+use crate::port::{Port, PortFault, RECEIVED};
 use script_host::Behaviour;
 use share_core::{Viewer, piece_count, piece_packet};
 use share_law::SaveFault;
-use share_port::{Port, PortFault, RECEIVED};
 use share_wire::Packet;
 use std::alloc::Global;
 

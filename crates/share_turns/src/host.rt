@@ -2,7 +2,7 @@
 
 ghost use Rattle.std.specs.Prelude.{◌≡◌, [], ◌∷◌, Err, IfOk, OnErr, is_err, is_ok, nat_eq};
 ghost use Rattle.std.specs.Cmp.Lexicographic.{pointwise};
-ghost use Rattle.share_port.specs.Told.{counted};
+ghost use Rattle.share_turns.specs.Told.{counted};
 ghost use Rattle.share_turns.specs.Exchanges.{AreSent};
 ghost use Rattle.share_law.specs.Calls.{IsPartTakeOf};
 ghost use Rattle.share_law.specs.Parts.{part_floor_packet, part_packet};
@@ -17,11 +17,11 @@ ghost use Rattle.share_turns.specs.HostTurn.{failures_after};
 ghost use Rattle.share_turns.specs.declared.fault.TurnFault.TheVariants.{Memory};
 
 use crate::fault::TurnFault;
+use crate::heard::Heard;
 use crate::most::MOST;
+use crate::port::{Port, PortFault, RECEIVED};
 use share_core::Host;
-use share_heard::Heard;
 use share_law::{HostFault, HostReply, NumberFault};
-use share_port::{Port, PortFault, RECEIVED};
 use share_wire::{Ask, Body, Message, WireFault, decode};
 
 /// Goes on after a clock, unless memory was refused to it. A clock that was refused for another

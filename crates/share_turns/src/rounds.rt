@@ -20,6 +20,7 @@ ghost use Rattle.share_turns.specs.Round.{meeting};
 
 use crate::fault::{SeriesFault, TurnFault};
 use crate::host::host_turn;
+use crate::port::Port;
 use crate::runs::item_at;
 use crate::view::{one_more_if, push_texts};
 use crate::viewer::viewer_turn;
@@ -27,7 +28,6 @@ use itoa::Buffer;
 use script_host::Behaviour;
 use share_core::{Host, Viewer};
 use share_law::point_of;
-use share_port::Port;
 use std::alloc::AllocError;
 use x3d_values::{Cause, Point, Stamped};
 

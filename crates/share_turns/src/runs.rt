@@ -7,11 +7,12 @@ ghost use Rattle.share_turns.specs.Runs.{kept_by, next_floor};
 ghost use Rattle.share_turns.specs.Views.{failures_in};
 ghost use Rattle.share_turns.specs.declared.fault.SeriesFault.TheVariants.{TurnsUsedUp};
 
+use crate::ends::{floor_for, is_served};
 use crate::fault::{SeriesFault, TurnFault};
+use crate::heard::Heard;
 use crate::host::hearing_turn;
+use crate::port::Port;
 use share_core::Host;
-use share_heard::{Heard, floor_for, is_served};
-use share_port::Port;
 
 /// What a host keeps of its inputs, and when it is done.
 #[derive(Clone, Copy, Debug, PartialEq, Eq)]

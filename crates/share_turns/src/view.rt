@@ -13,11 +13,11 @@ ghost use Rattle.share_turns.specs.Views.{IsViewEnd, failures_in, one_more_if};
 use crate::fault::{SeriesFault, TurnFault};
 use crate::gather::join_run;
 use crate::give::give_run;
+use crate::port::Port;
 use crate::runs::item_at;
 use crate::viewer::viewer_turn;
 use script_host::Behaviour;
 use share_core::Viewer;
-use share_port::Port;
 use std::alloc::Global;
 use x3d_values::Point;
 

@@ -4,7 +4,7 @@ ghost use Rattle.std.specs.Prelude.{◌≡◌, Err, OnErr, is_err, is_ok};
 ghost use Rattle.share_law.specs.Network.{ViewerTook};
 ghost use Rattle.share_law.specs.Steps.{says_memory};
 ghost use Rattle.share_law.specs.Viewer.{viewer_resend};
-ghost use Rattle.share_port.specs.Told.{counted};
+ghost use Rattle.share_turns.specs.Told.{counted};
 ghost use Rattle.share_core.specs.Viewer.{IfRunning, IfSpoiled, machine_of, with_state};
 ghost use Rattle.share_turns.specs.Exchanges.{AreSent};
 ghost use Rattle.share_turns.specs.HostTurn.{datagrams_of, failures_after, listed};
@@ -13,10 +13,10 @@ ghost use Rattle.share_turns.specs.declared.fault.TurnFault.TheVariants.{Memory,
 
 use crate::fault::TurnFault;
 use crate::most::MOST;
+use crate::port::{Port, PortFault, RECEIVED};
 use script_host::Behaviour;
 use share_core::Viewer;
 use share_law::{TakeFault, Taken};
-use share_port::{Port, PortFault, RECEIVED};
 use x3d_values::Point;
 
 /// Offers the point of a turn, if there is one. Returns whether it was offered.

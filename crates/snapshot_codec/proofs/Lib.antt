@@ -6,3 +6,5 @@ pub mod PartLaws
 pub mod Signed
 pub mod TraceLaws
 pub mod ValueLaws
+mod Listed
+mod Typed

@@ -4,3 +4,4 @@ pub mod Parts
 pub mod Reads
 pub mod Trace
 pub mod Values
+pub mod Ranges

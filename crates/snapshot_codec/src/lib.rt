@@ -12,12 +12,15 @@ mod exactness;
 mod fault;
 mod head;
 mod kept;
+mod kept_ranges;
 mod numbers;
 mod parts;
 mod plane;
+mod ranged;
 mod rest;
 mod trace;
 mod value;
+mod value_ranges;
 mod vectors;
 mod viewers;
 
@@ -27,6 +30,7 @@ pub use head::{
     HeadFault, Progress, open, progress_of, push_digest, push_front, push_progress, scene_mark,
 };
 pub use kept::{KeptField, kept_field, kept_fields_of, push_kept_fields};
+pub use kept_ranges::{is_moment, kept_fits, place_fits, typed_fits};
 pub use parts::{cycle_of, position_of, push_cycle, push_position, push_state, states_of};
 pub use plane::{Drag, Path, Plane, plane_of, push_plane};
 pub use rest::all_read;
@@ -34,4 +38,5 @@ pub use trace::{
     Outputs, SentAt, TakesEntries, TraceEntry, entry_of, push_entry, push_entry_count, trace_of,
 };
 pub use value::{push_value, value_of};
+pub use value_ranges::value_fits;
 pub use viewers::{Touch, Viewers, push_touch, push_viewer_set, touch_of, viewer_set_of};

@@ -6,8 +6,8 @@ use Rattle.scene_core.specs.Scene.{SceneView}
 use Rattle.cascade_core.specs.Course.{Scripted}
 use Rattle.snapshot_codec.specs.declared.head.HeadFault.{HeadFault}
 use Rattle.snapshot_codec.specs.Head.{body_or}
-use Rattle.snapshot_rules.specs.declared.version.Version.{Version}
-use Rattle.snapshot_rules.specs.Opening.{fault_before, found_body, version_in}
+use Rattle.snapshot_core.specs.declared.version.Version.{Version}
+use Rattle.snapshot_core.specs.Opening.{fault_before, found_body, version_in}
 use Rattle.snapshot_core.specs.declared.fault.SnapFault.{SnapFault}
 use Rattle.snapshot_core.specs.declared.fault.SnapFault.TheVariants.{Memory}
 use Rattle.snapshot_core.specs.declared.world.Found.{Found}

@@ -11,7 +11,7 @@ use Rattle.scene_core.specs.declared.scene.SceneNode.{SceneNode}
 use Rattle.byte_codec.specs.Codec.{Codec}
 use Rattle.snapshot_codec.specs.declared.kept.KeptField.{KeptField}
 use Rattle.snapshot_codec.specs.Fields.{kept_field}
-use Rattle.snapshot_rules.specs.declared.version.Version.{Version}
+use Rattle.snapshot_core.specs.declared.version.Version.{Version}
 use Rattle.snapshot_core.specs.declared.nodes.NodeState.{NodeState}
 use Rattle.snapshot_core.specs.Nodes.{kept_fields, kept_from, node_codec, shape_in, state_codec}
 

@@ -9,3 +9,8 @@ pub mod ShotLaws
 pub mod StateLaws
 pub mod StateSizes
 pub mod WorldLaws
+pub mod BesideLaws
+pub mod Growing
+mod PartSizes
+pub mod SetLaws
+mod Ways

@@ -13,9 +13,9 @@ use Rattle.scene_core.specs.Scene.{SceneView, shapes_of}
 use Rattle.scene_core.specs.Shape.{Shape}
 use Rattle.snapshot_codec.specs.Fields.{fields_codec}
 use Rattle.snapshot_codec.proofs.KeptLaws.{fields_exact}
-use Rattle.snapshot_rules.specs.declared.version.Version.{Version}
-use Rattle.snapshot_rules.specs.Opening.{newest}
-use Rattle.snapshot_rules.proofs.BesideLaws.{beside_exact, newest_pointing, pointing_fitting}
+use Rattle.snapshot_core.specs.declared.version.Version.{Version}
+use Rattle.snapshot_core.specs.Opening.{newest}
+use Rattle.snapshot_core.proofs.BesideLaws.{beside_exact, newest_pointing, pointing_fitting}
 use Rattle.sensor_plane.specs.declared.pointing.PointingState.{PointingState}
 use Rattle.sensor_plane.specs.Pointing.{pointing_fits}
 use Rattle.snapshot_core.specs.declared.nodes.NodeLists.{NodeLists}

@@ -11,7 +11,7 @@ use Rattle.snapshot_codec.specs.Reads.{Fails}
 use Rattle.snapshot_codec.specs.declared.fault.PartFault.{PartFault}
 use Rattle.snapshot_codec.specs.declared.fault.PartFault.TheVariants as faults
 use Rattle.sensor_plane.specs.declared.pointing.PointingState.{PointingState}
-use Rattle.snapshot_rules.specs.declared.version.Version.{Version}
+use Rattle.snapshot_core.specs.declared.version.Version.{Version}
 use Rattle.snapshot_core.specs.declared.nodes.NodeLists.{NodeLists}
 use Rattle.snapshot_core.specs.declared.nodes.NodeState.{NodeState}
 use Rattle.snapshot_core.specs.Nodes.{node_codec, by_lists, nodes_from, lists_codec}

@@ -13,9 +13,9 @@ use Rattle.snapshot_codec.specs.declared.head.HeadFault.{HeadFault}
 use Rattle.snapshot_codec.specs.declared.head.HeadFault.TheVariants.{Short}
 use Rattle.snapshot_codec.specs.Head.{front, sealed, snapshot}
 use Rattle.snapshot_codec.specs.Trace.{moment_codec}
-use Rattle.snapshot_rules.specs.declared.version.Version.{Version}
-use Rattle.snapshot_rules.specs.declared.version.Version.TheVariants.{One, Two}
-use Rattle.snapshot_rules.specs.Opening.{fault_before, newest, version_in, version_number}
+use Rattle.snapshot_core.specs.declared.version.Version.{Version}
+use Rattle.snapshot_core.specs.declared.version.Version.TheVariants.{One, Two}
+use Rattle.snapshot_core.specs.Opening.{fault_before, newest, version_in, version_number}
 use Rattle.snapshot_core.specs.declared.head.ShotHead.{ShotHead}
 use Rattle.snapshot_core.specs.Loading.{HasSnapshot}
 use Rattle.snapshot_core.specs.Shot.{shot}

@@ -11,9 +11,9 @@ use Rattle.scene_core.specs.Scene.{SceneView, shapes_of}
 use Rattle.x3d_values.specs.Ranges.{max_viewers}
 use Rattle.snapshot_codec.specs.declared.head.HeadFault.{HeadFault}
 use Rattle.snapshot_codec.specs.Head.{applied_codec, front, opened, snapshot}
-use Rattle.snapshot_rules.specs.declared.version.Version.{Version}
-use Rattle.snapshot_rules.specs.declared.version.Version.TheVariants.{One, Two}
-use Rattle.snapshot_rules.specs.Opening.{found_body, newest, version_in, version_number}
+use Rattle.snapshot_core.specs.declared.version.Version.{Version}
+use Rattle.snapshot_core.specs.declared.version.Version.TheVariants.{One, Two}
+use Rattle.snapshot_core.specs.Opening.{found_body, newest, version_in, version_number}
 use Rattle.snapshot_codec.specs.Trace.{moment_codec}
 use Rattle.snapshot_codec.proofs.HeadLaws.{opened-found, snapshot-opened}
 use Rattle.cascade_core.specs.Course.{Scripted}

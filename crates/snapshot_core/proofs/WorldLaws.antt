@@ -18,8 +18,8 @@ use Rattle.snapshot_codec.proofs.HeadLaws.{applied_exact}
 use Rattle.snapshot_codec.proofs.PartLaws.{states_exact, viewer_set_exact}
 use Rattle.snapshot_codec.proofs.TraceLaws.{moment_exact}
 use Rattle.x3d_values.specs.Ranges.{max_viewers}
-use Rattle.snapshot_rules.specs.declared.version.Version.{Version}
-use Rattle.snapshot_rules.specs.Opening.{newest, viewers_of}
+use Rattle.snapshot_core.specs.declared.version.Version.{Version}
+use Rattle.snapshot_core.specs.Opening.{newest, viewers_of}
 use Rattle.sensor_core.specs.Parts.{number_of, over_of}
 use Rattle.cascade_core.specs.Course.{Scripted}
 use Rattle.cascade_core.specs.Scripts.{kinds_in}
@@ -29,7 +29,7 @@ use Rattle.snapshot_core.specs.Shot.{body_codec}
 use Rattle.snapshot_core.specs.WorldCodec.{buttons_codec, lines_codec, lists_in, parts_in, parts_codec, set_has_bytes, world_codec, world_of, world_with}
 use Rattle.snapshot_core.proofs.LineLaws.{lines_exact}
 use Rattle.snapshot_core.proofs.NodeLaws.{nodes_exact}
-use Rattle.snapshot_rules.proofs.SetLaws.{few_bits, number_back, over_back, over_length, number_small}
+use Rattle.snapshot_core.proofs.SetLaws.{few_bits, number_back, over_back, over_length, number_small}
 
 -- ---- reading: how far it had come, and then its parts
 

@@ -3,3 +3,5 @@ pub mod Nodes
 pub mod Shot
 pub mod ShotHead
 pub mod WorldCodec
+pub mod Beside
+pub mod Opening

@@ -10,9 +10,9 @@ use Rattle.cascade_core.specs.Installing.{StatesFit}
 use Rattle.cascade_core.specs.Scripts.{kinds_in}
 use Rattle.script_host.specs.States.{state_fault}
 use Rattle.x3d_values.specs.declared.script.Kind.{Kind}
-use Rattle.snapshot_rules.specs.declared.version.Version.{Version}
-use Rattle.snapshot_rules.specs.Opening.{found_body, version_in}
-pub use Rattle.snapshot_rules.specs.Opening.{fault_before, newest}
+use Rattle.snapshot_core.specs.declared.version.Version.{Version}
+use Rattle.snapshot_core.specs.Opening.{found_body, version_in}
+pub use Rattle.snapshot_core.specs.Opening.{fault_before, newest}
 use Rattle.snapshot_core.specs.declared.fault.SnapFault.{SnapFault}
 use Rattle.snapshot_core.specs.declared.fault.SnapFault.TheVariants.{Short, BadMagic, BadVersion, WrongScene, BadDigest, NotCanonical, BootNotNew, ScriptState}
 use Rattle.snapshot_core.specs.declared.loading.Saved.{Saved}

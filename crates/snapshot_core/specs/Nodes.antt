@@ -12,10 +12,10 @@ use Rattle.scene_core.specs.Shape.{Shape, rows_of}
 use Rattle.snapshot_codec.specs.declared.kept.KeptField.{KeptField}
 use Rattle.snapshot_codec.specs.Fields.{kept_field, fields_codec}
 use Rattle.sensor_plane.specs.declared.pointing.PointingState.{PointingState}
-use Rattle.snapshot_rules.specs.declared.beside.Beside.{Beside}
-use Rattle.snapshot_rules.specs.declared.version.Version.{Version}
-unfoldable pub use Rattle.snapshot_rules.specs.Beside.{time_part, pointing_part, position_part}
-unfoldable pub use Rattle.snapshot_rules.specs.Beside.{beside_codec}
+use Rattle.snapshot_core.specs.declared.beside.Beside.{Beside}
+use Rattle.snapshot_core.specs.declared.version.Version.{Version}
+unfoldable pub use Rattle.snapshot_core.specs.Beside.{time_part, pointing_part, position_part}
+unfoldable pub use Rattle.snapshot_core.specs.Beside.{beside_codec}
 use Rattle.cascade_world.specs.Fits.{all_lead}
 use Rattle.snapshot_core.specs.declared.nodes.NodeLists.{NodeLists}
 use Rattle.snapshot_core.specs.declared.nodes.NodeState.{NodeState}

@@ -5,8 +5,8 @@ use Rattle.byte_codec.specs.Codec.{Codec, pair, number}
 use Rattle.scene_core.specs.Scene.{SceneView}
 use Rattle.cascade_core.specs.Course.{Scripted}
 use Rattle.snapshot_codec.specs.Head.{snapshot}
-use Rattle.snapshot_rules.specs.declared.version.Version.{Version}
-use Rattle.snapshot_rules.specs.Opening.{newest, version_number}
+use Rattle.snapshot_core.specs.declared.version.Version.{Version}
+use Rattle.snapshot_core.specs.Opening.{newest, version_number}
 use Rattle.snapshot_core.specs.WorldCodec.{world_codec}
 
 -- the bytes between the mark and the digest: the boot, and the world

@@ -4,7 +4,7 @@ use Rattle.std.specs.Int.{w32}
 use Rattle.std.specs.Cmp.Lexicographic.{pointwise}
 use Rattle.std.specs.Option.{option_map}
 use Rattle.byte_codec.specs.Codec.{pair, number}
-use Rattle.snapshot_rules.specs.Opening.{version_in, version_number}
+use Rattle.snapshot_core.specs.Opening.{version_in, version_number}
 use Rattle.snapshot_core.specs.declared.head.ShotHead.{ShotHead}
 
 -- 85 bytes or more that begin with X3DW and a version

@@ -4,9 +4,9 @@ ghost use Rattle.std.specs.Prelude.{◌≡◌, ◌++◌, OnErr, OnOk};
 ghost use Rattle.std.specs.Option.{option_map};
 ghost use Rattle.snapshot_core.specs.WorldCodec.{buttons_codec};
 
+use crate::version::Version;
 use sensor_core::{VIEWERS, number_of, over_of};
 use snapshot_codec::{push_viewer_set, viewer_set_of};
-use snapshot_rules::Version;
 use std::alloc::AllocError;
 
 /// Reads which viewers' buttons are down. Returns them with the rest of the bytes.

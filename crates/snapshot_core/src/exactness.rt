@@ -6,7 +6,7 @@ ghost use Rattle.byte_codec.specs.Exact.{IsBytes};
 ghost use Rattle.scene_core.specs.Scene.{SceneView};
 ghost use Rattle.cascade_core.specs.Course.{Scripted};
 ghost use Rattle.snapshot_core.specs.Loading.{HasSnapshot, loaded};
-ghost use Rattle.snapshot_rules.specs.Opening.{version_in};
+ghost use Rattle.snapshot_core.specs.Opening.{version_in};
 ghost use Rattle.snapshot_core.specs.Shot.{shot, shot_as};
 ghost use Rattle.snapshot_core.specs.declared.fault.SnapFault.TheVariants.{BootNotNew};
 

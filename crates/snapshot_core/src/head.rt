@@ -6,13 +6,13 @@ ghost use Rattle.std.specs.Option.{option_map};
 ghost use Rattle.byte_codec.specs.Codec.{pair, number};
 ghost use Rattle.scene_core.specs.Scene.{SceneView};
 ghost use Rattle.cascade_core.specs.Course.{Scripted};
-ghost use Rattle.snapshot_rules.specs.Opening.{newest, version_number};
+ghost use Rattle.snapshot_core.specs.Opening.{newest, version_number};
 ghost use Rattle.snapshot_core.specs.Loading.{HasSnapshot};
 ghost use Rattle.snapshot_core.specs.Shot.{shot};
 ghost use Rattle.snapshot_core.specs.ShotHead.{begins_as_shot, shot_head};
 
+use crate::version::version_in;
 use byte_codec::u32_of;
-use snapshot_rules::version_in;
 
 /// The first bytes of each snapshot.
 const MAGIC: &[u8; 4] = b"X3DW";

@@ -16,7 +16,9 @@
 //! | `exactness` | the law |
 #![tactic(auto)]
 
+mod beside;
 mod buttons;
+mod dragging;
 mod exactness;
 mod fault;
 mod head;
@@ -24,12 +26,20 @@ mod kept;
 mod lines;
 mod loading;
 mod nodes;
+mod opening;
+mod pointing;
 mod saving;
+mod states;
+mod version;
 mod world;
 
+pub use beside::{Beside, beside_of, push_beside};
 pub use exactness::snapshots_are_exact;
 pub use fault::{SaveFault, SnapFault};
 pub use head::{ShotHead, shot_head};
 pub use loading::{Saved, load_into};
+pub use opening::{body_in, is_older, none_left};
 pub use saving::save;
 pub use snapshot_codec::scene_mark;
+pub use states::{push_states, states_of};
+pub use version::{Version, newest, version_in};

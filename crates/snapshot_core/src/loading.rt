@@ -4,17 +4,18 @@ ghost use Rattle.std.specs.Prelude.{◌≡◌, ◌⊎◌, Err, None, Ok, Result,
 ghost use Rattle.std.specs.Result.{result_map_both};
 ghost use Rattle.cascade_core.specs.Held.{spoiled};
 ghost use Rattle.cascade_core.specs.Scripts.{kinds_in};
-ghost use Rattle.snapshot_rules.specs.Opening.{fault_before, found_body, version_in};
+ghost use Rattle.snapshot_core.specs.Opening.{fault_before, found_body, version_in};
 ghost use Rattle.snapshot_core.specs.Loading.{behind_head, load_outcome, loaded, loaded_body, with_states};
 ghost use Rattle.snapshot_core.specs.WorldCodec.{booted};
 
 use crate::fault::{SnapFault, fault_of};
+use crate::opening::{body_in, is_older};
+use crate::version::{Version, version_in};
 use crate::world::{Found, body_of};
 use cascade_core::Stage;
 use scene_core::Scene;
 use script_host::{Behaviour, StateFault};
 use snapshot_codec::PartFault;
-use snapshot_rules::{Version, body_in, is_older, version_in};
 use std::alloc::Global;
 
 /// The boot of a snapshot, and the number of inputs applied to its world.

@@ -11,14 +11,15 @@ ghost use Rattle.snapshot_codec.specs.declared.kept.KeptField.{KeptField as Kept
 ghost use Rattle.snapshot_core.specs.Nodes.{lists_codec, node_of, node_codec, nodes_codec, shape_in, state_codec};
 ghost use Rattle.snapshot_core.specs.WorldCodec.{lists_in};
 
+use crate::beside::{Beside, beside_of, push_beside};
 use crate::kept::list_kept;
+use crate::version::Version;
 use cascade_core::WorldData;
 use cascade_world::all_lead;
 use scene_core::Scene;
 use sensor_core::TimeState;
 use sensor_plane::{PointingSlot, PointingState};
 use snapshot_codec::{KeptField, PartFault, kept_fields_of, push_kept_fields};
-use snapshot_rules::{Beside, Version, beside_of, push_beside};
 use std::alloc::{AllocError, Global};
 use x3d_values::{Fields, Items, NodeType, Value};
 

@@ -6,12 +6,12 @@ ghost use Rattle.cascade_core.specs.Held.{IfRunning, IfSpoiled};
 ghost use Rattle.snapshot_core.specs.Shot.{shot};
 
 use crate::fault::SaveFault;
+use crate::version::newest;
 use crate::world::push_body;
 use cascade_core::{Stage, WorldData};
 use scene_core::Scene;
 use script_host::Behaviour;
 use snapshot_codec::{push_digest, push_front};
-use snapshot_rules::newest;
 use std::alloc::AllocError;
 use x3d_values::Items;
 

@@ -11,11 +11,13 @@ ghost use Rattle.snapshot_core.specs.WorldCodec.{booted, parts_codec, world_with
 use crate::buttons::{buttons_of, push_buttons};
 use crate::lines::{lines_of, push_lines};
 use crate::nodes::{NodeLists, nodes_of, push_nodes};
+use crate::opening::none_left;
+use crate::states::{push_states, states_of};
+use crate::version::Version;
 use cascade_core::{State, Trace, Watched, WorldData};
 use scene_core::Scene;
 use sensor_core::VIEWERS;
 use snapshot_codec::{PartFault, Progress, progress_of, push_progress};
-use snapshot_rules::{Version, none_left, push_states, states_of};
 use std::alloc::{AllocError, Global};
 use x3d_values::Items;
 

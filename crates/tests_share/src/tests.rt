@@ -25,3 +25,5 @@ fn all_hold<R: Row>(rt: &impl Abort, alloc: Global, rows: &[R]) {
         assert!(rt; row.holds(alloc) == Ok(true), "row {number}");
     }
 }
+
+mod stored;

@@ -1,7 +1,7 @@
 //! What a host and a viewer report on standard error if they are verbose.
 
-use share_commands::{Tally, number_of};
-use share_port::UdpPort;
+use app_commands::{Tally, number_of};
+use share_turns::UdpPort;
 use std::fmt;
 use std::io::Eprint;
 

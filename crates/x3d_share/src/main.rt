@@ -5,15 +5,15 @@ mod ends;
 mod nodes;
 mod stack;
 
-ghost use Rattle.share_words.specs.Words.{IsInRange};
+ghost use Rattle.app_words.specs.Words.{IsInRange};
 
 use crate::nodes::{agree, host, rehearse, view};
 use crate::stack::has_room;
-use share_program::{
+use app_program::{
     Failure, RunFault, StreamFault, check_text, format_text, refusal_line, run_job, status_of,
     write_whole,
 };
-use share_words::{Order, OrderFault, Request, request_of};
+use app_words::{Order, OrderFault, Request, request_of};
 use std::alloc::{AllocError, Global};
 use std::io::{self, Eprint};
 use std::net::Net;

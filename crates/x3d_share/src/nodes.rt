@@ -3,18 +3,18 @@
 
 ghost use Rattle.std.specs.Prelude.{◌≡◌, ◌≤◌, IfOk, length};
 ghost use Rattle.x3d_values.specs.Ranges.{max_viewers};
-ghost use Rattle.share_words.specs.Words.{HostInRange, ViewInRange};
+ghost use Rattle.app_words.specs.Words.{HostInRange, ViewInRange};
 
 use crate::ends::{tell_host_end, tell_port, tell_view_end};
-use share_commands::{
+use app_commands::{
     ExactPort, JointJob, Node, PatientPort, Seat, SharedJob, TellingPort, Watch, agree_job, bound,
     bound_free, first_boot, host_job, joint_job, number_of, rehearse_job, seated_job, shared_job,
     view_job,
 };
-use share_io::{RunFault, read_whole, write_whole};
-use share_program::{Failure, JobFault, ShareFault};
+use app_jobs::JobFault;
+use app_program::{Failure, RunFault, ShareFault, read_whole, write_whole};
+use app_words::{HostOrder, Order, ViewEnd, ViewOrder};
 use share_turns::{HostPlan, ViewPlan};
-use share_words::{HostOrder, Order, ViewEnd, ViewOrder};
 use std::io::{self, Eprint};
 use std::net::Net;
 use std::time::Clock;

@@ -1,6 +1,6 @@
 //! The commands that read one input and write one output, and their answers.
 
-use share_program::{Failure, check_text, format_text, refusal_line, run_job, status_of};
+use app_program::{Failure, check_text, format_text, refusal_line, run_job, status_of};
 use std::alloc::Global;
 use std::io::{Read, Write};
 

@@ -8,12 +8,12 @@ ghost use Rattle.share_rehearsal.specs.Loaded.{AreFresh};
 
 mod boxes;
 
+use app_program::{Job, OpenedScene, attach, open_job, open_scene, run};
 use boxes::{Calls, Count, Counted, NONE};
 use cascade_core::{LoadFault, Stage};
 use script_host::Behaviour;
 use share_core::Viewer;
 use share_law::{Step, Taken};
-use share_program::{Job, OpenedScene, attach, open_job, open_scene, run};
 use share_rehearsal::rehearse;
 use share_wire::{Body, Message, encode};
 use std::alloc::{AllocError, Global};

@@ -2,7 +2,8 @@
 
 use super::commands::{Command, is_refused, obey};
 use super::{Row, all_hold};
-use share_program::{JobFault, read_schedule};
+use app_jobs::JobFault;
+use app_program::read_schedule;
 use std::alloc::{AllocError, Global};
 use std::io::{self, ErrorKind, Read, Write};
 use std::process::Abort;

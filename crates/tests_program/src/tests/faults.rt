@@ -1,13 +1,14 @@
 //! The line and the status of refusals, and the messages of faults.
 
 use super::{Row, all_hold};
+use app_jobs::JobFault;
+use app_program::{Failure, RunFault, ShareFault, refusal_line, status_of};
+use app_words::OrderFault;
 use classic_text::{ReadFault, ReadFaultKind};
 use proto_flat::{ExpandFault, ExpandFaultKind};
 use route_core::{RouteFault, RouteFaultKind};
 use scene_core::{SceneFault, SceneFaultKind};
 use script_host::AttachFault;
-use share_program::{Failure, JobFault, RunFault, ShareFault, refusal_line, status_of};
-use share_words::OrderFault;
 use std::alloc::{AllocError, Global};
 use std::process::Abort;
 

@@ -3,11 +3,10 @@
 
 use super::texts::{Part, made};
 use super::{Row, all_hold, holds};
+use app_jobs::{JobFault, Schedule, job_of, schedule_of};
+use app_program::{StreamFault, read_schedule, read_whole};
+use app_words::{Order, OrderFault, Request, request_of};
 use share_law::Step;
-use share_program::{
-    JobFault, Schedule, StreamFault, job_of, read_schedule, read_whole, schedule_of,
-};
-use share_words::{Order, OrderFault, Request, request_of};
 use std::alloc::{AllocError, Global};
 use std::process::Abort;
 use tests_memory::{Outcome, Spared, UsedUp, is_refused_until_enough};

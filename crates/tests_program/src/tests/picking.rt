@@ -1,9 +1,9 @@
 //! What a ray hits in a scene, which sensor the hit concerns, and where it is for that sensor.
 
 use super::{Row, all_hold};
+use app_program::open_scene;
 use pick_core::{BoxCache, Hit, local_point, pick, sensors_of};
 use scene_core::Scene;
-use share_program::open_scene;
 use std::alloc::{AllocError, Global};
 use std::process::Abort;
 use x3d_values::{Fields, Ray, Value, Vec3};

@@ -6,9 +6,9 @@ ghost use Rattle.std.specs.Prelude.{◌≡◌, length};
 use super::cable::{End, HOST, laid};
 use super::given::{Job, ORDER, TWO_CLOCKS, TWO_POINTERS, joined, run_of};
 use super::{Row, all_hold};
-use share_commands::{JointJob, agree_job, joint_job};
-use share_port::Port;
-use share_program::ShareFault;
+use app_commands::{JointJob, agree_job, joint_job};
+use app_program::ShareFault;
+use share_turns::Port;
 use std::alloc::{AllocError, Global};
 use std::process::Abort;
 

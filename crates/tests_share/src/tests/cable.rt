@@ -1,9 +1,9 @@
 //! A cable in memory, between a host and two viewers.
 
 ghost use Rattle.std.specs.Prelude.{◌≡◌, ◌≤◌, length};
-ghost use Rattle.share_port.specs.Told.{one_more};
+ghost use Rattle.share_turns.specs.Told.{one_more};
 
-use share_port::{Bytes, Datagram, Port, PortFault};
+use share_turns::{Bytes, Datagram, Port, PortFault};
 use std::alloc::{AllocError, Global};
 use std::cell::RefCell;
 use std::collections::VecDeque;
@@ -124,7 +124,7 @@ pub(super) struct End<'a> {
 
 impl<'a> End<'a> {
     ghost use Rattle.std.specs.Prelude.{◌≡◌};
-    ghost use Rattle.share_port.specs.Told.{one_more};
+    ghost use Rattle.share_turns.specs.Told.{one_more};
 
     pub(super) fn new(cable: &'a RefCell<Cable>, address: u16) -> End<'a> {
         End {

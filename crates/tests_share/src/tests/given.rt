@@ -1,7 +1,7 @@
 //! Jobs of a host and two viewers, and what `run` prints for them.
 
-use share_program::run_job;
-use share_words::Order;
+use app_program::run_job;
+use app_words::Order;
 use std::alloc::{AllocError, Global};
 use x3d_values::{Point, Vec3};
 

@@ -1,7 +1,7 @@
 //! When a viewer's asks and offers are sent, by a clock that only moves when it is set.
 
-use share_commands::{ExactPort, Pace, PatientPort};
-use share_port::{Bytes, Datagram, FakePort, Port, Traffic};
+use app_commands::{ExactPort, Pace, PatientPort};
+use share_turns::{Bytes, Datagram, FakePort, Port, Traffic};
 use share_wire::{Ack, Ask, Body, Message, Packet, Piece, encode};
 use std::alloc::Global;
 use std::cell::Cell;

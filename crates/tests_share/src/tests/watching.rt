@@ -3,7 +3,7 @@
 ghost use Rattle.std.specs.Prelude.{IsTrue};
 ghost use Rattle.share_wire.specs.Messages.{is_ordinal};
 
-use share_commands::{Node, Note, Refusal, Watch};
+use app_commands::{Node, Note, Refusal, Watch};
 use share_wire::{Ack, Ask, Body, Message, Offer, Packet, encode};
 use std::process::Abort;
 use x3d_values::{Pointer, Ray, Vec3};

@@ -1,7 +1,7 @@
 use Rattle.std.proofs.Common.{refl}
 use Rattle.cascade_core.specs.Apply.{tick_node}
-use Rattle.cascade_rules.proofs.Shown.{ticked-fields}
-use Rattle.cascade_core.proofs.Tasks.{ticked-ready}
+use Rattle.cascade_core.proofs.Shown.{ticked-fields}
+use Rattle.cascade_core.proofs.TaskLists.{ticked-ready}
 use Rattle.cascade_core.proofs.clock.tick_node.Goals as goal
 
 pub send_replies-requires : goal.send_replies-requires

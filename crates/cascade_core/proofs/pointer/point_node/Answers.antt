@@ -2,8 +2,8 @@ use Rattle.std.proofs.Common.{◌∙◌, refl}
 use Rattle.cascade_world.specs.Answers.{pointer_at}
 use Rattle.cascade_world.specs.Insides.{seen as insides_seen}
 use Rattle.cascade_core.specs.Apply.{point_node}
-use Rattle.cascade_rules.proofs.Shown.{met-rows}
-use Rattle.cascade_core.proofs.Tasks.{met-ready}
+use Rattle.cascade_core.proofs.Shown.{met-rows}
+use Rattle.cascade_core.proofs.TaskLists.{met-ready}
 use Rattle.cascade_core.specs.Course.{wiring_at, seen}
 use Rattle.cascade_core.proofs.Skipped.{passed-course}
 use Rattle.cascade_core.proofs.pointer.point_node.Goals as goal

@@ -4,7 +4,7 @@ use Rattle.script_host.specs.Behaviour.{Settle}
 use Rattle.cascade_core.specs.Course.{wiring_at, seen}
 use Rattle.cascade_core.specs.Settles.{settle_one}
 use Rattle.cascade_core.proofs.SoundLemmas.{has_scripts_still}
-use Rattle.cascade_core.proofs.Tasks.{act-ready}
+use Rattle.cascade_core.proofs.TaskLists.{act-ready}
 use Rattle.cascade_core.proofs.settle.settle_one.Goals as goal
 
 pub send_replies-requires-clause-ready : goal.send_replies-requires-clause-ready

@@ -3,12 +3,12 @@ use Rattle.cascade_trace.specs.Ends.{has_sent}
 use Rattle.cascade_core.specs.Course.{Course, wiring_at, seen}
 use Rattle.cascade_core.specs.Cascade.{recorded}
 use Rattle.cascade_core.specs.Stack.{finish}
-use Rattle.cascade_rules.specs.declared.tasks.CascadeTask.TheVariants.{Follow}
+use Rattle.cascade_core.specs.declared.tasks.CascadeTask.TheVariants.{Follow}
 use Rattle.script_running.specs.Acting.{kinds_of}
-use Rattle.cascade_rules.proofs.Sends.{is_first, moves, stands, was_sent}
+use Rattle.cascade_core.proofs.Sends.{is_first, moves, stands, was_sent}
 use Rattle.cascade_core.proofs.Depths.{send_full-sent}
 use Rattle.cascade_core.proofs.SoundLemmas.{has_scripts_still}
-use Rattle.cascade_core.proofs.Tasks.{begin-done, begin-fewer, finish-push, work-push}
+use Rattle.cascade_core.proofs.TaskLists.{begin-done, begin-fewer, finish-push, work-push}
 use Rattle.cascade_core.proofs.stack.begin.Goals as goal
 
 -- ---- it sends

@@ -1,7 +1,7 @@
 use Rattle.std.proofs.Common.{◌+◌, ◌<◌, sym, ap, length}
 use Rattle.cascade_core.specs.Course.{Course, wiring_at, seen}
 use Rattle.cascade_core.specs.Stack.{finish}
-use Rattle.cascade_core.proofs.Tasks.{follow-none, follow-done, follow-fewer, follow-ready, last-done, last-fewer, reached-ready}
+use Rattle.cascade_core.proofs.TaskLists.{follow-none, follow-done, follow-fewer, follow-ready, last-done, last-fewer, reached-ready}
 use Rattle.cascade_trace.proofs.RoutePlaces.{target-few}
 use Rattle.cascade_core.proofs.Resting.{has_scripts_then, rest_working}
 use Rattle.cascade_core.proofs.stack.follow.Goals as goal

@@ -4,7 +4,7 @@ use Rattle.scene_core.specs.Scene.{shapes_of}
 use Rattle.cascade_core.specs.Course.{wiring_at, seen}
 use Rattle.cascade_core.specs.Stack.{IsReady}
 use Rattle.cascade_core.proofs.Resting.{scripts_then}
-use Rattle.cascade_core.proofs.Tasks.{finish-push, finish-none, all-front, all-last, work-push}
+use Rattle.cascade_core.proofs.TaskLists.{finish-push, finish-none, all-front, all-last, work-push}
 use Rattle.cascade_core.proofs.stack.run_tasks.Goals as goal
 
 pub step-requires-clause-task : goal.step-requires-clause-task

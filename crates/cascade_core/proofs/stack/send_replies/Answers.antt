@@ -1,6 +1,6 @@
 use Rattle.std.proofs.Common.{◌∙◌}
 use Rattle.cascade_core.specs.Course.{wiring_at, seen}
-use Rattle.cascade_core.proofs.Tasks.{finish-all}
+use Rattle.cascade_core.proofs.TaskLists.{finish-all}
 use Rattle.cascade_core.proofs.stack.send_replies.Goals as goal
 
 pub run_tasks-requires : goal.run_tasks-requires

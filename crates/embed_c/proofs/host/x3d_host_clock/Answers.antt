@@ -1,8 +1,8 @@
 use Rattle.std.proofs.Common.{FitsSigned, Some, ap, rules, w64, ◌∙◌}
 use Rattle.std.proofs.lemmas.Int.{to_z-of_z}
-use Rattle.embed_nodes.specs.declared.host.EmbeddedHost.{EmbeddedHost}
-use Rattle.embed_nodes.specs.Hosts as hosts
-use Rattle.embed_answers.specs.NodeStatus.{number_by, status_by, status_of_number}
+use Rattle.embed_world.specs.declared.host.EmbeddedHost.{EmbeddedHost}
+use Rattle.embed_world.specs.Hosts as hosts
+use Rattle.embed_world.specs.PeerStatus.{number_by, status_by, status_of_number}
 use Rattle.embed_c.proofs.Called.{called_out}
 use Rattle.embed_c.proofs.host.x3d_host_clock.Goals as goal
 

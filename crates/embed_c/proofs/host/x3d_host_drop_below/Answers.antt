@@ -1,7 +1,7 @@
 use Rattle.std.proofs.Common.{Some, ap, ◌∙◌}
-use Rattle.embed_nodes.specs.declared.host.EmbeddedHost.{EmbeddedHost}
-use Rattle.embed_nodes.specs.Hosts as hosts
-use Rattle.embed_answers.specs.NodeStatus.{status_of_floor}
+use Rattle.embed_world.specs.declared.host.EmbeddedHost.{EmbeddedHost}
+use Rattle.embed_world.specs.Hosts as hosts
+use Rattle.embed_world.specs.PeerStatus.{status_of_floor}
 use Rattle.embed_c.proofs.Called.{called}
 use Rattle.embed_c.proofs.host.x3d_host_drop_below.Goals as goal
 

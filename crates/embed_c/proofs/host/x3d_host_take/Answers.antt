@@ -1,7 +1,7 @@
 use Rattle.std.proofs.Common.{Some, ap, ◌∙◌}
-use Rattle.embed_nodes.specs.declared.host.EmbeddedHost.{EmbeddedHost}
-use Rattle.embed_nodes.specs.Hosts as hosts
-use Rattle.embed_answers.specs.NodeStatus.{replied, status_by, status_of_host}
+use Rattle.embed_world.specs.declared.host.EmbeddedHost.{EmbeddedHost}
+use Rattle.embed_world.specs.Hosts as hosts
+use Rattle.embed_world.specs.PeerStatus.{replied, status_by, status_of_host}
 use Rattle.embed_c.proofs.Called.{called_out}
 use Rattle.embed_c.proofs.host.x3d_host_take.Goals as goal
 

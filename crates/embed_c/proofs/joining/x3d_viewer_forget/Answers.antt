@@ -1,5 +1,5 @@
 use Rattle.std.proofs.Common.{Some, ap, refl, ◌∙◌}
-use Rattle.embed_nodes.specs.declared.viewer.EmbeddedViewer.{EmbeddedViewer}
+use Rattle.embed_world.specs.declared.viewer.EmbeddedViewer.{EmbeddedViewer}
 use Rattle.embed_c.specs.NodeAnswers.{forgets, status_of_nothing}
 use Rattle.embed_c.proofs.Called.{called}
 use Rattle.embed_c.proofs.joining.x3d_viewer_forget.Goals as goal

@@ -1,7 +1,7 @@
 use Rattle.std.proofs.Common.{Some, ap, ◌∙◌}
-use Rattle.embed_nodes.specs.declared.viewer.EmbeddedViewer.{EmbeddedViewer}
-use Rattle.embed_nodes.specs.Viewers as viewers
-use Rattle.embed_answers.specs.NodeStatus.{number_by, status_by, status_of_join}
+use Rattle.embed_world.specs.declared.viewer.EmbeddedViewer.{EmbeddedViewer}
+use Rattle.embed_world.specs.Viewers as viewers
+use Rattle.embed_world.specs.PeerStatus.{number_by, status_by, status_of_join}
 use Rattle.embed_c.proofs.Called.{called_out}
 use Rattle.embed_c.proofs.joining.x3d_viewer_join.Goals as goal
 

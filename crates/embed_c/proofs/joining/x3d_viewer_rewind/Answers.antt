@@ -1,8 +1,8 @@
 use Rattle.std.proofs.Common.{Some, ap, ◌∙◌}
-use Rattle.embed_nodes.specs.declared.viewer.EmbeddedViewer.{EmbeddedViewer}
-use Rattle.embed_nodes.specs.Viewers as viewers
-use Rattle.embed_answers.specs.Status.{status_of_snap}
-use Rattle.embed_answers.specs.NodeStatus.{number_by, status_by}
+use Rattle.embed_world.specs.declared.viewer.EmbeddedViewer.{EmbeddedViewer}
+use Rattle.embed_world.specs.Viewers as viewers
+use Rattle.embed_world.specs.Status.{status_of_snap}
+use Rattle.embed_world.specs.PeerStatus.{number_by, status_by}
 use Rattle.embed_c.proofs.Called.{called_out}
 use Rattle.embed_c.proofs.joining.x3d_viewer_rewind.Goals as goal
 

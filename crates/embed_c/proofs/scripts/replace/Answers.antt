@@ -1,7 +1,7 @@
 use Rattle.std.proofs.Common.{Some, ap, ◌∙◌}
 use Rattle.embed_world.specs.Calls.{Replaces}
 use Rattle.embed_world.specs.declared.world.EmbeddedWorld.{EmbeddedWorld}
-use Rattle.embed_answers.specs.Status.{status_of_place}
+use Rattle.embed_world.specs.Status.{status_of_place}
 use Rattle.embed_c.proofs.Called.{called}
 use Rattle.embed_c.proofs.scripts.replace.Goals as goal
 

@@ -1,7 +1,7 @@
 use Rattle.std.proofs.Common.{Some, ap, ◌∙◌}
 use Rattle.embed_world.specs.declared.world.EmbeddedWorld.{EmbeddedWorld}
 use Rattle.embed_world.specs.Calls.{Saves}
-use Rattle.embed_answers.specs.Status.{status_of_save}
+use Rattle.embed_world.specs.Status.{status_of_save}
 use Rattle.embed_c.proofs.Called.{called}
 use Rattle.embed_c.proofs.shots.x3d_world_make_snapshot.Goals as goal
 

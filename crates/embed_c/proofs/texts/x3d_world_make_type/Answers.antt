@@ -2,7 +2,7 @@ use Rattle.std.proofs.Common.{Some, ap, ◌∙◌}
 use Rattle.embed_world.specs.declared.world.EmbeddedWorld.{EmbeddedWorld}
 use Rattle.embed_world.specs.Calls.{Makes}
 use Rattle.embed_world.specs.Looks as look
-use Rattle.embed_answers.specs.Status.{status_of_look}
+use Rattle.embed_world.specs.Status.{status_of_look}
 use Rattle.embed_c.proofs.Called.{called}
 use Rattle.embed_c.proofs.texts.x3d_world_make_type.Goals as goal
 

@@ -1,7 +1,7 @@
 use Rattle.std.proofs.Common.{Some, ap, ◌∙◌}
-use Rattle.embed_nodes.specs.declared.viewer.EmbeddedViewer.{EmbeddedViewer}
-use Rattle.embed_nodes.specs.Viewers as viewers
-use Rattle.embed_answers.specs.Status.{no_packet}
+use Rattle.embed_world.specs.declared.viewer.EmbeddedViewer.{EmbeddedViewer}
+use Rattle.embed_world.specs.Viewers as viewers
+use Rattle.embed_world.specs.Status.{no_packet}
 use Rattle.embed_c.proofs.Called.{hands_out}
 use Rattle.embed_c.proofs.viewer.x3d_viewer_ask.Goals as goal
 

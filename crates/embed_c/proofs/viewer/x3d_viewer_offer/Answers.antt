@@ -1,9 +1,9 @@
 use Rattle.std.proofs.Common.{subst}
-use Rattle.embed_nodes.specs.Viewers as viewers
-use Rattle.embed_nodes.specs.declared.viewer.EmbeddedViewer.{EmbeddedViewer}
+use Rattle.embed_world.specs.Viewers as viewers
+use Rattle.embed_world.specs.declared.viewer.EmbeddedViewer.{EmbeddedViewer}
 use Rattle.x3d_values.specs.declared.pointing.Point.{Point}
-use Rattle.embed_answers.specs.Status.{CallsOut}
-use Rattle.embed_answers.specs.NodeStatus.{number_by, status_by, status_of_offer}
+use Rattle.embed_world.specs.Status.{CallsOut}
+use Rattle.embed_world.specs.PeerStatus.{number_by, status_by, status_of_offer}
 use Rattle.embed_c.proofs.viewer.x3d_viewer_offer.Goals as goal
 
 pub returns : goal.returns

@@ -1,6 +1,6 @@
 use Rattle.std.proofs.Common.{Some, ap, ◌∙◌}
-use Rattle.embed_nodes.specs.declared.viewer.EmbeddedViewer.{EmbeddedViewer}
-use Rattle.embed_nodes.specs.Viewers.{Meets}
+use Rattle.embed_world.specs.declared.viewer.EmbeddedViewer.{EmbeddedViewer}
+use Rattle.embed_world.specs.Viewers.{Meets}
 use Rattle.embed_world.specs.Looks as look
 use Rattle.share_core.specs.Viewer.{stage_in}
 use Rattle.embed_c.specs.Answers.{status_of_meet, told}

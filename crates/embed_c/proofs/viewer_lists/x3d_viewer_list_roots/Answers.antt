@@ -1,8 +1,8 @@
 use Rattle.std.proofs.Common.{Some, ap, ◌∙◌}
-use Rattle.embed_nodes.specs.declared.viewer.EmbeddedViewer.{EmbeddedViewer}
-use Rattle.embed_nodes.specs.Viewers.{Lists}
+use Rattle.embed_world.specs.declared.viewer.EmbeddedViewer.{EmbeddedViewer}
+use Rattle.embed_world.specs.Viewers.{Lists}
 use Rattle.embed_world.specs.Looks as look
-use Rattle.embed_answers.specs.Status.{status_of_look}
+use Rattle.embed_world.specs.Status.{status_of_look}
 use Rattle.embed_c.proofs.Called.{called}
 use Rattle.embed_c.proofs.viewer_lists.x3d_viewer_list_roots.Goals as goal
 

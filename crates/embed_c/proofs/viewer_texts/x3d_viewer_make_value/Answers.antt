@@ -1,9 +1,9 @@
 use Rattle.std.proofs.Common.{Some, ap, ◌∙◌}
-use Rattle.embed_nodes.specs.declared.viewer.EmbeddedViewer.{EmbeddedViewer}
-use Rattle.embed_nodes.specs.Viewers.{Makes}
+use Rattle.embed_world.specs.declared.viewer.EmbeddedViewer.{EmbeddedViewer}
+use Rattle.embed_world.specs.Viewers.{Makes}
 use Rattle.embed_world.specs.Looks as look
 use Rattle.share_core.specs.Viewer.{stage_in}
-use Rattle.embed_answers.specs.Status.{status_of_look}
+use Rattle.embed_world.specs.Status.{status_of_look}
 use Rattle.embed_c.proofs.Called.{called}
 use Rattle.embed_c.proofs.viewer_texts.x3d_viewer_make_value.Goals as goal
 

@@ -2,7 +2,7 @@ use Rattle.std.proofs.Common.{◌≡◌, length, refl, subst, arith, rules, Some
 use Rattle.std.specs.Prelude.{slice_get}
 use Rattle.std.proofs.lemmas.Option.{slice_get_read}
 use Rattle.pick_core.specs.Runs.{seen_in}
-use Rattle.pick_tree.specs.Tree.{ArePassed}
+use Rattle.pick_core.specs.Tree.{ArePassed}
 use Rattle.pick_core.proofs.Passing.{picked-row, picked-next}
 use Rattle.pick_core.proofs.cache.pick_next.Goals as goal
 

@@ -1,5 +1,5 @@
 use Rattle.std.proofs.Common.{◌∙◌, ap}
-use Rattle.pick_tree.specs.Passed.{is_before}
+use Rattle.pick_core.specs.Passed.{is_before}
 use Rattle.pick_core.proofs.Passing.{before-nearer}
 use Rattle.pick_core.proofs.nearest.is_nearer.Goals as goal
 

@@ -1,6 +1,6 @@
 use Rattle.std.proofs.Common.{◌∙◌, ap}
 use Rattle.pick_core.specs.Sites.{touches}
-use Rattle.pick_ranges.proofs.Growing.{on_ok-by}
+use Rattle.pick_core.proofs.Growing.{on_ok-by}
 use Rattle.pick_core.proofs.renewal.add_at.Goals as goal
 
 pub returns-clause-added : goal.returns-clause-added

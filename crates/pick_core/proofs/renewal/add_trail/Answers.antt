@@ -1,5 +1,5 @@
 use Rattle.std.proofs.Common.{◌∙◌, inl, inr, ap, subst, arith, take_all}
-use Rattle.pick_ranges.specs.Ranges.{HasRow}
+use Rattle.pick_core.specs.Ranges.{HasRow}
 use Rattle.pick_core.specs.Sites.{touches}
 use Rattle.pick_core.proofs.Renewed.{touches-more}
 use Rattle.pick_core.proofs.renewal.add_trail.Goals as goal

@@ -1,5 +1,5 @@
 use Rattle.std.proofs.Common.{◌≡◌, ℕ, true, take}
-use Rattle.pick_ranges.specs.Ranges.{HasRow}
+use Rattle.pick_core.specs.Ranges.{HasRow}
 use Rattle.pick_core.specs.Sites.{touches}
 use Rattle.pick_core.proofs.renewal.add_trail.Given as goal
 

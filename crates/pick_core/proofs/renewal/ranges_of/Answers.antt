@@ -2,7 +2,7 @@ use Rattle.std.proofs.Common.{◌≡◌, ◌∙◌, inl, inr, sym, ap, subst, ar
 use Rattle.std.specs.Prelude.{slice_get}
 use Rattle.std.proofs.lemmas.Bool.{cases_lt}
 use Rattle.std.proofs.lemmas.Option.{same_Some, slice_get_read, slice_get_within}
-use Rattle.pick_ranges.specs.Ranges.{HasRow}
+use Rattle.pick_core.specs.Ranges.{HasRow}
 use Rattle.pick_core.specs.Sites.{touches}
 use Rattle.pick_core.specs.declared.row.BoxRow.{BoxRow}
 use Rattle.pick_core.proofs.renewal.ranges_of.Goals as goal

@@ -1,6 +1,6 @@
 use Rattle.std.proofs.Common.{◌≡◌, ℕ, ◌<◌, true, Some}
 use Rattle.std.specs.Prelude.{slice_get}
-use Rattle.pick_ranges.specs.Ranges.{HasRow}
+use Rattle.pick_core.specs.Ranges.{HasRow}
 use Rattle.pick_core.specs.Sites.{touches}
 use Rattle.pick_core.specs.declared.row.BoxRow.{BoxRow}
 use Rattle.pick_core.proofs.renewal.ranges_of.Given as goal

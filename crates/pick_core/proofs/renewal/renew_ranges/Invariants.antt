@@ -1,5 +1,5 @@
 use Rattle.std.proofs.Common.{◌≡◌, length}
-use Rattle.pick_tree.specs.Tree.{IsTreeOf}
+use Rattle.pick_core.specs.Tree.{IsTreeOf}
 use Rattle.pick_core.specs.Runs.{seen_in}
 use Rattle.pick_core.proofs.Renewed.{IsSoFar}
 use Rattle.pick_core.proofs.renewal.renew_ranges.Given as goal

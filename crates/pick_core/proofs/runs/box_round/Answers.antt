@@ -3,7 +3,7 @@ use Rattle.std.specs.Prelude.{slice_get}
 use Rattle.std.proofs.lemmas.Option.{slice_get_read}
 use Rattle.pick_core.specs.Runs.{seen_in}
 use Rattle.pick_core.proofs.Passing.{get-seen, seen-long}
-use Rattle.pick_tree.proofs.Runs.{round-none, round-more, round-past, round-end}
+use Rattle.pick_core.proofs.TreeRuns.{round-none, round-more, round-past, round-end}
 use Rattle.pick_core.proofs.runs.box_round.Goals as goal
 
 pub loop-at-init : goal.loop-at-init

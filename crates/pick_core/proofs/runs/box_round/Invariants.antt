@@ -1,6 +1,6 @@
 use Rattle.std.proofs.Common.{◌-◌, length}
 use Rattle.pick_core.specs.Runs.{seen_in}
-use Rattle.pick_tree.proofs.Runs.{IsRound}
+use Rattle.pick_core.proofs.TreeRuns.{IsRound}
 use Rattle.pick_core.proofs.runs.box_round.Given as goal
 
 abbrev pub invariant-loop-at : goal.invariant-loop-at

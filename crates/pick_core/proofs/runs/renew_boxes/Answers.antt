@@ -1,6 +1,6 @@
 use Rattle.std.proofs.Common.{inl, inr, arith}
 use Rattle.pick_core.specs.Runs.{seen_in}
-use Rattle.pick_tree.proofs.Runs.{so_far-none, so_far-more, so_far-all}
+use Rattle.pick_core.proofs.TreeRuns.{so_far-none, so_far-more, so_far-all}
 use Rattle.pick_core.proofs.runs.renew_boxes.Goals as goal
 
 pub loop-run-init : goal.loop-run-init

@@ -1,6 +1,6 @@
 use Rattle.std.proofs.Common.{◌-◌, length}
 use Rattle.pick_core.specs.Runs.{seen_in}
-use Rattle.pick_tree.proofs.Runs.{IsSoFar}
+use Rattle.pick_core.proofs.TreeRuns.{IsSoFar}
 use Rattle.pick_core.proofs.runs.renew_boxes.Given as goal
 
 abbrev pub invariant-loop-run : goal.invariant-loop-run

@@ -1,8 +1,8 @@
 use Rattle.std.proofs.Common.{◌∙◌, ◌++◌, drop, take, length, ap, sym, subst}
 use Rattle.std.specs.Prelude.{◌/◌}
 use Rattle.pick_core.specs.Runs.{seen_in}
-use Rattle.pick_tree.specs.Tree.{IsOver, IsOverBut, IsRenewed}
-use Rattle.pick_tree.proofs.Runs.{over-but, written}
+use Rattle.pick_core.specs.Tree.{IsOver, IsOverBut, IsRenewed}
+use Rattle.pick_core.proofs.TreeRuns.{over-but, written}
 use Rattle.pick_core.proofs.runs.renew_runs.Goals as goal
 
 pub renew_boxes-requires : goal.renew_boxes-requires

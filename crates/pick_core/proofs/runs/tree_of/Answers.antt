@@ -1,7 +1,7 @@
 use Rattle.std.proofs.Common.{arith}
 use Rattle.pick_core.specs.Runs.{seen_in}
 use Rattle.pick_core.proofs.Passing.{seen-long}
-use Rattle.pick_tree.proofs.Runs.{tree-anew}
+use Rattle.pick_core.proofs.TreeRuns.{tree-anew}
 use Rattle.pick_core.proofs.runs.tree_of.Goals as goal
 
 pub renew_runs-requires : goal.renew_runs-requires

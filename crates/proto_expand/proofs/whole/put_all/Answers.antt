@@ -1,7 +1,7 @@
 use Rattle.std.proofs.Common.{◌≡◌, [], Err, ap, rules, sym}
-use Rattle.proto_limits.specs.Settled.{doing}
-use Rattle.proto_put.specs.Held as put
-use Rattle.proto_walker.specs.Shown.{shown}
+use Rattle.proto_parts.specs.Settled.{doing}
+use Rattle.proto_parts.specs.Put as put
+use Rattle.proto_nodes.specs.Shown.{shown}
 use Rattle.proto_expand.specs.Whole.{roots_do}
 use Rattle.proto_expand.proofs.Together.{all-err, all-made, routes-err}
 use Rattle.proto_expand.proofs.whole.put_all.Goals as goal

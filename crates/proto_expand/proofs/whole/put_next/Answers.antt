@@ -1,5 +1,5 @@
 use Rattle.std.proofs.Common.{◌≡◌, Err, drop, rules, subst, sym}
-use Rattle.proto_walker.specs.Shown.{shown}
+use Rattle.proto_nodes.specs.Shown.{shown}
 use Rattle.proto_expand.specs.Whole.{RootsGo}
 use Rattle.proto_expand.proofs.Together.{first-of, roots-flooded, roots-next, roots-stop}
 use Rattle.proto_expand.proofs.whole.put_next.Goals as goal

@@ -1,7 +1,7 @@
 use Rattle.std.proofs.Common.{◌≡◌, Err, rules, subst, sym}
-use Rattle.proto_limits.specs.Settled.{doing}
-use Rattle.proto_tree.specs.declared.tree.BodyTree.TheVariants as body
-use Rattle.proto_walker.specs.Shown.{shown}
+use Rattle.proto_parts.specs.Settled.{doing}
+use Rattle.proto_meaning.specs.declared.tree.BodyTree.TheVariants as body
+use Rattle.proto_nodes.specs.Shown.{shown}
 use Rattle.proto_nodes.specs.Frames.{Ends}
 use Rattle.proto_expand.specs.Whole.{root_does}
 use Rattle.proto_expand.proofs.Together.{root-node, root-stops}

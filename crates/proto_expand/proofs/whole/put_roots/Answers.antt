@@ -1,5 +1,5 @@
 use Rattle.std.proofs.Common.{◌∙◌}
-use Rattle.proto_walker.specs.Shown.{shown}
+use Rattle.proto_nodes.specs.Shown.{shown}
 use Rattle.proto_nodes.proofs.Waiting.{known-as}
 use Rattle.proto_expand.proofs.Together.{next-root}
 use Rattle.proto_expand.proofs.whole.put_roots.Goals as goal

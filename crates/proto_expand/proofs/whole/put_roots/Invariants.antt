@@ -1,7 +1,7 @@
 use Rattle.std.proofs.Common.{◌≡◌, drop, [], List}
 use Rattle.proto_meaning.specs.Sight.{Prototype}
-use Rattle.proto_limits.specs.Settled.{doing}
-use Rattle.proto_walker.specs.Shown.{shown}
+use Rattle.proto_parts.specs.Settled.{doing}
+use Rattle.proto_nodes.specs.Shown.{shown}
 use Rattle.proto_nodes.specs.Protos.{Knows}
 use Rattle.proto_nodes.specs.Frames.{MachineSound}
 use Rattle.proto_expand.specs.Rows.{RootsSized}

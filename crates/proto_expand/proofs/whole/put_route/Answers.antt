@@ -1,4 +1,4 @@
-use Rattle.proto_walker.specs.Shown.{shown}
+use Rattle.proto_nodes.specs.Shown.{shown}
 use Rattle.proto_nodes.proofs.Waiting.{machine-walks}
 use Rattle.proto_expand.proofs.Together.{always, route-ends, steps-sound}
 use Rattle.proto_expand.proofs.whole.put_route.Goals as goal

@@ -1,6 +1,6 @@
 use Rattle.std.proofs.Common.{inr}
-use Rattle.proto_tree.specs.declared.tree.BodyTree.TheVariants as body
-use Rattle.proto_walker.specs.Shown.{shown}
+use Rattle.proto_meaning.specs.declared.tree.BodyTree.TheVariants as body
+use Rattle.proto_nodes.specs.Shown.{shown}
 use Rattle.proto_expand.proofs.Together.{statement-as, wrong-root}
 use Rattle.proto_expand.proofs.whole.put_statement.Goals as goal
 

@@ -1,7 +1,7 @@
 use Rattle.std.proofs.Common.{◌≡◌, ◌∙◌, [], Ok, ap, rules, subst, sym}
-use Rattle.proto_limits.specs.Settled.{doing}
-use Rattle.proto_put.specs.Held as put
-use Rattle.proto_walker.specs.Shown.{before, shown}
+use Rattle.proto_parts.specs.Settled.{doing}
+use Rattle.proto_parts.specs.Put as put
+use Rattle.proto_nodes.specs.Shown.{before, shown}
 use Rattle.proto_nodes.specs.Frames.{FramesSound}
 use Rattle.proto_expand.specs.Whole.{all_of, roots_do}
 use Rattle.proto_expand.proofs.Together.{content-fails, gathered, same-parts}

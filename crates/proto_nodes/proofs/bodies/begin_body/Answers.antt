@@ -1,5 +1,5 @@
 use Rattle.std.proofs.Common.{◌∙◌, [], ap, sym}
-use Rattle.proto_walker.specs.Shown.{shown}
+use Rattle.proto_nodes.specs.Shown.{shown}
 use Rattle.proto_nodes.specs.Does.{body_comes, filled_now}
 use Rattle.proto_nodes.proofs.Left.{begun-state, body-begins}
 use Rattle.proto_nodes.proofs.bodies.begin_body.Goals as goal

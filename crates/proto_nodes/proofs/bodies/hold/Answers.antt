@@ -1,11 +1,11 @@
 use Rattle.std.proofs.Common.{Some}
-use Rattle.proto_limits.specs.Settled.{doing}
-use Rattle.proto_walker.specs.Shown.{shown}
+use Rattle.proto_parts.specs.Settled.{doing}
+use Rattle.proto_nodes.specs.Shown.{shown}
 use Rattle.proto_nodes.specs.declared.frames.Frame.TheVariants as frame
 use Rattle.proto_nodes.specs.Does.{after, body_comes}
 use Rattle.proto_nodes.specs.Frames.{frame_comes, held}
 use Rattle.proto_nodes.proofs.Left.{hold-first, hold-more}
-use Rattle.proto_nodes.proofs.Steps.{goes-as}
+use Rattle.proto_nodes.proofs.NodeSteps.{goes-as}
 use Rattle.proto_nodes.proofs.bodies.hold.Goals as goal
 
 pub returns-in-None-clause-goes : goal.returns-in-None-clause-goes

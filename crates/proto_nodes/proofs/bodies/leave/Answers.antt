@@ -1,13 +1,13 @@
 use Rattle.std.proofs.Common.{Err, Some, ◌∙◌, ap, sym, inr}
-use Rattle.proto_joins.specs.Joined.{ends_in}
-use Rattle.proto_joins.specs.Sides.{made_routes}
-use Rattle.proto_limits.specs.Settled.{doing}
-use Rattle.proto_scope.specs.Held as scope
-use Rattle.proto_walker.specs.Shown.{shown}
-use Rattle.proto_walker.specs.Steps.{standing_in}
+use Rattle.proto_parts.specs.Joined.{ends_in}
+use Rattle.proto_parts.specs.Sides.{made_routes}
+use Rattle.proto_parts.specs.Settled.{doing}
+use Rattle.proto_parts.specs.Scope as scope
+use Rattle.proto_nodes.specs.Shown.{shown}
+use Rattle.proto_nodes.specs.Steps.{standing_in}
 use Rattle.proto_nodes.specs.Does.{first_of, leaves, outside}
 use Rattle.proto_nodes.proofs.Left.{leave-empty, leave-stands}
-use Rattle.proto_nodes.proofs.Steps.{goes-as}
+use Rattle.proto_nodes.proofs.NodeSteps.{goes-as}
 use Rattle.proto_nodes.proofs.bodies.leave.Goals as goal
 
 pub returns-in_default-clause-goes : goal.returns-in_default-clause-goes

@@ -1,10 +1,10 @@
 use Rattle.std.proofs.Common.{◌∙◌, ◌∷◌, ap, sym, inr}
-use Rattle.proto_limits.specs.Settled.{doing}
+use Rattle.proto_parts.specs.Settled.{doing}
 use Rattle.proto_meaning.specs.Flat.{note_route}
-use Rattle.proto_walker.specs.Shown.{shown}
+use Rattle.proto_nodes.specs.Shown.{shown}
 use Rattle.proto_nodes.specs.Does.{after, body_comes, first_of, leaves}
 use Rattle.proto_nodes.proofs.Left.{body-done, body-goes, body-node, body-route, body-wrong}
-use Rattle.proto_nodes.proofs.Steps.{goes-as}
+use Rattle.proto_nodes.proofs.NodeSteps.{goes-as}
 use Rattle.proto_nodes.proofs.bodies.next_statement.Goals as goal
 
 pub returns-in_default-clause-goes : goal.returns-in_default-clause-goes

@@ -1,5 +1,5 @@
 use Rattle.proto_meaning.specs.Flat.{note_route}
-use Rattle.proto_walker.specs.Shown.{shown}
+use Rattle.proto_nodes.specs.Shown.{shown}
 use Rattle.proto_nodes.proofs.Left.{body-after}
 use Rattle.proto_nodes.proofs.bodies.put_route.Goals as goal
 

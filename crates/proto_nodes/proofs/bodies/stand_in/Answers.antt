@@ -1,10 +1,10 @@
 use Rattle.std.proofs.Common.{Some, ◌∙◌, ap, sym}
-use Rattle.proto_joins.specs.Joined.{ends_in}
-use Rattle.proto_joins.specs.Sides.{made_routes}
-use Rattle.proto_limits.specs.Settled.{doing}
-use Rattle.proto_scope.specs.Held as scope
-use Rattle.proto_walker.specs.Shown.{shown}
-use Rattle.proto_walker.specs.Steps.{standing_in}
+use Rattle.proto_parts.specs.Joined.{ends_in}
+use Rattle.proto_parts.specs.Sides.{made_routes}
+use Rattle.proto_parts.specs.Settled.{doing}
+use Rattle.proto_parts.specs.Scope as scope
+use Rattle.proto_nodes.specs.Shown.{shown}
+use Rattle.proto_nodes.specs.Steps.{standing_in}
 use Rattle.proto_nodes.specs.Does.{outside}
 use Rattle.proto_nodes.proofs.Begun.{number-goes}
 use Rattle.proto_nodes.proofs.bodies.stand_in.Goals as goal

@@ -1,11 +1,11 @@
 use Rattle.std.proofs.Common.{map, ap, sym, ◌∙◌}
-use Rattle.proto_limits.specs.Settled.{doing}
+use Rattle.proto_parts.specs.Settled.{doing}
 use Rattle.proto_meaning.specs.Flat.{full_node}
-use Rattle.proto_tree.specs.Meaning.{item, node, owner}
-use Rattle.proto_walker.specs.Shown.{shown}
-use Rattle.proto_walker.specs.Steps.{using}
+use Rattle.proto_meaning.specs.Meaning.{item, node, owner}
+use Rattle.proto_nodes.specs.Shown.{shown}
+use Rattle.proto_nodes.specs.Steps.{using}
 use Rattle.proto_nodes.proofs.Trees.{node-full, node-use}
-use Rattle.proto_nodes.proofs.Steps.{goes-as}
+use Rattle.proto_nodes.proofs.NodeSteps.{goes-as}
 use Rattle.proto_nodes.proofs.braces.begin.Goals as goal
 
 pub returns-in-Use-clause-goes : goal.returns-in-Use-clause-goes

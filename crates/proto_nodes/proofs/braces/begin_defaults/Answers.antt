@@ -1,6 +1,6 @@
 use Rattle.std.proofs.Common.{ap, sym, ◌∙◌}
-use Rattle.proto_given.specs.Held as table
-use Rattle.proto_walker.specs.Shown.{shown}
+use Rattle.proto_parts.specs.Given as table
+use Rattle.proto_nodes.specs.Shown.{shown}
 use Rattle.proto_nodes.specs.Does.{filling_comes, inside_now}
 use Rattle.proto_nodes.specs.Frames.{holder_comes, task_comes}
 use Rattle.proto_nodes.proofs.Begun.{filling-begins, instance-closes, none-filled}

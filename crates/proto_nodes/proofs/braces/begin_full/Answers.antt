@@ -1,13 +1,13 @@
 use Rattle.std.proofs.Common.{Some, map, ap, sym, ◌∙◌}
-use Rattle.proto_limits.specs.Settled.{doing}
+use Rattle.proto_parts.specs.Settled.{doing}
 use Rattle.proto_meaning.specs.Flat.{full_node}
 use Rattle.proto_meaning.specs.Sight.{OfProto, OfType}
-use Rattle.proto_tree.specs.Meaning.{item, owner}
-use Rattle.proto_tree.specs.declared.tree.Word.TheVariants as word
-use Rattle.proto_walker.specs.Shown.{shown}
+use Rattle.proto_meaning.specs.Meaning.{item, owner}
+use Rattle.proto_meaning.specs.declared.tree.Word.TheVariants as word
+use Rattle.proto_nodes.specs.Shown.{shown}
 use Rattle.proto_nodes.specs.Protos.{proto_by}
 use Rattle.proto_nodes.proofs.Begun.{full-as, full-by, of-number}
-use Rattle.proto_nodes.proofs.Steps.{goes-as}
+use Rattle.proto_nodes.proofs.NodeSteps.{goes-as}
 use Rattle.proto_nodes.proofs.braces.begin_full.Goals as goal
 
 pub returns-in-Node-clause-goes : goal.returns-in-Node-clause-goes

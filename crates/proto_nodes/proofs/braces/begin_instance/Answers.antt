@@ -1,14 +1,14 @@
 use Rattle.std.proofs.Common.{◌≡◌, Err, Some, map, rules, subst, sym}
-use Rattle.proto_limits.specs.Settled.{doing}
+use Rattle.proto_parts.specs.Settled.{doing}
 use Rattle.proto_meaning.specs.Flat.{full_node}
 use Rattle.proto_meaning.specs.Sight.{OfProto}
-use Rattle.proto_tree.specs.Meaning.{item}
-use Rattle.proto_walker.specs.Shown.{shown}
+use Rattle.proto_meaning.specs.Meaning.{item}
+use Rattle.proto_nodes.specs.Shown.{shown}
 use Rattle.proto_nodes.specs.Protos.{proto_by}
 use Rattle.proto_nodes.specs.Does.{instance_do}
 use Rattle.proto_nodes.specs.Frames.{Goes}
 use Rattle.proto_nodes.proofs.Begun.{instance-begins, instance-twice}
-use Rattle.proto_nodes.proofs.Steps.{goes-as}
+use Rattle.proto_nodes.proofs.NodeSteps.{goes-as}
 use Rattle.proto_nodes.proofs.braces.begin_instance.Goals as goal
 
 pub returns-in_err-check_interface-clause-goes : goal.returns-in_err-check_interface-clause-goes

@@ -1,15 +1,15 @@
 use Rattle.std.proofs.Common.{◌≡◌, Err, rules, subst, sym}
-use Rattle.proto_limits.specs.Settled.{doing}
-use Rattle.proto_inside.specs.declared.inside.Owner.TheVariants as held
+use Rattle.proto_parts.specs.Settled.{doing}
+use Rattle.proto_parts.specs.declared.inside.Owner.TheVariants as held
 use Rattle.proto_meaning.specs.Flat as flat
 use Rattle.proto_meaning.specs.Sight.{OfType}
-use Rattle.proto_tree.specs.Meaning.{item}
+use Rattle.proto_meaning.specs.Meaning.{item}
 use Rattle.std.proofs.Common.{map, Some}
-use Rattle.proto_walker.specs.Shown.{shown}
+use Rattle.proto_nodes.specs.Shown.{shown}
 use Rattle.proto_nodes.specs.Does.{braces_do}
 use Rattle.proto_nodes.specs.Frames.{Goes}
 use Rattle.proto_nodes.proofs.Begun.{node-begins, node-stops}
-use Rattle.proto_nodes.proofs.Steps.{goes-as}
+use Rattle.proto_nodes.proofs.NodeSteps.{goes-as}
 use Rattle.proto_nodes.proofs.braces.begin_node.Goals as goal
 
 pub returns-in_err-meet_node-clause-goes : goal.returns-in_err-meet_node-clause-goes

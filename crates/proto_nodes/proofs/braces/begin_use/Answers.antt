@@ -1,6 +1,6 @@
-use Rattle.proto_limits.specs.Settled.{doing}
-use Rattle.proto_walker.specs.Shown.{shown}
-use Rattle.proto_walker.specs.Steps.{using}
+use Rattle.proto_parts.specs.Settled.{doing}
+use Rattle.proto_nodes.specs.Shown.{shown}
+use Rattle.proto_nodes.specs.Steps.{using}
 use Rattle.proto_nodes.proofs.Begun.{number-goes}
 use Rattle.proto_nodes.proofs.braces.begin_use.Goals as goal
 

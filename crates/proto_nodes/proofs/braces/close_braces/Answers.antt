@@ -1,11 +1,11 @@
 use Rattle.std.proofs.Common.{◌∙◌}
-use Rattle.proto_limits.specs.Settled.{doing}
+use Rattle.proto_parts.specs.Settled.{doing}
 use Rattle.proto_meaning.specs.Flat.{close_instance}
-use Rattle.proto_walker.specs.Shown.{shown}
+use Rattle.proto_nodes.specs.Shown.{shown}
 use Rattle.proto_nodes.specs.Does.{closes, inside_now, open_does}
 use Rattle.proto_nodes.specs.Protos.{proto_by}
 use Rattle.proto_nodes.proofs.Begun.{closes-instance, open-closes}
-use Rattle.proto_nodes.proofs.Steps.{goes-as}
+use Rattle.proto_nodes.proofs.NodeSteps.{goes-as}
 use Rattle.proto_nodes.proofs.braces.close_braces.Goals as goal
 
 pub returns-in-Node-clause-goes : goal.returns-in-Node-clause-goes

@@ -1,7 +1,7 @@
 use Rattle.std.proofs.Common.{refl, ◌∙◌}
-use Rattle.proto_limits.specs.Settled.{doing}
-use Rattle.proto_put.specs.Held.{flat_of}
-use Rattle.proto_walker.specs.Shown.{shown}
+use Rattle.proto_parts.specs.Settled.{doing}
+use Rattle.proto_parts.specs.Put.{flat_of}
+use Rattle.proto_nodes.specs.Shown.{shown}
 use Rattle.proto_nodes.specs.Does.{closes, inside_now}
 use Rattle.proto_nodes.proofs.Begun.{closes-node, number-goes}
 use Rattle.proto_nodes.proofs.braces.close_node.Goals as goal

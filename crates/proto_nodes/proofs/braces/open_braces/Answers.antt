@@ -1,4 +1,4 @@
-use Rattle.proto_walker.specs.Shown.{shown}
+use Rattle.proto_nodes.specs.Shown.{shown}
 use Rattle.proto_nodes.specs.Frames.{holder_comes, task_comes}
 use Rattle.proto_nodes.proofs.Begun.{braces-open}
 use Rattle.proto_nodes.proofs.braces.open_braces.Goals as goal

@@ -1,6 +1,6 @@
 use Rattle.std.proofs.Common.{Some, ap, refl}
-use Rattle.proto_given.specs.Held as table
-use Rattle.proto_given.specs.Held.{filled_of}
+use Rattle.proto_parts.specs.Given as table
+use Rattle.proto_parts.specs.Given.{filled_of}
 use Rattle.proto_nodes.specs.Does.{default_value}
 use Rattle.proto_nodes.proofs.Fillings.{fills-if}
 use Rattle.proto_nodes.proofs.defaults.fill.Goals as goal

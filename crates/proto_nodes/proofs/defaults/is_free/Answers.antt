@@ -1,5 +1,5 @@
 use Rattle.std.proofs.Common.{◌∙◌, sym}
-use Rattle.proto_given.specs.Held as table
+use Rattle.proto_parts.specs.Given as table
 use Rattle.proto_nodes.proofs.Fillings.{given-none, given-some, is-none}
 use Rattle.proto_nodes.proofs.defaults.is_free.Goals as goal
 

@@ -1,5 +1,5 @@
 use Rattle.std.proofs.Common.{refl, ap, sym, ◌∙◌}
-use Rattle.proto_tree.specs.declared.tree.GivenTree.TheVariants as tree
+use Rattle.proto_meaning.specs.declared.tree.GivenTree.TheVariants as tree
 use Rattle.proto_meaning.specs.Values.{plain}
 use Rattle.proto_nodes.specs.Does.{default_value}
 use Rattle.proto_nodes.proofs.Fillings.{default-many, default-none, default-one, plain-goes, plain-sound}

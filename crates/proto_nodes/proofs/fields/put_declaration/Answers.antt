@@ -1,12 +1,12 @@
 use Rattle.std.proofs.Common.{◌≡◌, Err, refl, rules, subst, sym}
-use Rattle.proto_interface.specs.Fields.{numbered}
-use Rattle.proto_tree.specs.Meaning.{declares, gives}
-use Rattle.proto_walker.specs.Shown.{shown}
+use Rattle.proto_parts.specs.Fields.{numbered}
+use Rattle.proto_meaning.specs.Meaning.{declares, gives}
+use Rattle.proto_nodes.specs.Shown.{shown}
 use Rattle.proto_nodes.specs.Does.{given_by, inside_now, open_does}
 use Rattle.proto_nodes.specs.Protos.{owner_by}
 use Rattle.proto_nodes.specs.Frames.{OpenGoes, item_comes}
 use Rattle.proto_nodes.proofs.Given.{declared-then, goes-on-as, is-script}
-use Rattle.proto_nodes.proofs.Steps.{stopped}
+use Rattle.proto_nodes.proofs.NodeSteps.{stopped}
 use Rattle.proto_nodes.proofs.fields.put_declaration.Goals as goal
 
 pub returns-in_err-field-clause-goes : goal.returns-in_err-field-clause-goes

@@ -1,6 +1,6 @@
-use Rattle.proto_interface.specs.Fields.{numbered}
-use Rattle.proto_tree.specs.Meaning.{gives}
-use Rattle.proto_walker.specs.Shown.{shown}
+use Rattle.proto_parts.specs.Fields.{numbered}
+use Rattle.proto_meaning.specs.Meaning.{gives}
+use Rattle.proto_nodes.specs.Shown.{shown}
 use Rattle.proto_nodes.specs.Does.{field_does, given_by}
 use Rattle.proto_nodes.specs.Frames.{item_comes}
 use Rattle.proto_nodes.proofs.Given.{field-known, goes-on-as}

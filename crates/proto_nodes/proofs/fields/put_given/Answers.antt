@@ -1,12 +1,12 @@
 use Rattle.std.proofs.Common.{[], map, sym, subst}
 use Rattle.classic_tree.specs.declared.tree.Given.TheVariants as text
 use Rattle.proto_meaning.specs.Flat.{give}
-use Rattle.proto_limits.specs.Settled.{doing}
-use Rattle.proto_interface.specs.Fields.{numbered}
-use Rattle.proto_giving.specs.Giving.{Gives}
-use Rattle.proto_tree.specs.Meaning as meaning
-use Rattle.proto_tree.specs.declared.tree.GivenTree.TheVariants as tree
-use Rattle.proto_walker.specs.Shown.{shown}
+use Rattle.proto_parts.specs.Settled.{doing}
+use Rattle.proto_parts.specs.Fields.{numbered}
+use Rattle.proto_nodes.specs.Giving.{Gives}
+use Rattle.proto_meaning.specs.Meaning as meaning
+use Rattle.proto_meaning.specs.declared.tree.GivenTree.TheVariants as tree
+use Rattle.proto_nodes.specs.Shown.{shown}
 use Rattle.proto_nodes.specs.Does.{inside_now}
 use Rattle.proto_nodes.specs.Protos.{owner_by}
 use Rattle.proto_nodes.specs.Frames.{OpenGoes, given_at, item_comes}

@@ -1,7 +1,7 @@
 use Rattle.std.proofs.Common.{inr}
-use Rattle.proto_tree.specs.Meaning.{declares}
-use Rattle.proto_tree.specs.declared.tree.ItemTree.TheVariants as tree_item
-use Rattle.proto_walker.specs.Shown.{shown}
+use Rattle.proto_meaning.specs.Meaning.{declares}
+use Rattle.proto_meaning.specs.declared.tree.ItemTree.TheVariants as tree_item
+use Rattle.proto_nodes.specs.Shown.{shown}
 use Rattle.proto_nodes.specs.Does.{field_does, given_by, route_does}
 use Rattle.proto_nodes.proofs.Given.{item-as, wrong-item}
 use Rattle.proto_nodes.proofs.Trees.{item-field, item-declaration, item-route, item-wrong}

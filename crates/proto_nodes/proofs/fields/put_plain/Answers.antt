@@ -1,8 +1,8 @@
 use Rattle.std.proofs.Common.{◌≡◌, Err, rules}
-use Rattle.proto_interface.specs.Fields.{numbered}
+use Rattle.proto_parts.specs.Fields.{numbered}
 use Rattle.proto_meaning.specs.Values.{plain}
-use Rattle.proto_tree.specs.Meaning.{holds}
-use Rattle.proto_walker.specs.Shown.{shown}
+use Rattle.proto_meaning.specs.Meaning.{holds}
+use Rattle.proto_nodes.specs.Shown.{shown}
 use Rattle.proto_nodes.specs.Does.{inside_now}
 use Rattle.proto_nodes.specs.Protos.{owner_by}
 use Rattle.proto_nodes.proofs.Given.{is-node, plain-stands, plain-stopped}

@@ -1,5 +1,5 @@
 use Rattle.std.proofs.Common.{ap}
-use Rattle.proto_walker.specs.Shown.{shown}
+use Rattle.proto_nodes.specs.Shown.{shown}
 use Rattle.proto_nodes.proofs.Waiting.{fits-closed, fits-list, fits-one, next-closed, next-list, next-on, next-one}
 use Rattle.proto_nodes.proofs.holders.begin_next.Goals as goal
 

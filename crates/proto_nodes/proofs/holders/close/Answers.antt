@@ -1,9 +1,9 @@
 use Rattle.std.proofs.Common.{◌∙◌, ap}
-use Rattle.proto_limits.specs.Settled.{doing}
-use Rattle.proto_walker.specs.Shown.{shown}
+use Rattle.proto_parts.specs.Settled.{doing}
+use Rattle.proto_nodes.specs.Shown.{shown}
 use Rattle.proto_nodes.specs.Does.{inside_now, open_does}
 use Rattle.proto_nodes.specs.Frames.{holder_comes}
-use Rattle.proto_nodes.proofs.Steps.{goes-as}
+use Rattle.proto_nodes.proofs.NodeSteps.{goes-as}
 use Rattle.proto_nodes.proofs.Left.{body-on}
 use Rattle.proto_nodes.proofs.Waiting.{braces-come, defaults-come}
 use Rattle.proto_nodes.proofs.holders.close.Goals as goal

@@ -1,4 +1,4 @@
-use Rattle.proto_walker.specs.Shown.{shown}
+use Rattle.proto_nodes.specs.Shown.{shown}
 use Rattle.proto_nodes.specs.declared.frames.Holder.TheVariants as holder
 use Rattle.proto_nodes.specs.Frames.{holder_comes}
 use Rattle.proto_nodes.proofs.Waiting.{braces-next, braces-next-sound}

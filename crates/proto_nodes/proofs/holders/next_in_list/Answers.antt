@@ -1,6 +1,6 @@
 use Rattle.classic_tree.specs.declared.tree.RawValue.TheVariants as value
 use Rattle.proto_nodes.specs.Frames.{list_comes, value_comes}
-use Rattle.proto_nodes.proofs.Steps.{goes-as}
+use Rattle.proto_nodes.proofs.NodeSteps.{goes-as}
 use Rattle.proto_nodes.proofs.Waiting.{list-done, list-next}
 use Rattle.proto_nodes.proofs.holders.next_in_list.Goals as goal
 

@@ -1,4 +1,4 @@
-use Rattle.proto_walker.specs.Shown.{shown}
+use Rattle.proto_nodes.specs.Shown.{shown}
 use Rattle.proto_nodes.proofs.Waiting.{body-sound, frame-body, frame-list, frame-one, list-sound, machine-walks, one-sound}
 use Rattle.proto_nodes.proofs.nodes.give.Goals as goal
 

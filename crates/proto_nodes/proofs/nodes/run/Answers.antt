@@ -1,7 +1,7 @@
 use Rattle.std.proofs.Common.{◌≡◌, ◌∙◌, ℕ, Err, refl, rules, subst, sym}
-use Rattle.proto_walker.specs.Shown.{shown}
+use Rattle.proto_nodes.specs.Shown.{shown}
 use Rattle.proto_nodes.specs.Frames.{Ends, all_comes}
-use Rattle.proto_nodes.proofs.Steps.{same-stop}
+use Rattle.proto_nodes.proofs.NodeSteps.{same-stop}
 use Rattle.proto_nodes.proofs.Waiting.{all-done, known-as}
 use Rattle.proto_nodes.proofs.nodes.run.Goals as goal
 

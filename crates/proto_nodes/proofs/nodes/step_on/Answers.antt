@@ -1,6 +1,6 @@
 use Rattle.std.proofs.Common.{◌≡◌, ◌∙◌, Err, ap, rules, subst, sym}
 use Rattle.proto_nodes.specs.Frames.{StepsOn, TaskSound, all_comes}
-use Rattle.proto_nodes.proofs.Steps.{same-stop}
+use Rattle.proto_nodes.proofs.NodeSteps.{same-stop}
 use Rattle.proto_nodes.proofs.nodes.step_on.Goals as goal
 
 pub step-requires-clause-task : goal.step-requires-clause-task

@@ -1,6 +1,6 @@
 use Rattle.std.proofs.Common.{◌∙◌, true, false, Ok, Err, refl, ap, sym}
 use Rattle.classic_tree.specs.declared.tree.ProtoText.{out-ProtoText}
-use Rattle.proto_sight.specs.Texts.{finds_inside, has_node}
+use Rattle.proto_meaning.specs.Texts.{finds_inside, has_node}
 use Rattle.proto_resolver.proofs.Names.{checked_as}
 use Rattle.proto_resolver.proofs.resolver.check_declaration.Goals as goal
 

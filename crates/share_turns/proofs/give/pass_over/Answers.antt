@@ -1,7 +1,7 @@
 use Rattle.std.proofs.Common.{rules, ◌≡◌, refl, inl, inr, [], ◌∷◌, take, ◌∙◌, arith}
 use Rattle.std.specs.Prelude.{Err}
-use Rattle.share_port.specs.declared.traffic.Datagram.{Datagram}
-use Rattle.share_port.specs.declared.traffic.Traffic.TheVariants.{Nothing}
+use Rattle.share_turns.specs.declared.traffic.Datagram.{Datagram}
+use Rattle.share_turns.specs.declared.traffic.Traffic.TheVariants.{Nothing}
 use Rattle.share_turns.specs.declared.fault.TurnFault.TheVariants.{Port}
 use Rattle.share_turns.proofs.Sending.{grows_none}
 use Rattle.share_turns.proofs.Gathering.{passed_end, passed_failed, passed_more, passed_none}

@@ -1,7 +1,7 @@
 use Rattle.std.proofs.Common.{rules, ◌≡◌, [], ◌∷◌, take, refl, inl, inr, ◌∙◌, arith}
 use Rattle.std.specs.Prelude.{Ok, Err}
-use Rattle.share_port.specs.declared.traffic.Datagram.{Datagram}
-use Rattle.share_port.specs.declared.traffic.Traffic.TheVariants.{Nothing}
+use Rattle.share_turns.specs.declared.traffic.Datagram.{Datagram}
+use Rattle.share_turns.specs.declared.traffic.Traffic.TheVariants.{Nothing}
 use Rattle.share_turns.specs.declared.fault.TurnFault.TheVariants.{Memory, Port}
 use Rattle.share_turns.proofs.Sending.{grows_none}
 use Rattle.share_turns.proofs.Turning.{turn_cut, turn_end, turn_unclocked, turned_begun, turned_more}

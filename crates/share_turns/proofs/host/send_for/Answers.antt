@@ -3,7 +3,7 @@ use Rattle.std.specs.Prelude.{Err, is_ok}
 use Rattle.std.proofs.lemmas.List.{map-append}
 use Rattle.share_wire.specs.Datagram.{datagram}
 use Rattle.share_wire.specs.declared.message.Body.{Body}
-use Rattle.share_port.specs.Told.{counted}
+use Rattle.share_turns.specs.Told.{counted}
 use Rattle.share_turns.specs.HostTurn.{acks_for, inputs_for}
 use Rattle.share_turns.proofs.Sending.{are_sent_front, are_sent_then}
 use Rattle.share_turns.proofs.host.send_for.Goals as goal

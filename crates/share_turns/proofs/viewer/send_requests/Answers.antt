@@ -4,7 +4,7 @@ use Rattle.std.proofs.lemmas.List.{map-append}
 use Rattle.share_wire.specs.Datagram.{datagram}
 use Rattle.share_wire.specs.declared.message.Body.{Body}
 use Rattle.share_law.specs.Viewer.{viewer_ask, viewer_resend}
-use Rattle.share_port.specs.Told.{counted}
+use Rattle.share_turns.specs.Told.{counted}
 use Rattle.share_core.specs.Viewer.{machine_of}
 use Rattle.share_turns.specs.HostTurn.{listed}
 use Rattle.share_turns.proofs.Sending.{are_sent_front, are_sent_one, are_sent_then}

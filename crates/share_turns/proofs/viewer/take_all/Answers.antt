@@ -1,8 +1,8 @@
 use Rattle.std.proofs.Common.{rules, ◌≡◌, true, false, refl, inl, [], ◌∷◌, ◌+◌, take, ap, ◌∙◌, arith}
 use Rattle.share_core.specs.Viewer.{with_state}
-use Rattle.share_port.specs.declared.traffic.Datagram.{Datagram}
+use Rattle.share_turns.specs.declared.traffic.Datagram.{Datagram}
 use Rattle.std.specs.Prelude.{Err}
-use Rattle.share_port.specs.declared.traffic.Traffic.TheVariants.{Nothing}
+use Rattle.share_turns.specs.declared.traffic.Traffic.TheVariants.{Nothing}
 use Rattle.share_turns.specs.declared.fault.TurnFault.TheVariants.{Memory, Port}
 use Rattle.share_turns.proofs.Answering.{went_on}
 use Rattle.share_turns.proofs.Taking.{takes_all, takes_end, takes_failed, takes_more}

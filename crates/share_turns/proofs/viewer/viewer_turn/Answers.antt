@@ -1,6 +1,6 @@
 use Rattle.std.proofs.Common.{rules, ◌≡◌, refl, ap, sym, ◌∙◌}
 use Rattle.std.specs.Prelude.{Ok, Err}
-use Rattle.share_port.specs.Told.{one_more}
+use Rattle.share_turns.specs.Told.{one_more}
 use Rattle.share_core.specs.Viewer.{with_state}
 use Rattle.share_turns.specs.declared.fault.TurnFault.TheVariants.{Port}
 use Rattle.share_turns.proofs.Taking.{failures_kept, turn_sent, turn_stopped, unless_running, unless_spoiled, while_running, while_spoiled}

@@ -1,5 +1,5 @@
 use Rattle.std.proofs.Common.{◌≡◌, ℕ, Some, ap, sym, ◌∙◌}
-use Rattle.snapshot_rules.specs.Opening.{version_in, version_number}
+use Rattle.snapshot_core.specs.Opening.{version_in, version_number}
 use Rattle.snapshot_core.specs.declared.head.ShotHead.{ShotHead}
 use Rattle.snapshot_core.proofs.ShotHeads.{none-told, some-told}
 use Rattle.snapshot_core.proofs.head.head_in.Goals as goal

@@ -1,5 +1,5 @@
 use Rattle.std.proofs.Common.{inl}
-use Rattle.snapshot_rules.specs.Opening.{version_in}
+use Rattle.snapshot_core.specs.Opening.{version_in}
 use Rattle.snapshot_core.proofs.Heads.{behind_body, behind_fault}
 use Rattle.snapshot_core.proofs.loading.behind_head.Goals as goal
 

@@ -3,7 +3,7 @@ use Rattle.scene_core.specs.Scene.{shapes_of}
 use Rattle.snapshot_core.specs.Nodes.{kept_fields, shape_in}
 use Rattle.snapshot_core.proofs.KeptRows.{shape_in-is, text_in}
 use Rattle.snapshot_core.specs.Nodes.{lists_codec, nodes_codec}
-use Rattle.snapshot_rules.proofs.Growing.{extends_on, stays}
+use Rattle.snapshot_core.proofs.Growing.{extends_on, stays}
 use Rattle.snapshot_core.proofs.NodeLoops.{text_goes_on, text_done, counted}
 use Rattle.snapshot_core.proofs.nodes.push_nodes.Goals as goal
 

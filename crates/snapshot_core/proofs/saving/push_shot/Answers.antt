@@ -1,4 +1,4 @@
-use Rattle.snapshot_rules.proofs.Growing.{extends_on, grown}
+use Rattle.snapshot_core.proofs.Growing.{extends_on, grown}
 use Rattle.snapshot_core.proofs.saving.push_shot.Goals as goal
 
 pub returns-in_err-push_body-clause-kept : goal.returns-in_err-push_body-clause-kept

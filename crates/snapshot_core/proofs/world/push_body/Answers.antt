@@ -1,7 +1,7 @@
 use Rattle.std.proofs.Common.{length, rules}
 use Rattle.cascade_core.specs.Scripts.{kinds_in}
 use Rattle.scene_core.specs.Scene.{shapes_of}
-use Rattle.snapshot_rules.proofs.Growing.{extends_on, grown, same_on}
+use Rattle.snapshot_core.proofs.Growing.{extends_on, grown, same_on}
 use Rattle.snapshot_core.proofs.WorldLaws.{body_written}
 use Rattle.snapshot_core.proofs.world.push_body.Goals as goal
 

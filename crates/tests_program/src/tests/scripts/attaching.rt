@@ -3,9 +3,9 @@
 use super::probe::{Log, Made, boxes_made};
 use super::worlds::COUNTERS;
 use super::{Row, all_hold, holds, list_of};
+use app_program::{RunFault, attach, open_scene};
 use scene_core::Scene;
 use script_host::{AttachFault, Scripts};
-use share_program::{RunFault, attach, open_scene};
 use std::alloc::Global;
 use std::process::Abort;
 use tests_memory::{Outcome, Spared, UsedUp, is_refused_until_enough};

@@ -3,11 +3,11 @@
 
 use super::worlds::untold;
 use super::{Row, all_hold};
+use app_program::{OpenedScene, open_scene};
 use cascade_core::{State, Watched, WorldData};
 use scene_core::{End, Scene};
 use sensor_core::{TimeState, TouchParts, TouchState};
 use sensor_plane::{Drag, ListPath, PlaneParts, PlaneState, PointingSlot, PointingState};
-use share_program::{OpenedScene, open_scene};
 use std::alloc::Global;
 use x3d_values::{Items, Position, Value, Vec3};
 

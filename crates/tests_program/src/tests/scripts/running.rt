@@ -4,8 +4,8 @@ use super::super::texts::{Part, made};
 use super::probe::{Log, Made, boxes_made};
 use super::worlds::COUNTERS;
 use super::{Row, all_hold};
+use app_program::{RunFault, read_job, run, run_job};
 use script_host::AttachFault;
-use share_program::{RunFault, read_job, run, run_job};
 use std::alloc::Global;
 use std::process::Abort;
 

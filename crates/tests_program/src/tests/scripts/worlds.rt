@@ -5,11 +5,11 @@ ghost use Rattle.cascade_core.specs.Apply.{opening};
 ghost use Rattle.cascade_core.specs.Held.{Running};
 
 use super::probe::{Log, Made, Probe, boxes_made};
+use app_program::{OpenedScene, attach, open_scene};
 use cascade_core::{LoadFault, Stage, State, Trace, Watched, WorldData};
 use scene_core::Scene;
 use sensor_core::TimeState;
 use sensor_plane::PointingSlot;
-use share_program::{OpenedScene, attach, open_scene};
 use std::alloc::Global;
 use x3d_values::{Cause, MAX_VIEWERS, Stamped, is_input_number, is_input_time};
 

@@ -1,7 +1,6 @@
 //! Gathering a snapshot: pieces in any order, of several snapshots, and with little memory.
 
-use share_core::piece_count;
-use share_gather::{Pieces, gather};
+use share_core::{Pieces, gather, piece_count};
 use share_law::{GatherFault, Gathered};
 use share_wire::{Ask, Body, Floor, Piece, is_piece, piece_size};
 use std::alloc::Global;

@@ -7,6 +7,7 @@ ghost use Rattle.cascade_core.specs.Scripts.{scripts_in};
 ghost use Rattle.script_running.specs.Scripts.{script_list};
 ghost use Rattle.script_host.specs.Attaching.{Fits};
 
+use app_program::{OpenedScene, RunFault, attach, open_scene};
 use cascade_core::{LoadFault, Stage};
 use scene_core::Scene;
 use script_boxes::{StockScript, boxes_of};
@@ -14,7 +15,6 @@ use script_host::Scripts;
 use script_running::script_list;
 use share_core::Viewer;
 use share_law::{SnapFault, TakeFault, Taken};
-use share_program::{OpenedScene, RunFault, attach, open_scene};
 use share_wire::{Body, Message, Packet, encode};
 use std::alloc::Global;
 use std::process::Abort;

@@ -3,8 +3,7 @@
 use super::given::{EMPTY, POINT, Trial, try_on};
 use script_boxes::StockScript;
 use share_core::Viewer;
-use share_port::{FakePort, Port};
-use share_turns::{SeriesFault, TurnFault, view_until};
+use share_turns::{FakePort, Port, SeriesFault, TurnFault, view_until};
 use std::alloc::Global;
 use std::process::Abort;
 use x3d_values::Point;

@@ -7,9 +7,9 @@ use super::given::{
 use super::hosting::{begin, offer_packet};
 use script_boxes::StockScript;
 use share_core::{Host, Viewer};
-use share_port::{Bytes, Datagram, FakePort, Port};
 use share_turns::{
-    HostPlan, SeriesFault, TurnFault, ViewPlan, agree, host_run, host_turn, view_run, viewer_turn,
+    Bytes, Datagram, FakePort, HostPlan, Port, SeriesFault, TurnFault, ViewPlan, agree, host_run,
+    host_turn, view_run, viewer_turn,
 };
 use share_wire::Packet;
 use std::alloc::Global;

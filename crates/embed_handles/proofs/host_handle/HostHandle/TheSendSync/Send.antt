@@ -10,9 +10,9 @@ use denote.Struct.Struct.{exits_of}
 use denote.Struct.Owning.{shape, fields, to}
 use Rattle.std.specs.Prelude.{Option, Some, None}
 use Rattle.std.proofs.Crossing.{frees}
-use Rattle.embed_nodes.specs.declared.host.EmbeddedHost.{EmbeddedHost}
-use Rattle.embed_nodes.specs.contracts.host.EmbeddedHost.{the_row as R}
-use Rattle.embed_nodes.proofs.host.EmbeddedHost.TheSendSync.{the_send as host}
+use Rattle.embed_world.specs.declared.host.EmbeddedHost.{EmbeddedHost}
+use Rattle.embed_world.specs.contracts.host.EmbeddedHost.{the_row as R}
+use Rattle.embed_world.proofs.host.EmbeddedHost.TheSendSync.{the_send as host}
 use Rattle.embed_handles.specs.Heap.{heap}
 use Rattle.embed_handles.specs.HostHeld.{held}
 use Rattle.embed_handles.specs.contracts.host_handle.HostHandle.{the_row, the_type}

@@ -34,10 +34,10 @@ use Rattle.std.proofs.alloc.Global.TheLaws.{mir as layout, the_row_laws as LZ}
 use Rattle.std.specs.Box.Ownership.{box_owns}
 use lib.Dec.{T}
 use Rattle.std.specs.contracts.impls.GlobalAllocator.TheImpl.{ghosts as g}
-use Rattle.embed_box.proofs.Values.{both, loose_good, loose_in}
-use Rattle.embed_box.specs.contracts.Loose.{the_row as Loose}
-use Rattle.embed_nodes.specs.declared.host.EmbeddedHost.{EmbeddedHost}
-use Rattle.embed_nodes.specs.contracts.host.EmbeddedHost.{the_row as R}
+use Rattle.embed_handles.proofs.Values.{both, loose_good, loose_in}
+use Rattle.embed_handles.specs.contracts.loose.Loose.{the_row as Loose}
+use Rattle.embed_world.specs.declared.host.EmbeddedHost.{EmbeddedHost}
+use Rattle.embed_world.specs.contracts.host.EmbeddedHost.{the_row as R}
 use Rattle.embed_handles.specs.HostHeld.{held}
 use Rattle.embed_handles.specs.contracts.host_handle.HostHandle.{the_row as Handle}
 use Rattle.embed_handles.proofs.host_handle.HostHandle.TheLaws.{lowers}

@@ -10,9 +10,9 @@ use denote.Struct.Struct.{exits_of}
 use denote.Struct.Owning.{shape, fields, to}
 use Rattle.std.specs.Prelude.{Option, Some, None}
 use Rattle.std.proofs.Crossing.{frees}
-use Rattle.embed_nodes.specs.declared.viewer.EmbeddedViewer.{EmbeddedViewer}
-use Rattle.embed_nodes.specs.contracts.viewer.EmbeddedViewer.{the_row as R}
-use Rattle.embed_nodes.proofs.viewer.EmbeddedViewer.TheSendSync.{the_send as viewer}
+use Rattle.embed_world.specs.declared.viewer.EmbeddedViewer.{EmbeddedViewer}
+use Rattle.embed_world.specs.contracts.viewer.EmbeddedViewer.{the_row as R}
+use Rattle.embed_world.proofs.viewer.EmbeddedViewer.TheSendSync.{the_send as viewer}
 use Rattle.embed_handles.specs.Heap.{heap}
 use Rattle.embed_handles.specs.ViewerHeld.{held}
 use Rattle.embed_handles.specs.contracts.viewer_handle.ViewerHandle.{the_row, the_type}

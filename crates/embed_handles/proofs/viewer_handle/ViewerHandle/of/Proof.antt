@@ -16,14 +16,14 @@ use denote.RawPtr.{block_ptr}
 use denote.Signature.{types_at, plain}
 use denote.Steps.{nothing}
 use denote.Triple.Walked.{Stays, walk_of, says, stay_dropped, Goes-dropped, ends_at}
-use Rattle.embed_box.proofs.Values.{both, loose_good, loose_out}
-use Rattle.embed_nodes.specs.contracts.viewer.EmbeddedViewer.{the_row as R}
+use Rattle.embed_handles.proofs.Values.{both, loose_good, loose_out}
+use Rattle.embed_world.specs.contracts.viewer.EmbeddedViewer.{the_row as R}
 use Rattle.embed_handles.proofs.ViewerHandles.{word, handled, handle_in}
 use Rattle.std.specs.Prelude.{Some}
 use Rattle.std.specs.contracts.alloc.Global.{the_row as Z}
 use Rattle.std.proofs.alloc.Global.TheLaws.{the_row_laws as LZ}
 use Rattle.std.specs.contracts.impls.GlobalAllocator.TheImpl.{ghosts as g}
-use Rattle.embed_box.specs.contracts.Loose.{the_row as Loose}
+use Rattle.embed_handles.specs.contracts.loose.Loose.{the_row as Loose}
 use Rattle.embed_handles.specs.contracts.viewer_handle.ViewerHandle.of as f
 use Rattle.embed_handles.proofs.viewer_handle.ViewerHandle.of.Statement.{statement}
 use Rattle.embed_handles.proofs.viewer_handle.ViewerHandle.of.Code as code

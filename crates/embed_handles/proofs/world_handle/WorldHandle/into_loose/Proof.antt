@@ -34,8 +34,8 @@ use Rattle.std.proofs.alloc.Global.TheLaws.{mir as layout, the_row_laws as LZ}
 use Rattle.std.specs.Box.Ownership.{box_owns}
 use lib.Dec.{T}
 use Rattle.std.specs.contracts.impls.GlobalAllocator.TheImpl.{ghosts as g}
-use Rattle.embed_box.proofs.Values.{both, loose_good, loose_in}
-use Rattle.embed_box.specs.contracts.Loose.{the_row as Loose}
+use Rattle.embed_handles.proofs.Values.{both, loose_good, loose_in}
+use Rattle.embed_handles.specs.contracts.loose.Loose.{the_row as Loose}
 use Rattle.embed_world.specs.declared.world.EmbeddedWorld.{EmbeddedWorld}
 use Rattle.embed_world.specs.contracts.world.EmbeddedWorld.{the_row as R}
 use Rattle.embed_handles.specs.WorldHeld.{held}

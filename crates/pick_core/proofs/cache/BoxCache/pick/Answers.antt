@@ -6,7 +6,7 @@ use Rattle.pick_core.specs.Picked.{nearer, picked}
 use Rattle.pick_core.specs.Sites.{shown_rows}
 use Rattle.pick_core.specs.declared.hit.Hit.{Hit}
 use Rattle.pick_core.specs.Runs.{seen_in}
-use Rattle.pick_tree.specs.Tree.{IsTreeOf}
+use Rattle.pick_core.specs.Tree.{IsTreeOf}
 use Rattle.pick_core.proofs.Choosing.{picks-nearest}
 use Rattle.pick_core.proofs.Seen.{rows-boxes}
 use Rattle.pick_core.proofs.cache.BoxCache.pick.Goals as goal

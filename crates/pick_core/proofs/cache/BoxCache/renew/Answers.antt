@@ -1,10 +1,10 @@
 use Rattle.std.proofs.Common.{◌≡◌, ◌≤◌, ◌∙◌, map, drop, length, take, ◌++◌, ap, sym, subst, arith, take_all}
 use Rattle.std.specs.Prelude.{slice_get}
-use Rattle.pick_ranges.specs.Ranges.{IsAmong}
+use Rattle.pick_core.specs.Ranges.{IsAmong}
 use Rattle.std.proofs.lemmas.List.{take-append-le, length-map}
 use Rattle.pick_core.specs.Renewal.{AreRangesOf}
 use Rattle.pick_core.specs.Runs.{seen_in}
-use Rattle.pick_tree.specs.Tree.{IsTreeOf}
+use Rattle.pick_core.specs.Tree.{IsTreeOf}
 use Rattle.pick_core.specs.Sites.{renewed}
 use Rattle.pick_core.proofs.Renewed.{ranges-kept, renewed-trail}
 use Rattle.pick_core.proofs.Rows.{renewed-rows}

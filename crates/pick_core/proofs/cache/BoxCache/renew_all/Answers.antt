@@ -3,9 +3,9 @@ use Rattle.std.proofs.lemmas.List.{take-append-le, length-map}
 use Rattle.pick_core.specs.Sites.{fresh}
 use Rattle.pick_core.specs.Renewal.{AreRangesOf}
 use Rattle.pick_core.specs.Runs.{seen_in}
-use Rattle.pick_tree.specs.Tree.{IsTreeOf}
+use Rattle.pick_core.specs.Tree.{IsTreeOf}
 use Rattle.pick_core.proofs.Passing.{seen-long}
-use Rattle.pick_tree.proofs.Runs.{tree-anew}
+use Rattle.pick_core.proofs.TreeRuns.{tree-anew}
 use Rattle.pick_core.proofs.Renewed.{ranges-kept}
 use Rattle.pick_core.proofs.Rows.{fresh-rows}
 use Rattle.pick_core.proofs.cache.BoxCache.renew_all.Goals as goal

@@ -1,0 +1,4 @@
+mod Refusals
+pub mod Stays
+pub mod Attached
+pub mod Made

@@ -1,0 +1,10 @@
+pub mod Refusal
+pub mod Checking
+pub mod Formatting
+pub mod Opening
+pub mod Running
+pub mod Boxes
+pub mod Came
+pub mod Faults
+pub mod Texts
+pub mod Stages

@@ -1,0 +1,30 @@
+//! The program's calls: opening and running a job, and what a refusal prints.
+#![tactic(auto)]
+
+mod boxes;
+mod check;
+mod counted;
+mod fault;
+mod format;
+mod laws;
+mod open;
+mod refusal;
+mod run_fault;
+mod runs;
+mod stages;
+mod stream;
+mod texts;
+
+pub use app_jobs::{JobFault, JobInputs, Schedule, Steps, job_of, schedule_of};
+pub use boxes::attach;
+pub use check::check_text;
+pub use fault::ShareFault;
+pub use format::format_text;
+pub use laws::formatted_texts_stay;
+pub use open::{Job, OpenedScene, open_job, open_scene, read_job, read_schedule};
+pub use refusal::{Failure, refusal_line, status_of};
+pub use run_fault::RunFault;
+pub use runs::{run, run_job, run_stock};
+pub use stages::{fresh_stage, stage_of};
+pub use stream::{MAX_READS, StreamFault, read_whole, write_whole};
+pub use texts::{push_texts, write_made};

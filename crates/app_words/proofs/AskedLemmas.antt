@@ -1,0 +1,136 @@
+-- What the options of a command must have for its order.
+use Rattle.std.proofs.Common.{◌≡◌, ◌≤◌, ℕ, List, codes, Option, Some, None, IfSome, IfNone, IsSomeAnd, ap, arith, slice_index}
+use Rattle.clap.specs.Words.{Row, Text}
+use Rattle.app_words.specs.declared.order.HostOrder.{HostOrder}
+use Rattle.app_words.specs.declared.order.Order.{Order}
+use Rattle.app_words.specs.declared.order.Order.TheVariants.{Run, Format, Check, Rehearse, Agree, Host, View}
+use Rattle.app_words.specs.declared.order.ViewEnd.{ViewEnd}
+use Rattle.app_words.specs.declared.order.ViewEnd.TheVariants.{Until, Exactly}
+use Rattle.app_words.specs.declared.order.ViewOrder.{ViewOrder}
+use Rattle.app_words.specs.Words.{Asks, AsksHost, AsksView, IsEnd, IsInRange, IsViewers, IsTurns, MayHaveExactly, MayHaveNumberIn, MayHaveUntil, end_count, end_of}
+use Rattle.app_words.proofs.OneOrder.{without}
+
+pub agree_needs : (rows : List Row) (o : Order) → Asks o (codes "agree", rows)
+    → (viewers : ℕ) × (turns : ℕ) × IsViewers rows viewers × IsTurns rows turns
+agree_needs rows Run h =
+    let bad : 97 ≡ 114 = ap (λ t. slice_index t 0) h in absurd (omega (arith, bad))
+agree_needs rows Format h =
+    let bad : 97 ≡ 102 = ap (λ t. slice_index t 0) h in absurd (omega (arith, bad))
+agree_needs rows Check h =
+    let bad : 97 ≡ 99 = ap (λ t. slice_index t 0) h in absurd (omega (arith, bad))
+agree_needs rows (Rehearse viewers) h =
+    let bad : 97 ≡ 114 = ap (λ t. slice_index t 0) h.0 in absurd (omega (arith, bad))
+agree_needs rows (Agree viewers turns) h = (viewers, turns, h.1, h.2)
+agree_needs rows (Host asked) h =
+    let bad : 97 ≡ 104 = ap (λ t. slice_index t 0) h.0 in absurd (omega (arith, bad))
+agree_needs rows (View asked) h =
+    let bad : 97 ≡ 118 = ap (λ t. slice_index t 0) h.0 in absurd (omega (arith, bad))
+
+pub host_needs : (rows : List Row) (o : Order) → Asks o (codes "host", rows)
+    → (asked : HostOrder) × AsksHost rows asked
+host_needs rows Run h =
+    let bad : 104 ≡ 114 = ap (λ t. slice_index t 0) h in absurd (omega (arith, bad))
+host_needs rows Format h =
+    let bad : 104 ≡ 102 = ap (λ t. slice_index t 0) h in absurd (omega (arith, bad))
+host_needs rows Check h =
+    let bad : 104 ≡ 99 = ap (λ t. slice_index t 0) h in absurd (omega (arith, bad))
+host_needs rows (Rehearse viewers) h =
+    let bad : 104 ≡ 114 = ap (λ t. slice_index t 0) h.0 in absurd (omega (arith, bad))
+host_needs rows (Agree viewers turns) h =
+    let bad : 104 ≡ 97 = ap (λ t. slice_index t 0) h.0 in absurd (omega (arith, bad))
+host_needs rows (Host asked) h = (asked, h.1)
+host_needs rows (View asked) h =
+    let bad : 104 ≡ 118 = ap (λ t. slice_index t 0) h.0 in absurd (omega (arith, bad))
+
+pub view_needs : (rows : List Row) (o : Order) → Asks o (codes "view", rows)
+    → (asked : ViewOrder) × AsksView rows asked
+view_needs rows Run h =
+    let bad : 118 ≡ 114 = ap (λ t. slice_index t 0) h in absurd (omega (arith, bad))
+view_needs rows Format h =
+    let bad : 118 ≡ 102 = ap (λ t. slice_index t 0) h in absurd (omega (arith, bad))
+view_needs rows Check h =
+    let bad : 118 ≡ 99 = ap (λ t. slice_index t 0) h in absurd (omega (arith, bad))
+view_needs rows (Rehearse viewers) h =
+    let bad : 118 ≡ 114 = ap (λ t. slice_index t 0) h.0 in absurd (omega (arith, bad))
+view_needs rows (Agree viewers turns) h =
+    let bad : 118 ≡ 97 = ap (λ t. slice_index t 0) h.0 in absurd (omega (arith, bad))
+view_needs rows (Host asked) h =
+    let bad : 118 ≡ 104 = ap (λ t. slice_index t 0) h.0 in absurd (omega (arith, bad))
+view_needs rows (View asked) h = (asked, h.1)
+
+-- an end takes what both options may have
+pub end_needs_until : (rows : List Row) → ((o : Option ℕ) → ¬ MayHaveUntil rows o) → (e : ViewEnd) → ¬ IsEnd rows e
+end_needs_until rows none (Until n) h = none (Some n) h.0
+end_needs_until rows none (Exactly n) h = none None h.0
+
+pub end_needs_exactly : (rows : List Row) → ((o : Option ℕ) → ¬ MayHaveExactly rows o) → (e : ViewEnd) → ¬ IsEnd rows e
+end_needs_exactly rows none (Until n) h = none None h.1
+end_needs_exactly rows none (Exactly n) h = none (Some n) h.1
+
+pub end_some : (rows : List Row) (until exactly : Option ℕ) (r : Option ViewEnd) → r ≡ end_of until exactly → MayHaveUntil rows until
+    → MayHaveExactly rows exactly → IfSome r (λ e. IsEnd rows e)
+end_some rows (Some n) None r is a b = rw is (a, b)
+end_some rows None (Some n) r is a b = rw is (a, b)
+end_some rows (Some n) (Some m) r is a b = rw is tt
+end_some rows None None r is a b = rw is tt
+
+no_end_of_both : (rows : List Row) (n m : ℕ) → MayHaveUntil rows (Some n) → MayHaveExactly rows (Some m) → (e : ViewEnd) → ¬ IsEnd rows e
+no_end_of_both rows n m a b (Until k) h = without b h.1
+no_end_of_both rows n m a b (Exactly k) h = without a h.0
+
+no_end_of_none : (rows : List Row) → MayHaveUntil rows None → MayHaveExactly rows None → (e : ViewEnd) → ¬ IsEnd rows e
+no_end_of_none rows a b (Until k) h = without h.0 a
+no_end_of_none rows a b (Exactly k) h = without h.1 b
+
+pub end_none : (rows : List Row) (until exactly : Option ℕ) (r : Option ViewEnd) → r ≡ end_of until exactly → MayHaveUntil rows until
+    → MayHaveExactly rows exactly → IfNone r ((e : ViewEnd) → ¬ IsEnd rows e)
+end_none rows (Some n) None r is a b = rw is tt
+end_none rows None (Some n) r is a b = rw is tt
+end_none rows (Some n) (Some m) r is a b = rw is (no_end_of_both rows n m a b)
+end_none rows None None r is a b = rw is (no_end_of_none rows a b)
+
+pub ruleset ends = (end_some, end_none)
+
+-- ---- ranges
+
+at_most : (id : Text) (rows : List Row) (low high : ℕ) (o : Option ℕ) → MayHaveNumberIn id rows low high o → IfSome o (λ n. n ≤ high)
+at_most id rows low high (Some n) h = h.high_end
+at_most id rows low high None h = tt
+
+at_least : (id : Text) (rows : List Row) (low high : ℕ) (o : Option ℕ) → MayHaveNumberIn id rows low high o → IfSome o (λ n. low ≤ n)
+at_least id rows low high (Some n) h = h.low_end
+at_least id rows low high None h = tt
+
+end_range : (rows : List Row) (e : ViewEnd) → IsEnd rows e → end_count e ≤ 1048576
+end_range rows (Until n) h = h.0.high_end
+end_range rows (Exactly n) h = h.1.high_end
+
+asked_range : (o : Order) (p : Text × List Row) → Asks o p → IsInRange o
+asked_range Run p h = tt
+asked_range Format p h = tt
+asked_range Check p h = tt
+asked_range (Rehearse viewers) p h = (h.1.low_end, h.1.high_end)
+asked_range (Agree viewers turns) p h = (h.1.low_end, h.1.high_end)
+asked_range (Host asked) p h = record {
+  port_low = h.1.port.low_end;
+  viewers_low = h.1.viewers.low_end;
+  viewers_high = h.1.viewers.high_end;
+  until_high = at_most (codes "until") p.1 0 1048576 asked.until h.1.until;
+  keep_high = at_most (codes "keep") p.1 0 1048576 asked.keep h.1.keep;
+  turns_low = h.1.turns.low_end;
+  turns_high = h.1.turns.high_end;
+}
+asked_range (View asked) p h = record {
+  port_low = h.1.port.low_end;
+  who_high = omega (arith, h.1.who.high_end);
+  boot_low = h.1.boot.low_end;
+  end_high = end_range p.1 asked.end h.1.end;
+  turns_low = h.1.turns.low_end;
+  turns_high = h.1.turns.high_end;
+  at_low = at_least (codes "at") p.1 1 65535 asked.at h.1.at;
+  give_low = at_least (codes "give") p.1 1 65535 asked.give h.1.give;
+}
+
+pub some_range : (o : Order) (x : Option (Text × List Row)) → IsSomeAnd x (Asks o) → IsInRange o
+some_range o (Some p) h = asked_range o p h
+some_range o None h = absurd h

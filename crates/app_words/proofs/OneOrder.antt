@@ -1,0 +1,265 @@
+-- Words mean one order at most: the name of the command tells which, and each of its options has one number.
+use Rattle.std.specs.Prelude.{Option, Some, None, IsSomeAnd}
+use Rattle.std.proofs.Common.{◌≡◌, ◌∙◌, ℕ, List, ap, arith, refl, slice_index, sym}
+use Rattle.std.specs.Str.Parse.{digits_value, without_leading_plus}
+use Rattle.clap.specs.Words.{Row, Text, subcommand_of}
+use Rattle.app_words.specs.Commands.{program}
+use Rattle.app_words.specs.declared.order.HostOrder.{HostOrder}
+use Rattle.app_words.specs.declared.order.Order.{Order}
+use Rattle.app_words.specs.declared.order.Order.TheVariants.{Run, Format, Check, Rehearse, Agree, Host, View}
+use Rattle.app_words.specs.declared.order.ViewEnd.{ViewEnd}
+use Rattle.app_words.specs.declared.order.ViewEnd.TheVariants.{Until, Exactly}
+use Rattle.app_words.specs.declared.order.ViewOrder.{ViewOrder}
+use Rattle.app_words.specs.Words.{Asks, AsksHost, AsksView, HasNumber, HasNumberIn, IsEnd, IsLeftOut, MayHaveNumberIn, Means}
+
+one_number : (id : Text) (rows : List Row) (n m : ℕ) → HasNumber id rows n → HasNumber id rows m → n ≡ m
+one_number id rows n m a b =
+    let found : Some a.text ≡ Some b.text = sym a.found ∙ b.found in
+    let text : a.text ≡ b.text = (cc) in
+    a.value ∙ ap (λ t. digits_value 10 (without_leading_plus t)) text ∙ sym b.value
+
+one : {id : Text} {rows : List Row} {low high n m : ℕ} → HasNumberIn id rows low high n → HasNumberIn id rows low high m → n ≡ m
+one {id} {rows} {low} {high} {n} {m} a b = one_number id rows n m a.number b.number
+
+-- what was left out has no number
+pub without : {id : Text} {rows : List Row} {low high n : ℕ} → HasNumberIn id rows low high n → IsLeftOut id rows → ⊥
+without {id} {rows} {low} {high} {n} a none = let bad : Some a.number.text ≡ None = sym a.number.found ∙ none in (cc)
+
+one_or_none : (id : Text) (rows : List Row) (low high : ℕ) (n m : Option ℕ) → MayHaveNumberIn id rows low high n
+    → MayHaveNumberIn id rows low high m → n ≡ m
+one_or_none id rows low high (Some n) (Some m) a b = ap (λ x. Some x) (one a b)
+one_or_none id rows low high (Some n) None a b = absurd (without a b)
+one_or_none id rows low high None (Some m) a b = absurd (without b a)
+one_or_none id rows low high None None a b = refl
+
+one_end : (rows : List Row) (x y : ViewEnd) → IsEnd rows x → IsEnd rows y → x ≡ y
+one_end rows (Until n) (Until m) a b = ap (λ k. Until k) (one a.0 b.0)
+one_end rows (Until n) (Exactly m) a b = absurd (without a.0 b.0)
+one_end rows (Exactly n) (Until m) a b = absurd (without b.0 a.0)
+one_end rows (Exactly n) (Exactly m) a b = ap (λ k. Exactly k) (one a.1 b.1)
+
+one_host : (rows : List Row) (x y : HostOrder) → AsksHost rows x → AsksHost rows y → x ≡ y
+one_host rows x y a b =
+    ap (λ n. record x { port = n }) (one a.port b.port)
+    ∙ ap (λ n. record x { port = y.port; viewers = n }) (one a.viewers b.viewers)
+    ∙ ap (λ n. record x { port = y.port; viewers = y.viewers; turns = n }) (one a.turns b.turns)
+    ∙ ap (λ o. record y { keep = o; until = x.until; verbose = x.verbose }) (one_or_none _ rows _ _ x.keep y.keep a.keep b.keep)
+    ∙ ap (λ o. record y { until = o; verbose = x.verbose }) (one_or_none _ rows _ _ x.until y.until a.until b.until)
+    ∙ ap (λ v. record y { verbose = v }) (a.verbose ∙ sym b.verbose)
+
+one_view : (rows : List Row) (x y : ViewOrder) → AsksView rows x → AsksView rows y → x ≡ y
+one_view rows x y a b =
+    ap (λ n. record x { port = n }) (one a.port b.port)
+    ∙ ap (λ n. record x { port = y.port; who = n }) (one a.who b.who)
+    ∙ ap (λ n. record x { port = y.port; who = y.who; boot = n }) (one a.boot b.boot)
+    ∙ ap (λ e. record x { port = y.port; who = y.who; boot = y.boot; end = e }) (one_end rows x.end y.end a.end b.end)
+    ∙ ap (λ n. record y { turns = n; at = x.at; give = x.give; join = x.join; verbose = x.verbose }) (one a.turns b.turns)
+    ∙ ap (λ o. record y { at = o; give = x.give; join = x.join; verbose = x.verbose }) (one_or_none _ rows _ _ x.at y.at a.at b.at)
+    ∙ ap (λ o. record y { give = o; join = x.join; verbose = x.verbose }) (one_or_none _ rows _ _ x.give y.give a.give b.give)
+    ∙ ap (λ v. record y { join = v; verbose = x.verbose }) (a.join ∙ sym b.join)
+    ∙ ap (λ v. record y { verbose = v }) (a.verbose ∙ sym b.verbose)
+
+run_alone : (o : Order) (p : Text × List Row) → Asks Run p → Asks o p → Run ≡ o
+run_alone Run p h g = refl
+run_alone Format p h g =
+    let x : slice_index p.0 0 ≡ 114 = ap (λ t. slice_index t 0) h in
+    let y : slice_index p.0 0 ≡ 102 = ap (λ t. slice_index t 0) g in
+    absurd (omega (arith, x, y))
+run_alone Check p h g =
+    let x : slice_index p.0 0 ≡ 114 = ap (λ t. slice_index t 0) h in
+    let y : slice_index p.0 0 ≡ 99 = ap (λ t. slice_index t 0) g in
+    absurd (omega (arith, x, y))
+run_alone (Rehearse viewers2) p h g =
+    let x : slice_index p.0 1 ≡ 117 = ap (λ t. slice_index t 1) h in
+    let y : slice_index p.0 1 ≡ 101 = ap (λ t. slice_index t 1) g.0 in
+    absurd (omega (arith, x, y))
+run_alone (Agree viewers2 turns2) p h g =
+    let x : slice_index p.0 0 ≡ 114 = ap (λ t. slice_index t 0) h in
+    let y : slice_index p.0 0 ≡ 97 = ap (λ t. slice_index t 0) g.0 in
+    absurd (omega (arith, x, y))
+run_alone (Host asked2) p h g =
+    let x : slice_index p.0 0 ≡ 114 = ap (λ t. slice_index t 0) h in
+    let y : slice_index p.0 0 ≡ 104 = ap (λ t. slice_index t 0) g.0 in
+    absurd (omega (arith, x, y))
+run_alone (View asked2) p h g =
+    let x : slice_index p.0 0 ≡ 114 = ap (λ t. slice_index t 0) h in
+    let y : slice_index p.0 0 ≡ 118 = ap (λ t. slice_index t 0) g.0 in
+    absurd (omega (arith, x, y))
+
+format_alone : (o : Order) (p : Text × List Row) → Asks Format p → Asks o p → Format ≡ o
+format_alone Run p h g =
+    let x : slice_index p.0 0 ≡ 102 = ap (λ t. slice_index t 0) h in
+    let y : slice_index p.0 0 ≡ 114 = ap (λ t. slice_index t 0) g in
+    absurd (omega (arith, x, y))
+format_alone Format p h g = refl
+format_alone Check p h g =
+    let x : slice_index p.0 0 ≡ 102 = ap (λ t. slice_index t 0) h in
+    let y : slice_index p.0 0 ≡ 99 = ap (λ t. slice_index t 0) g in
+    absurd (omega (arith, x, y))
+format_alone (Rehearse viewers2) p h g =
+    let x : slice_index p.0 0 ≡ 102 = ap (λ t. slice_index t 0) h in
+    let y : slice_index p.0 0 ≡ 114 = ap (λ t. slice_index t 0) g.0 in
+    absurd (omega (arith, x, y))
+format_alone (Agree viewers2 turns2) p h g =
+    let x : slice_index p.0 0 ≡ 102 = ap (λ t. slice_index t 0) h in
+    let y : slice_index p.0 0 ≡ 97 = ap (λ t. slice_index t 0) g.0 in
+    absurd (omega (arith, x, y))
+format_alone (Host asked2) p h g =
+    let x : slice_index p.0 0 ≡ 102 = ap (λ t. slice_index t 0) h in
+    let y : slice_index p.0 0 ≡ 104 = ap (λ t. slice_index t 0) g.0 in
+    absurd (omega (arith, x, y))
+format_alone (View asked2) p h g =
+    let x : slice_index p.0 0 ≡ 102 = ap (λ t. slice_index t 0) h in
+    let y : slice_index p.0 0 ≡ 118 = ap (λ t. slice_index t 0) g.0 in
+    absurd (omega (arith, x, y))
+
+check_alone : (o : Order) (p : Text × List Row) → Asks Check p → Asks o p → Check ≡ o
+check_alone Run p h g =
+    let x : slice_index p.0 0 ≡ 99 = ap (λ t. slice_index t 0) h in
+    let y : slice_index p.0 0 ≡ 114 = ap (λ t. slice_index t 0) g in
+    absurd (omega (arith, x, y))
+check_alone Format p h g =
+    let x : slice_index p.0 0 ≡ 99 = ap (λ t. slice_index t 0) h in
+    let y : slice_index p.0 0 ≡ 102 = ap (λ t. slice_index t 0) g in
+    absurd (omega (arith, x, y))
+check_alone Check p h g = refl
+check_alone (Rehearse viewers2) p h g =
+    let x : slice_index p.0 0 ≡ 99 = ap (λ t. slice_index t 0) h in
+    let y : slice_index p.0 0 ≡ 114 = ap (λ t. slice_index t 0) g.0 in
+    absurd (omega (arith, x, y))
+check_alone (Agree viewers2 turns2) p h g =
+    let x : slice_index p.0 0 ≡ 99 = ap (λ t. slice_index t 0) h in
+    let y : slice_index p.0 0 ≡ 97 = ap (λ t. slice_index t 0) g.0 in
+    absurd (omega (arith, x, y))
+check_alone (Host asked2) p h g =
+    let x : slice_index p.0 0 ≡ 99 = ap (λ t. slice_index t 0) h in
+    let y : slice_index p.0 0 ≡ 104 = ap (λ t. slice_index t 0) g.0 in
+    absurd (omega (arith, x, y))
+check_alone (View asked2) p h g =
+    let x : slice_index p.0 0 ≡ 99 = ap (λ t. slice_index t 0) h in
+    let y : slice_index p.0 0 ≡ 118 = ap (λ t. slice_index t 0) g.0 in
+    absurd (omega (arith, x, y))
+
+rehearse_alone : (viewers : ℕ) (o : Order) (p : Text × List Row) → Asks (Rehearse viewers) p → Asks o p → Rehearse viewers ≡ o
+rehearse_alone viewers Run p h g =
+    let x : slice_index p.0 1 ≡ 101 = ap (λ t. slice_index t 1) h.0 in
+    let y : slice_index p.0 1 ≡ 117 = ap (λ t. slice_index t 1) g in
+    absurd (omega (arith, x, y))
+rehearse_alone viewers Format p h g =
+    let x : slice_index p.0 0 ≡ 114 = ap (λ t. slice_index t 0) h.0 in
+    let y : slice_index p.0 0 ≡ 102 = ap (λ t. slice_index t 0) g in
+    absurd (omega (arith, x, y))
+rehearse_alone viewers Check p h g =
+    let x : slice_index p.0 0 ≡ 114 = ap (λ t. slice_index t 0) h.0 in
+    let y : slice_index p.0 0 ≡ 99 = ap (λ t. slice_index t 0) g in
+    absurd (omega (arith, x, y))
+rehearse_alone viewers (Rehearse viewers2) p h g = ap (λ n. Rehearse n) (one h.1 g.1)
+rehearse_alone viewers (Agree viewers2 turns2) p h g =
+    let x : slice_index p.0 0 ≡ 114 = ap (λ t. slice_index t 0) h.0 in
+    let y : slice_index p.0 0 ≡ 97 = ap (λ t. slice_index t 0) g.0 in
+    absurd (omega (arith, x, y))
+rehearse_alone viewers (Host asked2) p h g =
+    let x : slice_index p.0 0 ≡ 114 = ap (λ t. slice_index t 0) h.0 in
+    let y : slice_index p.0 0 ≡ 104 = ap (λ t. slice_index t 0) g.0 in
+    absurd (omega (arith, x, y))
+rehearse_alone viewers (View asked2) p h g =
+    let x : slice_index p.0 0 ≡ 114 = ap (λ t. slice_index t 0) h.0 in
+    let y : slice_index p.0 0 ≡ 118 = ap (λ t. slice_index t 0) g.0 in
+    absurd (omega (arith, x, y))
+
+agree_alone : (viewers : ℕ) (turns : ℕ) (o : Order) (p : Text × List Row) → Asks (Agree viewers turns) p → Asks o p → Agree viewers turns ≡ o
+agree_alone viewers turns Run p h g =
+    let x : slice_index p.0 0 ≡ 97 = ap (λ t. slice_index t 0) h.0 in
+    let y : slice_index p.0 0 ≡ 114 = ap (λ t. slice_index t 0) g in
+    absurd (omega (arith, x, y))
+agree_alone viewers turns Format p h g =
+    let x : slice_index p.0 0 ≡ 97 = ap (λ t. slice_index t 0) h.0 in
+    let y : slice_index p.0 0 ≡ 102 = ap (λ t. slice_index t 0) g in
+    absurd (omega (arith, x, y))
+agree_alone viewers turns Check p h g =
+    let x : slice_index p.0 0 ≡ 97 = ap (λ t. slice_index t 0) h.0 in
+    let y : slice_index p.0 0 ≡ 99 = ap (λ t. slice_index t 0) g in
+    absurd (omega (arith, x, y))
+agree_alone viewers turns (Rehearse viewers2) p h g =
+    let x : slice_index p.0 0 ≡ 97 = ap (λ t. slice_index t 0) h.0 in
+    let y : slice_index p.0 0 ≡ 114 = ap (λ t. slice_index t 0) g.0 in
+    absurd (omega (arith, x, y))
+agree_alone viewers turns (Agree viewers2 turns2) p h g = ap (λ n. Agree n turns) (one h.1 g.1) ∙ ap (λ n. Agree viewers2 n) (one h.2 g.2)
+agree_alone viewers turns (Host asked2) p h g =
+    let x : slice_index p.0 0 ≡ 97 = ap (λ t. slice_index t 0) h.0 in
+    let y : slice_index p.0 0 ≡ 104 = ap (λ t. slice_index t 0) g.0 in
+    absurd (omega (arith, x, y))
+agree_alone viewers turns (View asked2) p h g =
+    let x : slice_index p.0 0 ≡ 97 = ap (λ t. slice_index t 0) h.0 in
+    let y : slice_index p.0 0 ≡ 118 = ap (λ t. slice_index t 0) g.0 in
+    absurd (omega (arith, x, y))
+
+host_alone : (asked : HostOrder) (o : Order) (p : Text × List Row) → Asks (Host asked) p → Asks o p → Host asked ≡ o
+host_alone asked Run p h g =
+    let x : slice_index p.0 0 ≡ 104 = ap (λ t. slice_index t 0) h.0 in
+    let y : slice_index p.0 0 ≡ 114 = ap (λ t. slice_index t 0) g in
+    absurd (omega (arith, x, y))
+host_alone asked Format p h g =
+    let x : slice_index p.0 0 ≡ 104 = ap (λ t. slice_index t 0) h.0 in
+    let y : slice_index p.0 0 ≡ 102 = ap (λ t. slice_index t 0) g in
+    absurd (omega (arith, x, y))
+host_alone asked Check p h g =
+    let x : slice_index p.0 0 ≡ 104 = ap (λ t. slice_index t 0) h.0 in
+    let y : slice_index p.0 0 ≡ 99 = ap (λ t. slice_index t 0) g in
+    absurd (omega (arith, x, y))
+host_alone asked (Rehearse viewers2) p h g =
+    let x : slice_index p.0 0 ≡ 104 = ap (λ t. slice_index t 0) h.0 in
+    let y : slice_index p.0 0 ≡ 114 = ap (λ t. slice_index t 0) g.0 in
+    absurd (omega (arith, x, y))
+host_alone asked (Agree viewers2 turns2) p h g =
+    let x : slice_index p.0 0 ≡ 104 = ap (λ t. slice_index t 0) h.0 in
+    let y : slice_index p.0 0 ≡ 97 = ap (λ t. slice_index t 0) g.0 in
+    absurd (omega (arith, x, y))
+host_alone asked (Host asked2) p h g = ap (λ x. Host x) (one_host p.1 asked asked2 h.1 g.1)
+host_alone asked (View asked2) p h g =
+    let x : slice_index p.0 0 ≡ 104 = ap (λ t. slice_index t 0) h.0 in
+    let y : slice_index p.0 0 ≡ 118 = ap (λ t. slice_index t 0) g.0 in
+    absurd (omega (arith, x, y))
+
+view_alone : (asked : ViewOrder) (o : Order) (p : Text × List Row) → Asks (View asked) p → Asks o p → View asked ≡ o
+view_alone asked Run p h g =
+    let x : slice_index p.0 0 ≡ 118 = ap (λ t. slice_index t 0) h.0 in
+    let y : slice_index p.0 0 ≡ 114 = ap (λ t. slice_index t 0) g in
+    absurd (omega (arith, x, y))
+view_alone asked Format p h g =
+    let x : slice_index p.0 0 ≡ 118 = ap (λ t. slice_index t 0) h.0 in
+    let y : slice_index p.0 0 ≡ 102 = ap (λ t. slice_index t 0) g in
+    absurd (omega (arith, x, y))
+view_alone asked Check p h g =
+    let x : slice_index p.0 0 ≡ 118 = ap (λ t. slice_index t 0) h.0 in
+    let y : slice_index p.0 0 ≡ 99 = ap (λ t. slice_index t 0) g in
+    absurd (omega (arith, x, y))
+view_alone asked (Rehearse viewers2) p h g =
+    let x : slice_index p.0 0 ≡ 118 = ap (λ t. slice_index t 0) h.0 in
+    let y : slice_index p.0 0 ≡ 114 = ap (λ t. slice_index t 0) g.0 in
+    absurd (omega (arith, x, y))
+view_alone asked (Agree viewers2 turns2) p h g =
+    let x : slice_index p.0 0 ≡ 118 = ap (λ t. slice_index t 0) h.0 in
+    let y : slice_index p.0 0 ≡ 97 = ap (λ t. slice_index t 0) g.0 in
+    absurd (omega (arith, x, y))
+view_alone asked (Host asked2) p h g =
+    let x : slice_index p.0 0 ≡ 118 = ap (λ t. slice_index t 0) h.0 in
+    let y : slice_index p.0 0 ≡ 104 = ap (λ t. slice_index t 0) g.0 in
+    absurd (omega (arith, x, y))
+view_alone asked (View asked2) p h g = ap (λ x. View x) (one_view p.1 asked asked2 h.1 g.1)
+
+asks_one : (a b : Order) (p : Text × List Row) → Asks a p → Asks b p → a ≡ b
+asks_one Run b p h g = run_alone b p h g
+asks_one Format b p h g = format_alone b p h g
+asks_one Check b p h g = check_alone b p h g
+asks_one (Rehearse viewers) b p h g = rehearse_alone viewers b p h g
+asks_one (Agree viewers turns) b p h g = agree_alone viewers turns b p h g
+asks_one (Host asked) b p h g = host_alone asked b p h g
+asks_one (View asked) b p h g = view_alone asked b p h g
+
+some_one : (x : Option (Text × List Row)) (a b : Order) → IsSomeAnd x (Asks a) → IsSomeAnd x (Asks b) → a ≡ b
+some_one (Some p) a b h g = asks_one a b p h g
+some_one None a b h g = absurd h
+
+pub means_one : (words : List Text) (a b : Order) → Means words a → Means words b → a ≡ b
+means_one words a b h g = some_one (subcommand_of program words) a b h.asks g.asks

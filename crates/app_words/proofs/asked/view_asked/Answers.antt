@@ -1,0 +1,22 @@
+use Rattle.app_words.proofs.asked.view_asked.Goals as goal
+
+pub returns-in_default-clause-none : goal.returns-in_default-clause-none
+returns-in_default-clause-none c = λ o h. c.in_default.ensures.none o.port h.port
+
+pub returns-in_default-who_in-clause-none : goal.returns-in_default-who_in-clause-none
+returns-in_default-who_in-clause-none c = λ o h. c.in_default-who_in.ensures.none o.who h.who
+
+pub returns-in_default-boot_in-clause-none : goal.returns-in_default-boot_in-clause-none
+returns-in_default-boot_in-clause-none c = λ o h. c.in_default-boot_in.ensures.none o.boot h.boot
+
+pub returns-in_default-end_in-clause-none : goal.returns-in_default-end_in-clause-none
+returns-in_default-end_in-clause-none c = λ o h. c.in_default-end_in.ensures.none o.end h.end
+
+pub returns-in_default-turns_in-clause-none : goal.returns-in_default-turns_in-clause-none
+returns-in_default-turns_in-clause-none c = λ o h. c.in_default-turns_in.ensures.none o.turns h.turns
+
+pub returns-in_default-at_in-clause-none : goal.returns-in_default-at_in-clause-none
+returns-in_default-at_in-clause-none c = λ o h. c.in_default-at_in.ensures.none o.at h.at
+
+pub returns-in_default-give_in-clause-none : goal.returns-in_default-give_in-clause-none
+returns-in_default-give_in-clause-none c = λ o h. c.in_default-give_in.ensures.none o.give h.give

@@ -1,0 +1,83 @@
+-- The program as a `clap` command: its commands, each with its options.
+use Rattle.std.specs.Prelude.{List, [], ◌∷◌, codes, true}
+use Rattle.std.specs.List.{fold}
+use Rattle.clap.specs.Words.{App, Rule, Text, new_app, with_rule, with_subcommand}
+use Rattle.clap.specs.Simple.{on_top}
+use Rattle.app_words.specs.Options.{viewers_rule, turns_rule, port_rule, keep_rule, until_rule}
+use Rattle.app_words.specs.Options.{who_rule, boot_rule, exactly_rule, at_rule, give_rule}
+use Rattle.app_words.specs.Options.{join_rule, verbose_rule, number_rule, flag_rule}
+use Rattle.app_words.specs.declared.commands.CommandWords.{CommandWords}
+use Rattle.app_words.specs.declared.options.FlagOption.{FlagOption}
+use Rattle.app_words.specs.declared.options.NumberOption.{NumberOption}
+
+-- the program without its commands. A command is required, and every command knows `--version`
+unfoldable pub bare_program : App
+bare_program =
+    on_top (λ s. record s {
+      has_version = true;
+      propagate_version = true;
+      subcommand_required = true;
+      disable_help_subcommand = true;
+    })
+    (new_app (codes "x3d_share"))
+
+-- the command of this name with these options
+abbrev pub taking : Text → List Rule → App
+taking name rules = fold with_rule (new_app name) rules
+
+-- `run`, `format` and `check`, without options
+unfoldable pub run_app : App
+run_app = new_app (codes "run")
+
+unfoldable pub format_app : App
+format_app = new_app (codes "format")
+
+unfoldable pub check_app : App
+check_app = new_app (codes "check")
+
+-- `rehearse --viewers K`
+unfoldable pub rehearse_app : App
+rehearse_app = taking (codes "rehearse") (viewers_rule ∷ [])
+
+-- `agree --viewers K --turns T`
+unfoldable pub agree_app : App
+agree_app = taking (codes "agree") (viewers_rule ∷ turns_rule ∷ [])
+
+-- `host --port P --viewers K --until N --keep N --turns T -v`
+unfoldable pub host_app : App
+host_app = taking (codes "host")
+    (port_rule ∷ viewers_rule ∷ until_rule ∷ keep_rule ∷ turns_rule ∷ verbose_rule ∷ [])
+
+-- `view --port P --who V --boot B --until N --exactly N --turns T --at Q --give Q --join -v`
+unfoldable pub view_app : App
+view_app = taking (codes "view")
+    (port_rule ∷ who_rule ∷ boot_rule ∷ until_rule ∷ exactly_rule ∷ turns_rule ∷ at_rule
+    ∷ give_rule ∷ join_rule ∷ verbose_rule ∷ [])
+
+-- the program with the commands that take no options; then with `rehearse` and `agree`; then with
+-- all
+unfoldable pub single_program : App
+single_program =
+    with_subcommand (with_subcommand (with_subcommand bare_program run_app.top) format_app.top)
+    check_app.top
+
+unfoldable pub local_program : App
+local_program = with_subcommand (with_subcommand single_program rehearse_app.top) agree_app.top
+
+unfoldable pub program : App
+program = with_subcommand (with_subcommand local_program host_app.top) view_app.top
+
+-- ---- the program's table
+
+abbrev pub with_option : App → NumberOption → App
+with_option a o = with_rule a (number_rule o)
+
+abbrev pub with_flag : App → FlagOption → App
+with_flag a o = with_rule a (flag_rule o)
+
+-- a command of the program's table as a `clap` command
+abbrev pub app_with : CommandWords → App
+app_with w = fold with_flag (fold with_option (new_app w.name.now) w.options.now) w.flags.now
+
+abbrev pub with_command : App → App → App
+with_command a command = with_subcommand a command.top

@@ -1,0 +1,89 @@
+-- The options of the commands as `clap` options. An option has a name and a range; it has a
+-- default, is required, or may be left out. A flag has no value.
+use Rattle.std.specs.Prelude.{ℕ, ◌-◌, [], ◌∷◌, Some, codes, pos, true}
+use Rattle.clap.specs.Words.{Rule, Text, new_rule}
+use Rattle.clap.specs.declared.builder.action.ArgAction.TheVariants.{SetTrue}
+use Rattle.clap.specs.declared.builder.value_parser.ValueParser.TheVariants.{Signed}
+use Rattle.x3d_values.specs.Ranges.{max_viewers, max_inputs}
+use Rattle.app_words.specs.declared.options.FlagOption.{FlagOption}
+use Rattle.app_words.specs.declared.options.NumberOption.{NumberOption}
+use Rattle.app_words.specs.declared.options.Unless.{Unless}
+use Rattle.app_words.specs.declared.options.Unless.TheVariants.{Refused, Has, Nothing}
+
+-- the highest number that a viewer can have
+abbrev pub max_who : ℕ
+max_who = max_viewers - 1
+
+-- `--NAME VALUE`
+abbrev pub option : Text → Rule
+option name = record (new_rule name) { long = Some name; value_names = 1 }
+
+-- `--NAME VALUE`, a number from low to high
+abbrev pub ranged : Text → (low high : ℕ) → Rule
+ranged name low high = record (option name) { parser = Some (Signed (pos low) (pos high)) }
+
+-- `--viewers K`, from 1 to the most that a world can have, by default 2
+abbrev pub viewers_rule : Rule
+viewers_rule = record (ranged (codes "viewers") 1 max_viewers) { defaults = codes "2" ∷ [] }
+
+-- `--turns T`, from 1 to 10000000, by default 1000000
+abbrev pub turns_rule : Rule
+turns_rule = record (ranged (codes "turns") 1 10000000) { defaults = codes "1000000" ∷ [] }
+
+-- `--port P`, from 1 to 65535, required
+abbrev pub port_rule : Rule
+port_rule = record (ranged (codes "port") 1 65535) { required = true }
+
+-- `--who V`, the number of a viewer, required
+abbrev pub who_rule : Rule
+who_rule = record (ranged (codes "who") 0 max_who) { required = true }
+
+-- `--boot B`, from 1 to 2^32 - 1, required
+abbrev pub boot_rule : Rule
+boot_rule = record (ranged (codes "boot") 1 4294967295) { required = true }
+
+-- `--until N`, `--exactly N` and `--keep N`, from 0 to 2^20
+abbrev pub until_rule : Rule
+until_rule = ranged (codes "until") 0 max_inputs
+
+abbrev pub exactly_rule : Rule
+exactly_rule = ranged (codes "exactly") 0 max_inputs
+
+abbrev pub keep_rule : Rule
+keep_rule = ranged (codes "keep") 0 max_inputs
+
+-- `--at Q` and `--give Q`, from 1 to 65535
+abbrev pub at_rule : Rule
+at_rule = ranged (codes "at") 1 65535
+
+abbrev pub give_rule : Rule
+give_rule = ranged (codes "give") 1 65535
+
+-- `--NAME`, a flag
+abbrev pub flag : Text → Rule
+flag name = record (new_rule name) { long = Some name; action = Some SetTrue }
+
+-- `--join`
+abbrev pub join_rule : Rule
+join_rule = flag (codes "join")
+
+-- `--verbose`, or `-v`
+abbrev pub verbose_rule : Rule
+verbose_rule = record (flag (codes "verbose")) { short = Some 118 }
+
+-- ---- the program's table
+
+abbrev pub ranged_rule : NumberOption → Rule
+ranged_rule o = ranged o.name.now o.low o.high
+
+abbrev pub with_unless : Unless → Rule → Rule
+with_unless Refused r = record r { required = true }
+with_unless (Has text) r = record r { defaults = text.now ∷ [] }
+with_unless Nothing r = r
+
+-- an option of the program's table as a `clap` option
+abbrev pub number_rule : NumberOption → Rule
+number_rule o = with_unless o.unless (ranged_rule o)
+
+abbrev pub flag_rule : FlagOption → Rule
+flag_rule o = record (flag o.name.now) { short = o.letter }

@@ -1,0 +1,186 @@
+-- What the command words mean, given how `clap` parses them.
+use Rattle.std.specs.Prelude.{◌≡◌, ◌≢◌, ◌⊎◌, ◌<◌, ◌≤◌, ℕ, Bool, List, [], ◌∷◌, Option, Some, None, codes, ⊤}
+use Rattle.std.specs.Prelude.{IsSomeAnd, IfSome, false}
+use Rattle.std.specs.Option.{option_map_or}
+use Rattle.std.specs.Str.{bytes_eq}
+use Rattle.std.specs.Str.Parse.{IsNumeral, digits_value, without_leading_plus}
+use Rattle.clap.specs.Words.{Row, Text, one_of, subcommand_of, fault_of, IsAmong}
+use Rattle.clap.specs.declared.error.kind.ErrorKind.{ErrorKind}
+use Rattle.clap.specs.declared.error.kind.ErrorKind.TheVariants as kind
+use Rattle.x3d_values.specs.Ranges.{max_viewers, max_inputs}
+use Rattle.app_words.specs.Commands.{program}
+use Rattle.app_words.specs.Options.{max_who}
+use Rattle.app_words.specs.declared.order.HostOrder.{HostOrder}
+use Rattle.app_words.specs.declared.order.Order.{Order}
+use Rattle.app_words.specs.declared.order.Order.TheVariants.{Run, Format, Check, Rehearse, Agree, Host, View}
+use Rattle.app_words.specs.declared.order.OrderFault.{OrderFault}
+use Rattle.app_words.specs.declared.order.OrderFault.TheVariants.{Words, Memory}
+use Rattle.app_words.specs.declared.order.ViewEnd.{ViewEnd}
+use Rattle.app_words.specs.declared.order.ViewEnd.TheVariants.{Until, Exactly}
+use Rattle.app_words.specs.declared.order.ViewOrder.{ViewOrder}
+use Rattle.std.specs.declared.io.ErrorKind.{ErrorKind as IoErrorKind}
+use Rattle.std.specs.declared.io.ErrorKind.TheVariants.{OutOfMemory}
+
+-- the option of this name has this number, either given or by default
+pub record HasNumber (id : Text) (rows : List Row) (n : ℕ) : Type 0 where
+  pub text : Text
+  pub found : one_of id rows ≡ Some text
+  pub numeral : IsNumeral 10 (without_leading_plus text)
+  pub value : n ≡ digits_value 10 (without_leading_plus text)
+
+-- the option has this number, and it is from low to high
+pub record HasNumberIn (id : Text) (rows : List Row) (low high n : ℕ) : Type 0 where
+  pub number : HasNumber id rows n
+  pub low_end : low ≤ n
+  pub high_end : n ≤ high
+
+-- the option of this name was not given and has no default
+abbrev pub IsLeftOut : Text → List Row → Type 0
+IsLeftOut id rows = one_of id rows ≡ None
+
+-- the option has this number, and it is from low to high; or the option was left out
+abbrev pub MayHaveNumberIn : (id : Text) → List Row → (low high : ℕ) → Option ℕ → Type 0
+MayHaveNumberIn id rows low high (Some n) = HasNumberIn id rows low high n
+MayHaveNumberIn id rows low high None = IsLeftOut id rows
+
+-- reports whether the option of this name, which takes no value, was given. `clap` has its value as
+-- a text
+abbrev pub is_given : Text → List Row → Bool
+is_given id rows = option_map_or (λ text. bytes_eq text (codes "true")) (one_of id rows) false
+
+abbrev pub IsViewers : List Row → ℕ → Type 0
+IsViewers rows viewers = HasNumberIn (codes "viewers") rows 1 max_viewers viewers
+
+abbrev pub IsTurns : List Row → ℕ → Type 0
+IsTurns rows turns = HasNumberIn (codes "turns") rows 1 10000000 turns
+
+abbrev pub IsPort : List Row → ℕ → Type 0
+IsPort rows port = HasNumberIn (codes "port") rows 1 65535 port
+
+abbrev pub IsWho : List Row → ℕ → Type 0
+IsWho rows who = HasNumberIn (codes "who") rows 0 max_who who
+
+abbrev pub IsBoot : List Row → ℕ → Type 0
+IsBoot rows boot = HasNumberIn (codes "boot") rows 1 4294967295 boot
+
+abbrev pub MayHaveKeep : List Row → Option ℕ → Type 0
+MayHaveKeep rows keep = MayHaveNumberIn (codes "keep") rows 0 max_inputs keep
+
+abbrev pub MayHaveUntil : List Row → Option ℕ → Type 0
+MayHaveUntil rows until = MayHaveNumberIn (codes "until") rows 0 max_inputs until
+
+abbrev pub MayHaveExactly : List Row → Option ℕ → Type 0
+MayHaveExactly rows exactly = MayHaveNumberIn (codes "exactly") rows 0 max_inputs exactly
+
+abbrev pub MayHaveAt : List Row → Option ℕ → Type 0
+MayHaveAt rows at = MayHaveNumberIn (codes "at") rows 1 65535 at
+
+abbrev pub MayHaveGive : List Row → Option ℕ → Type 0
+MayHaveGive rows give = MayHaveNumberIn (codes "give") rows 1 65535 give
+
+-- one of `--until` and `--exactly` was given, and it says when a viewer ends
+abbrev pub IsEnd : List Row → ViewEnd → Type 0
+IsEnd rows (Until n) = MayHaveUntil rows (Some n) × MayHaveExactly rows None
+IsEnd rows (Exactly n) = MayHaveUntil rows None × MayHaveExactly rows (Some n)
+
+-- the end that the numbers of the two options ask for, if exactly one of them was given
+abbrev pub end_of : (until exactly : Option ℕ) → Option ViewEnd
+end_of (Some n) None = Some (Until n)
+end_of None (Some n) = Some (Exactly n)
+end_of _ _ = None
+
+-- the matches of `host` ask for this
+pub record AsksHost (rows : List Row) (o : HostOrder) : Type 0 where
+  pub port : IsPort rows o.port
+  pub viewers : IsViewers rows o.viewers
+  pub until : MayHaveUntil rows o.until
+  pub keep : MayHaveKeep rows o.keep
+  pub turns : IsTurns rows o.turns
+  pub verbose : o.verbose ≡ is_given (codes "verbose") rows
+
+-- the matches of `view` ask for this
+pub record AsksView (rows : List Row) (o : ViewOrder) : Type 0 where
+  pub port : IsPort rows o.port
+  pub who : IsWho rows o.who
+  pub boot : IsBoot rows o.boot
+  pub end : IsEnd rows o.end
+  pub turns : IsTurns rows o.turns
+  pub at : MayHaveAt rows o.at
+  pub give : MayHaveGive rows o.give
+  pub join : o.join ≡ is_given (codes "join") rows
+  pub verbose : o.verbose ≡ is_given (codes "verbose") rows
+
+-- the command of this name with these matches asks for this
+abbrev pub Asks : Order → Text × List Row → Type 0
+Asks Run p = p.0 ≡ codes "run"
+Asks Format p = p.0 ≡ codes "format"
+Asks Check p = p.0 ≡ codes "check"
+Asks (Rehearse viewers) p = (p.0 ≡ codes "rehearse") × IsViewers p.1 viewers
+Asks (Agree viewers turns) p =
+    (p.0 ≡ codes "agree") × IsViewers p.1 viewers × IsTurns p.1 turns
+Asks (Host o) p = (p.0 ≡ codes "host") × AsksHost p.1 o
+Asks (View o) p = (p.0 ≡ codes "view") × AsksView p.1 o
+
+-- `clap` takes the words, and the command that they name asks for this
+pub record Means (words : List Text) (order : Order) : Type 0 where
+  pub taken : fault_of program words ≡ []
+  pub asks : IsSomeAnd (subcommand_of program words) (Asks order)
+
+-- ---- ranges
+
+-- how many inputs a viewer applies before it ends
+abbrev pub end_count : ViewEnd → ℕ
+end_count (Until n) = n
+end_count (Exactly n) = n
+
+-- the numbers of a host's order are in their ranges
+pub record HostInRange (o : HostOrder) : Type 0 where
+  pub port_low : 1 ≤ o.port
+  pub viewers_low : 1 ≤ o.viewers
+  pub viewers_high : o.viewers ≤ max_viewers
+  pub until_high : IfSome o.until (λ n. n ≤ max_inputs)
+  pub keep_high : IfSome o.keep (λ n. n ≤ max_inputs)
+  pub turns_low : 1 ≤ o.turns
+  pub turns_high : o.turns ≤ 10000000
+
+-- the numbers of a viewer's order are in their ranges
+pub record ViewInRange (o : ViewOrder) : Type 0 where
+  pub port_low : 1 ≤ o.port
+  pub who_high : o.who < max_viewers
+  pub boot_low : 1 ≤ o.boot
+  pub end_high : end_count o.end ≤ max_inputs
+  pub turns_low : 1 ≤ o.turns
+  pub turns_high : o.turns ≤ 10000000
+  pub at_low : IfSome o.at (λ q. 1 ≤ q)
+  pub give_low : IfSome o.give (λ q. 1 ≤ q)
+
+-- the numbers of an order are in the ranges that hosts and viewers take
+abbrev pub IsInRange : Order → Type 0
+IsInRange (Rehearse viewers) = (1 ≤ viewers) × (viewers ≤ max_viewers)
+IsInRange (Agree viewers turns) = (1 ≤ viewers) × (viewers ≤ max_viewers)
+IsInRange (Host o) = HostInRange o
+IsInRange (View o) = ViewInRange o
+IsInRange _ = ⊤
+
+-- why the process's own words can't be read: memory was refused, or one of them is not a text
+abbrev pub order_fault_of : IoErrorKind → OrderFault
+order_fault_of OutOfMemory = Memory
+order_fault_of _ = Words
+
+-- ---- help
+
+-- `clap` answers with its help or its version
+abbrev pub IsText : ErrorKind → Type 0
+IsText k = (k ≡ kind.DisplayHelp) ⊎ (k ≡ kind.DisplayVersion)
+
+-- `clap` refuses the words, for another reason than memory
+abbrev pub IsRefusal : ErrorKind → Type 0
+IsRefusal k = (k ≢ kind.DisplayHelp) × (k ≢ kind.DisplayVersion) × (k ≢ kind.OutOfMemory)
+
+-- the words ask for help or version, possibly among other faults
+abbrev pub AsksForText : List Text → Type 0
+AsksForText words = (k : ErrorKind) × IsText k × IsAmong k (fault_of program words)
+
+-- the words ask for help or version, and have no other fault
+abbrev pub AsksOnlyForText : List Text → Type 0
+AsksOnlyForText words = (k : ErrorKind) × IsText k × (fault_of program words ≡ k ∷ [])

@@ -1,0 +1,269 @@
+//! The program and its commands as `clap` commands, with their help.
+
+ghost use Rattle.std.specs.Prelude.{◌≡◌, [], ◌∷◌, false, map, IfOk};
+ghost use Rattle.std.specs.List.{fold};
+ghost use Rattle.clap.specs.Words.{app_of, with_subcommand};
+ghost use Rattle.clap.specs.declared.builder.command.Command.TheViews.{out-Command as fields_of};
+ghost use Rattle.app_words.specs.Commands.{bare_program, program, app_with, with_command};
+ghost use Rattle.app_words.specs.Commands.{run_app, format_app, check_app};
+ghost use Rattle.app_words.specs.Commands.{rehearse_app, agree_app, host_app, view_app};
+
+use crate::options::{
+    AT, BOOT, EXACTLY, FlagOption, GIVE, HOST_UNTIL, JOIN, KEEP, NumberOption, PORT, TURNS,
+    VERBOSE, VIEW_UNTIL, VIEWERS, WHO, flag_arg, number_arg,
+};
+use clap::Command;
+use std::alloc::{AllocError, Global};
+
+const PROGRAM_HELP: &str =
+    "A job, a schedule or a scene is read from standard input; the help of each command says which.
+
+Examples:
+  x3d_share run < examples/two-clocks.job
+  x3d_share format < examples/lamp.x3dv
+  x3d_share check < examples/lamp.x3dv
+  x3d_share rehearse < examples/rehearsal.schedule
+  x3d_share agree < examples/two-clocks.job
+
+Status:
+  0  all was done
+  1  the scene is refused
+  2  the words or the job are refused
+  3  all turns were used up
+  4  a device failed
+  5  memory was refused";
+
+const RUN_HELP: &str = "A job is lines of steps, a line `scene`, and then the scene. Steps are
+`clock T` and `point V D ox oy oz dx dy dz`.
+
+Example:
+  x3d_share run < examples/two-clocks.job
+
+Status:
+  0  the trace and the scene are printed
+  1  the scene is refused
+  2  the words or the job are refused
+  4  a device failed
+  5  memory was refused";
+
+const FORMAT_HELP: &str = "A scene is read from standard input.
+
+Example:
+  x3d_share format < examples/lamp.x3dv
+
+Status:
+  0  the scene is printed
+  1  the scene is refused
+  2  the words are refused
+  4  a device failed
+  5  memory was refused";
+
+const CHECK_HELP: &str = "A scene is read from standard input.
+
+Example:
+  x3d_share check < examples/lamp.x3dv
+
+Status:
+  0  the scene is good
+  1  the scene is refused
+  2  the words are refused
+  4  a device failed
+  5  memory was refused";
+
+const REHEARSE_HELP: &str =
+    "A schedule is read from standard input: lines of steps, a line `scene`, and then the scene.
+Steps are `clock T`, `packet N`, `ack V`, `give P host`, `give P V`, `offer V D ox oy oz dx dy dz`,
+`resend V I`, `ask V`, `save V` and `rewind V S B`. Packets and snapshots are numbered from 0
+as they are made.
+
+Example:
+  x3d_share rehearse --viewers 2 < examples/rehearsal.schedule
+
+Status:
+  0  the answer of each step, and what each viewer is left with, are printed
+  1  the scene is refused
+  2  the words or the schedule are refused
+  4  a device failed
+  5  memory was refused";
+
+const AGREE_HELP: &str = "A job is read from standard input, as by `run`; its points are those of
+viewers below K.
+
+Example:
+  x3d_share agree --viewers 2 < examples/two-clocks.job
+
+Status:
+  0  `agreed` and how many inputs there are, the trace and the scene are printed
+  1  the scene is refused
+  2  the words or the job are refused
+  3  all turns were used up
+  4  a device failed
+  5  memory was refused";
+
+const HOST_HELP: &str = "A job of clocks is read from standard input; nothing is printed.
+
+With --until N the host ends once N inputs are numbered and each viewer that it has heard of, one
+at least, has asked for what is behind the last; else it takes all its turns. With --keep N it lets
+go of inputs that all those viewers have, but for the last N of them: a viewer that comes later
+joins by the snapshot of another one (`view --join`), or waits in vain.
+A turn takes up to 64 datagrams. While nothing comes the host rests between turns, 1 to 50
+milliseconds: 1000000 turns then last up to 14 hours.
+
+Example:
+  x3d_share host --port 4000 --until 2 < examples/two-clocks.job
+
+Status:
+  0  all turns were taken, or with --until N, the inputs were numbered and asked for
+  1  the scene is refused
+  2  the words or the job are refused
+  3  with --until N, all turns were used up
+  4  a device failed
+  5  memory was refused";
+
+const VIEW_HELP: &str = "A job of this viewer's points is read from standard input.
+
+One of --until and --exactly is needed. With --until N the viewer ends at the first moment with at
+least N inputs applied; by then it may have up to 126 more, so that two viewers' texts may differ.
+With --exactly N it passes over all inputs beyond N, and two viewers print the same bytes.
+A viewer that comes late needn't ask for all inputs. With --join --at Q it begins with a snapshot
+that another viewer sends to port Q in pieces, and asks for those behind it; its --boot has to be
+above the other's. With --give Q a viewer that has applied its N inputs sends its snapshot to
+port Q, a piece of 192 bytes a turn, round and round, in all turns that are left.
+A turn takes up to 64 datagrams. While nothing comes it waits 50 milliseconds, and up to 50 more
+pass before the next: 1000000 turns then last up to 28 hours.
+
+Example:
+  x3d_share view --port 4000 --who 0 --boot 1 --until 2 < examples/view.job
+
+Status:
+  0  the trace and the scene are printed
+  1  the scene is refused, or with --join, what was gathered is no snapshot of it
+  2  the words or the job are refused, or with --join, the boot is
+  3  all turns were used up
+  4  a device failed
+  5  memory was refused";
+
+/// What help says of a command, and the options of the command.
+struct CommandWords {
+    name: &'static str,
+    about: &'static str,
+    after_help: &'static str,
+    options: &'static [NumberOption],
+    flags: &'static [FlagOption],
+}
+
+static COMMANDS: [CommandWords; 7] = [
+    CommandWords {
+        name: "run",
+        about: "Run a job, and print its trace and then the scene",
+        after_help: RUN_HELP,
+        options: &[],
+        flags: &[],
+    },
+    CommandWords {
+        name: "format",
+        about: "Print a scene as it is written, one item a line",
+        after_help: FORMAT_HELP,
+        options: &[],
+        flags: &[],
+    },
+    CommandWords {
+        name: "check",
+        about: "Say how many nodes and routes a scene has",
+        after_help: CHECK_HELP,
+        options: &[],
+        flags: &[],
+    },
+    CommandWords {
+        name: "rehearse",
+        about: "Take a host and viewers through a schedule, and print each step's answer",
+        after_help: REHEARSE_HELP,
+        options: &[VIEWERS],
+        flags: &[],
+    },
+    CommandWords {
+        name: "agree",
+        about: "Have a host and viewers do a job over UDP, and print trace and scene of viewer 0",
+        after_help: AGREE_HELP,
+        options: &[VIEWERS, TURNS],
+        flags: &[],
+    },
+    CommandWords {
+        name: "host",
+        about: "Number the inputs of viewers, and send them to each, over UDP",
+        after_help: HOST_HELP,
+        options: &[PORT, VIEWERS, HOST_UNTIL, KEEP, TURNS],
+        flags: &[VERBOSE],
+    },
+    CommandWords {
+        name: "view",
+        about: "Offer points to a host over UDP, apply what it numbers, and print trace and scene",
+        after_help: VIEW_HELP,
+        options: &[PORT, WHO, BOOT, VIEW_UNTIL, EXACTLY, TURNS, AT, GIVE],
+        flags: &[JOIN, VERBOSE],
+    },
+];
+
+/// Returns the commands in the order of help.
+fn commands() -> &'static [CommandWords]
+    ensures { map app_with result.now ≡ run_app ∷ format_app ∷ check_app ∷ rehearse_app ∷ agree_app
+        ∷ host_app ∷ view_app ∷ [] }
+{
+    &COMMANDS
+}
+
+/// Builds a command with its options.
+fn command<'a>(alloc: Global, words: &CommandWords) -> Result<Command<'a>, AllocError>
+    ensures app { IfOk result (λ c. app_of c ≡ app_with words.now) }
+    ensures local { IfOk result (λ c. (fields_of c).has_globals ≡ false) }
+{
+    let mut command = Command::new(alloc, words.name)
+        .about(words.about)
+        .after_help(words.after_help);
+    for option in words.options {
+        command = command.arg(number_arg(alloc, option))?;
+    }
+    for flag in words.flags {
+        command = command.arg(flag_arg(alloc, flag))?;
+    }
+    Ok(command)
+}
+
+/// Builds the program without its commands.
+#[tactic(auto, unfolding(crate::specs::Commands::bare_program))]
+fn bare_command<'a>(alloc: Global) -> Result<Command<'a>, AllocError>
+    ensures app { IfOk result (λ c. app_of c ≡ bare_program) }
+    ensures local { IfOk result (λ c. (fields_of c).has_globals ≡ false) }
+{
+    Command::new(alloc, "x3d_share")
+        .version("0.1.0")
+        .propagate_version(true)
+        .subcommand_required(true)
+        .disable_help_subcommand(true)
+        .about("Runs X3D worlds that several viewers share")
+        .after_help(PROGRAM_HELP)
+        .bin_name("x3d_share")
+}
+
+/// Adds one command to the program.
+fn with_command<'a>(
+    program: Command<'a>,
+    alloc: Global,
+    words: &CommandWords,
+) -> Result<Command<'a>, AllocError>
+    ensures app { IfOk result (λ c. app_of c
+        ≡ with_command (app_of program.entry) (app_with words.now)) }
+{
+    program.subcommand(command(alloc, words)?)
+}
+
+/// Builds the program with all its commands. Fails if memory is refused.
+pub fn program_command<'a>(alloc: Global) -> Result<Command<'a>, AllocError>
+    ensures { IfOk result (λ c. app_of c ≡ program) }
+{
+    let mut program = bare_command(alloc)?;
+    for words in commands() {
+        program = with_command(program, alloc, words)?;
+    }
+    Ok(program)
+}

@@ -1,0 +1,63 @@
+//! The numbers of options, and whether an option was given.
+
+ghost use Rattle.std.specs.Prelude.{◌≡◌, ◌<◌, ◌≤◌, ◌^◌, ℕ, true, false, Option, IfSome, IfNone};
+ghost use Rattle.clap.specs.Words.{rows_of, found_of};
+ghost use Rattle.app_words.specs.Words.{HasNumber, HasNumberIn, IsLeftOut, MayHaveNumberIn};
+ghost use Rattle.app_words.specs.Words.{is_given};
+
+use clap::ArgMatches;
+
+/// Returns the number of an option.
+fn number(matches: &ArgMatches<'_>, id: &str) -> Option<u32>
+    ensures some { IfSome result (λ n. HasNumber id.now (rows_of (found_of matches.now)) n) }
+    ensures none { IfNone result
+        ((n : ℕ) → n < 2 ^ 32 → ¬ HasNumber id.now (rows_of (found_of matches.now)) n) }
+{
+    matches.get_one::<u32>(id)
+}
+
+/// Returns the number of an option, if it is from `low` to `high`. An option's default counts as
+/// its number.
+pub fn number_in(matches: &ArgMatches<'_>, id: &str, low: u32, high: u32) -> Option<u32>
+    ensures some { IfSome result
+        (λ n. HasNumberIn id.now (rows_of (found_of matches.now)) low high n) }
+    ensures none { IfNone result
+        ((n : ℕ) → ¬ HasNumberIn id.now (rows_of (found_of matches.now)) low high n) }
+{
+    match number(matches, id) {
+        Some(n) if low <= n && n <= high => Some(n),
+        _ => None,
+    }
+}
+
+/// Reports whether an option was not given and has no default.
+fn is_left_out(matches: &ArgMatches<'_>, id: &str) -> bool
+    ensures yes { (result ≡ true) → IsLeftOut id.now (rows_of (found_of matches.now)) }
+    ensures no { (result ≡ false) → ¬ IsLeftOut id.now (rows_of (found_of matches.now)) }
+{
+    matches.get_str(id).is_none()
+}
+
+/// Returns the number of an option, if it is from `low` to `high`, or `Some(None)` if the option
+/// was left out and has no default.
+pub fn optional_in(matches: &ArgMatches<'_>, id: &str, low: u32, high: u32) -> Option<Option<u32>>
+    ensures some { IfSome result
+        (λ o. MayHaveNumberIn id.now (rows_of (found_of matches.now)) low high o) }
+    ensures none { IfNone result
+        ((o : Option ℕ) → ¬ MayHaveNumberIn id.now (rows_of (found_of matches.now)) low high o) }
+{
+    if is_left_out(matches, id) {
+        return Some(None);
+    }
+    match number_in(matches, id, low, high) {
+        Some(n) => Some(Some(n)),
+        None => None,
+    }
+}
+
+/// Reports whether an option that takes no value was given.
+pub fn is_named(matches: &ArgMatches<'_>, id: &str) -> bool
+    ensures { result ≡ is_given id.now (rows_of (found_of matches.now)) }
+{
+    matches.get_one::<bool>(id).unwrap_or(false)
+}

@@ -1,0 +1,209 @@
+//! The options of the commands, with their ranges and defaults.
+
+ghost use Rattle.std.specs.Prelude.{◌≡◌, false, pos};
+ghost use Rattle.clap.specs.Words.{rule_of};
+ghost use Rattle.clap.specs.declared.builder.value_parser.ValueParser.TheVariants.{Signed};
+ghost use Rattle.app_words.specs.Options.{flag_rule, number_rule, ranged_rule};
+
+use clap::builder::ValueParser;
+use clap::{Arg, ArgAction};
+use std::alloc::Global;
+use x3d_values::{MAX_INPUTS, MAX_VIEWERS};
+
+/// What the value of an option is if the option is not given.
+#[derive(Clone, Copy)]
+pub enum Unless {
+    /// The option is required.
+    Refused,
+    /// The option has this number by default.
+    Has(&'static str),
+    /// The option has no number.
+    Nothing,
+}
+
+/// An option that takes a number from `low` to `high`.
+#[derive(Clone, Copy)]
+pub struct NumberOption {
+    pub name: &'static str,
+    pub low: u32,
+    pub high: u32,
+    pub unless: Unless,
+    /// The name of the number in help.
+    pub value: &'static str,
+    pub help: &'static str,
+}
+
+/// An option without a value.
+#[derive(Clone, Copy)]
+pub struct FlagOption {
+    pub name: &'static str,
+    /// The option's short form.
+    pub letter: Option<char>,
+    pub help: &'static str,
+}
+
+/// The highest number that a viewer can have.
+pub const MAX_WHO: u32 = MAX_VIEWERS as u32 - 1;
+
+// The help of `VIEWERS` and of `WHO` states these numbers.
+const _: () = prove!(MAX_VIEWERS == 64 && MAX_WHO == 63);
+
+pub const VIEWERS: NumberOption = NumberOption {
+    name: "viewers",
+    low: 1,
+    high: MAX_VIEWERS as u32,
+    unless: Unless::Has("2"),
+    value: "K",
+    help: "How many viewers, 1 to 64",
+};
+
+pub const TURNS: NumberOption = NumberOption {
+    name: "turns",
+    low: 1,
+    high: 10_000_000,
+    unless: Unless::Has("1000000"),
+    value: "T",
+    help: "How many turns at most, 1 to 10000000",
+};
+
+pub const PORT: NumberOption = NumberOption {
+    name: "port",
+    low: 1,
+    high: 65535,
+    unless: Unless::Refused,
+    value: "P",
+    help: "The host's UDP port on 127.0.0.1, 1 to 65535",
+};
+
+pub const KEEP: NumberOption = NumberOption {
+    name: "keep",
+    low: 0,
+    high: MAX_INPUTS,
+    unless: Unless::Nothing,
+    value: "N",
+    help: "Keeps the last N of the inputs that all viewers have, 0 to 1048576 [default: all]",
+};
+
+/// The option `--until` of `host`.
+pub const HOST_UNTIL: NumberOption = NumberOption {
+    name: "until",
+    low: 0,
+    high: MAX_INPUTS,
+    unless: Unless::Nothing,
+    value: "N",
+    help: "Ends once N inputs are numbered, and each viewer has all, 0 to 1048576",
+};
+
+pub const WHO: NumberOption = NumberOption {
+    name: "who",
+    low: 0,
+    high: MAX_WHO,
+    unless: Unless::Refused,
+    value: "V",
+    help: "Which viewer this is, 0 to 63",
+};
+
+pub const BOOT: NumberOption = NumberOption {
+    name: "boot",
+    low: 1,
+    high: u32::MAX,
+    unless: Unless::Refused,
+    value: "B",
+    help: "How often this viewer has been started, this time too, 1 to 4294967295",
+};
+
+/// The option `--until` of `view`.
+pub const VIEW_UNTIL: NumberOption = NumberOption {
+    name: "until",
+    low: 0,
+    high: MAX_INPUTS,
+    unless: Unless::Nothing,
+    value: "N",
+    help: "Ends once at least N inputs are applied, 0 to 1048576",
+};
+
+pub const EXACTLY: NumberOption = NumberOption {
+    name: "exactly",
+    low: 0,
+    high: MAX_INPUTS,
+    unless: Unless::Nothing,
+    value: "N",
+    help: "Ends once N inputs are applied, and passes over others, 0 to 1048576",
+};
+
+pub const AT: NumberOption = NumberOption {
+    name: "at",
+    low: 1,
+    high: 65535,
+    unless: Unless::Nothing,
+    value: "Q",
+    help: "This viewer's own UDP port, 1 to 65535 [default: a free one]",
+};
+
+pub const GIVE: NumberOption = NumberOption {
+    name: "give",
+    low: 1,
+    high: 65535,
+    unless: Unless::Nothing,
+    value: "Q",
+    help: "Sends its snapshot to port Q, once its inputs are applied, 1 to 65535",
+};
+
+pub const JOIN: FlagOption = FlagOption {
+    name: "join",
+    letter: None,
+    help: "Begins with the snapshot that another viewer gives to its port",
+};
+
+pub const VERBOSE: FlagOption = FlagOption {
+    name: "verbose",
+    letter: Some('v'),
+    help: "Tells on standard error what comes to pass",
+};
+
+/// Returns the parser for the range of the option.
+fn range_of<'a>(option: &NumberOption) -> ValueParser<'a>
+    ensures { result ≡ Signed (pos option.now.low) (pos option.now.high) }
+{
+    ValueParser::signed(option.low as i64, option.high as i64)
+}
+
+/// Builds an option of `clap` with the name, the range and the help of `option`.
+fn ranged_arg<'a>(alloc: Global, option: &NumberOption) -> Arg<'a>
+    ensures rule { rule_of result ≡ ranged_rule option.now }
+    ensures local { result.global ≡ false }
+{
+    Arg::new(alloc, option.name)
+        .long(option.name)
+        .value_parser(range_of(option))
+        .value_name(option.value)
+        .help(option.help)
+}
+
+/// Builds the option of `clap`, which is required or has a default where `option` says so.
+pub fn number_arg<'a>(alloc: Global, option: &NumberOption) -> Arg<'a>
+    ensures rule { rule_of result ≡ number_rule option.now }
+    ensures local { result.global ≡ false }
+{
+    let arg = ranged_arg(alloc, option);
+    match option.unless {
+        Unless::Refused => arg.required(true),
+        Unless::Has(text) => arg.default_value(text),
+        Unless::Nothing => arg,
+    }
+}
+
+/// Builds the option of `clap`, a flag that is set if it is given.
+pub fn flag_arg<'a>(alloc: Global, option: &FlagOption) -> Arg<'a>
+    ensures rule { rule_of result ≡ flag_rule option.now }
+    ensures local { result.global ≡ false }
+{
+    let arg = Arg::new(alloc, option.name)
+        .long(option.name)
+        .action(ArgAction::SetTrue)
+        .help(option.help);
+    match option.letter {
+        Some(letter) => arg.short(letter),
+        None => arg,
+    }
+}

@@ -1,0 +1,112 @@
+//! What a command line asks for.
+
+ghost use Rattle.std.specs.Prelude.{◌≡◌};
+ghost use Rattle.std.specs.IoError.{error_kind};
+ghost use Rattle.app_words.specs.Words.{order_fault_of};
+ghost use Rattle.app_words.specs.declared.order.OrderFault.TheVariants as order_fault;
+
+use std::alloc::AllocError;
+use std::io;
+use thiserror::Error;
+
+/// What `host` does; its input is a job of clocks.
+#[derive(Clone, Copy, PartialEq, Eq)]
+pub struct HostOrder {
+    /// The UDP port of 127.0.0.1 to bind, 1 to 65,535.
+    pub port: u16,
+    /// How many viewers there can be, 1 to `MAX_VIEWERS` of x3d_values.
+    pub viewers: u8,
+    /// The limit of turns, 1 to 10,000,000.
+    pub turns: u32,
+    /// How many of the last inputs are kept for viewers that have them, 0 to 2^20; `None` keeps
+    /// all.
+    pub keep: Option<u32>,
+    /// After how many inputs the host ends, 0 to 2^20; `None` for no such end.
+    pub until: Option<u32>,
+    /// Reports events on standard error.
+    pub verbose: bool,
+}
+
+/// How many inputs a viewer applies before it ends, 0 to 2^20.
+#[derive(Clone, Copy, PartialEq, Eq)]
+pub enum ViewEnd {
+    /// At least this many.
+    Until(u32),
+    /// Exactly this many. Inputs beyond them are not applied.
+    Exactly(u32),
+}
+
+/// What `view` does; its input is a job of this viewer's points.
+#[derive(Clone, Copy, PartialEq, Eq)]
+pub struct ViewOrder {
+    /// The host's UDP port on 127.0.0.1, 1 to 65,535.
+    pub port: u16,
+    /// The number of the viewer, below `MAX_VIEWERS` of x3d_values.
+    pub who: u8,
+    /// How often the viewer has been started, counting this time, 1 to 2^32 - 1.
+    pub boot: u32,
+    pub end: ViewEnd,
+    /// The limit of turns, 1 to 10,000,000.
+    pub turns: u32,
+    /// The UDP port to bind, 1 to 65,535; `None` for a free port.
+    pub at: Option<u16>,
+    /// The port of the viewer that gets this viewer's snapshot, 1 to 65,535; `None` for no viewer.
+    pub give: Option<u16>,
+    /// Joins from the pieces of another viewer's snapshot.
+    pub join: bool,
+    /// Reports events on standard error.
+    pub verbose: bool,
+}
+
+/// A command with its options.
+#[derive(Clone, Copy, PartialEq, Eq)]
+pub enum Order {
+    /// `run`: the input is a job.
+    Run,
+    /// `format`: the input is a scene.
+    Format,
+    /// `check`: the input is a scene.
+    Check,
+    /// `rehearse`: the input is a schedule; 1 to `MAX_VIEWERS` viewers.
+    Rehearse { viewers: u8 },
+    /// `agree`: the input is a job; 1 to `MAX_VIEWERS` viewers, 1 to 10,000,000 rounds.
+    Agree { viewers: u8, turns: u32 },
+    Host(HostOrder),
+    View(ViewOrder),
+}
+
+/// What words ask for: the text of `--help` or `--version`, or a command.
+#[derive(Drop)]
+pub enum Request {
+    Text(String),
+    Order(Order),
+}
+
+/// Why words ask for nothing.
+#[derive(Clone, Copy, Debug, PartialEq, Eq, Error)]
+pub enum OrderFault {
+    #[error("the words are no command")]
+    Words,
+    #[error("memory was refused")]
+    Memory,
+}
+
+impl From<AllocError> for OrderFault {
+    ghost from_gives = { λ _ fault. fault ≡ order_fault.Memory };
+
+    fn from(_refused: AllocError) -> OrderFault {
+        OrderFault::Memory
+    }
+}
+
+/// The fault if the process's own words can't be read.
+impl From<io::Error> for OrderFault {
+    ghost from_gives = { λ error fault. fault ≡ order_fault_of (error_kind error) };
+
+    fn from(error: io::Error) -> OrderFault {
+        match error.kind() {
+            io::ErrorKind::OutOfMemory => OrderFault::Memory,
+            _ => OrderFault::Words,
+        }
+    }
+}

@@ -1,5 +1,0 @@
-use Rattle.std.proofs.Common.{rules}
-use Rattle.cascade_rules.proofs.boxes.put_boxes.Goals as goal
-
-pub returns : goal.returns
-returns c = search rules

@@ -1,2 +1,0 @@
-pub mod NodeStatus
-pub mod Status

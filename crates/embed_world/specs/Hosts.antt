@@ -1,0 +1,67 @@
+-- What the calls on an embedded host answer, and the host that they leave.
+use Rattle.std.specs.Prelude.{◌≡◌, ℕ, ℤ, List, slice_get, nat_lt, if◌then◌else◌, Option, None, Some, Result}
+use Rattle.std.specs.Option.{option_map}
+use Rattle.sha2.specs.Sha256.{sha256}
+use Rattle.x3d_values.specs.Ranges.{max_viewers}
+use Rattle.share_wire.specs.Datagram.{datagram}
+use Rattle.share_wire.specs.Decoding.{decoded}
+use Rattle.share_wire.specs.declared.message.Body.{Body}
+use Rattle.share_law.specs.Calls.{IsPartClocked, IsPartTakeOf}
+use Rattle.share_law.specs.Host.{ack_of}
+use Rattle.share_law.specs.Parts.{HostPart, new_part, part_drop_below, part_floor_packet, part_packet}
+use Rattle.share_law.specs.declared.fault.FloorFault.{FloorFault}
+use Rattle.share_law.specs.declared.fault.HostFault.{HostFault}
+use Rattle.share_law.specs.declared.fault.NumberFault.{NumberFault}
+use Rattle.share_law.specs.declared.kept.SeatCount.{SeatCount}
+use Rattle.share_law.specs.declared.reply.HostReply.{HostReply}
+use Rattle.embed_world.specs.declared.host.EmbeddedHost.{EmbeddedHost}
+
+-- the host of a scene's text, for this number of viewers
+abbrev pub started : List ℕ → ℕ → Option EmbeddedHost
+started text viewers =
+    if nat_lt viewers 1 then None
+    else if nat_lt max_viewers viewers then None
+    else Some (record { host = record { mark = sha256 text; part = new_part viewers } })
+
+abbrev pub with_part : EmbeddedHost → HostPart → EmbeddedHost
+with_part h part = record { host = record { mark = h.host.mark; part = part } }
+
+-- a clock is numbered, or refused, as share_core's host does
+abbrev pub Clocks : EmbeddedHost → ℤ → Result ℕ NumberFault → EmbeddedHost → Type 0
+Clocks old time result new =
+    IsPartClocked old.host.part time result new.host.part × (new ≡ with_part old new.host.part)
+
+-- bytes are taken, or refused, as share_core's host does
+abbrev pub HostTakes : EmbeddedHost → List ℕ → Result HostReply HostFault → EmbeddedHost → Type 0
+HostTakes old bytes result new =
+    IsPartTakeOf old.host.mark old.host.part (decoded bytes) result new.host.part
+    × (new ≡ with_part old new.host.part)
+
+abbrev pub host_datagram : EmbeddedHost → Body → List ℕ
+host_datagram h body = datagram (record { mark = h.host.mark; body = body })
+
+-- the datagram of the input with a number
+abbrev pub input_bytes : EmbeddedHost → ℕ → Option (List ℕ)
+input_bytes h number = option_map (host_datagram h) (part_packet h.host.part number)
+
+-- the datagram that says how many offers of a viewer are numbered
+abbrev pub ack_bytes : EmbeddedHost → ℕ → Option (List ℕ)
+ack_bytes h who =
+    option_map (λ (kept : SeatCount). host_datagram h (ack_of who kept))
+    (slice_get h.host.part.kept who)
+
+-- the datagram that says the floor
+abbrev pub floor_bytes : EmbeddedHost → List ℕ
+floor_bytes h = host_datagram h (part_floor_packet h.host.part)
+
+abbrev pub with_floor : EmbeddedHost → Result ℕ FloorFault × HostPart
+    → Result ℕ FloorFault × EmbeddedHost
+with_floor h step = (step.0, with_part h step.1)
+
+-- the host without the inputs below a number, or why it keeps them
+abbrev pub dropped_below : EmbeddedHost → ℕ → Result ℕ FloorFault × EmbeddedHost
+dropped_below h floor = with_floor h (part_drop_below h.host.part floor)
+
+-- inputs are dropped, or kept, as share_core's host does
+abbrev pub Drops : EmbeddedHost → ℕ → Result ℕ FloorFault → EmbeddedHost → Type 0
+Drops old floor result new = dropped_below old floor ≡ (result, new)

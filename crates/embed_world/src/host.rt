@@ -1,0 +1,107 @@
+//! The host of a shared world.
+
+use share_core::Host;
+use share_law::{FloorFault, HostFault, HostReply, NumberFault};
+use share_wire::Packet;
+use snapshot_core::scene_mark;
+use std::alloc::Global;
+use x3d_values::MAX_VIEWERS;
+
+/// The host of a scene, with the scene's mark.
+#[derive(Drop)]
+pub struct EmbeddedHost {
+    pub(crate) host: Host,
+}
+
+impl EmbeddedHost {
+    ghost use Rattle.std.specs.Prelude.{◌≡◌, Some, length};
+    ghost use Rattle.std.specs.Option.{option_map};
+    ghost use Rattle.embed_world.specs.Hosts as spec;
+    ghost use Rattle.embed_world.specs.Hosts.{Clocks, Drops, HostTakes};
+
+    /// Returns the host of a scene's text, for 1 to `MAX_VIEWERS` viewers, which are numbered from
+    /// 0. `None` for another number of viewers. Does not look at the scene.
+    pub fn start(alloc: Global, text: &[u8], viewers: u8) -> Option<EmbeddedHost>
+        ensures { result ≡ spec.started text.now viewers }
+    {
+        if viewers < 1 {
+            return None;
+        }
+        if viewers > MAX_VIEWERS {
+            return None;
+        }
+        Some(EmbeddedHost {
+            host: Host::new(alloc, scene_mark(text), viewers),
+        })
+    }
+
+    /// Numbers a clock at a time in microseconds and returns its number, as `Host::clock` of
+    /// share_core does.
+    pub fn clock(&mut self, time: i64) -> Result<u32, NumberFault>
+        ensures { Clocks self.old time result self.new }
+    {
+        self.host.clock(time)
+    }
+
+    /// Takes the bytes of a datagram, as `Host::take` of share_core does.
+    pub fn take(&mut self, bytes: &[u8]) -> Result<HostReply, HostFault>
+        ensures { HostTakes self.old bytes.now result self.new }
+    {
+        self.host.take(bytes)
+    }
+
+    /// Returns the datagram of the input with this number, if there is one, as `Host::packet` of
+    /// share_core does.
+    pub fn packet(&self, number: u32) -> Option<Packet>
+        ensures { option_map (λ p. p.items) result ≡ spec.input_bytes self.now number }
+    {
+        self.host.packet(number)
+    }
+
+    /// Returns the datagram that says how many offers of viewer `who` are numbered, as `Host::ack`
+    /// of share_core does. `None` if there is no such viewer.
+    pub fn ack(&self, who: u8) -> Option<Packet>
+        ensures { option_map (λ p. p.items) result ≡ spec.ack_bytes self.now who }
+    {
+        if who >= self.host.viewers() {
+            return None;
+        }
+        Some(self.host.ack(who))
+    }
+
+    /// Returns the floor: inputs below it have no datagrams.
+    pub fn floor(&self) -> u32
+        ensures { result ≡ self.now.host.part.floor }
+    {
+        self.host.floor()
+    }
+
+    /// Returns the datagram that says the floor, as `Host::floor_packet` of share_core does.
+    pub fn floor_packet(&self) -> Option<Packet>
+        ensures { option_map (λ p. p.items) result ≡ Some (spec.floor_bytes self.now) }
+    {
+        Some(self.host.floor_packet())
+    }
+
+    /// Drops the inputs below `floor` and returns the floor, as `Host::drop_below` of share_core
+    /// does.
+    pub fn drop_below(&mut self, floor: u32) -> Result<u32, FloorFault>
+        ensures { Drops self.old floor result self.new }
+    {
+        self.host.drop_below(floor)
+    }
+
+    /// Returns the number of inputs that are numbered.
+    pub fn count(&self) -> u32
+        ensures { result ≡ self.now.host.part.count }
+    {
+        self.host.len()
+    }
+
+    /// Returns the number of viewers.
+    pub fn viewers(&self) -> u32
+        ensures { result ≡ length self.now.host.part.kept }
+    {
+        u32::from(self.host.viewers())
+    }
+}

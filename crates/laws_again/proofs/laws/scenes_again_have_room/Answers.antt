@@ -1,5 +1,0 @@
-use Rattle.laws_again.proofs.Room.{again_has_room}
-use Rattle.laws_again.proofs.laws.scenes_again_have_room.Goals as goal
-
-pub returns : goal.returns
-returns c = again_has_room

@@ -1,5 +1,0 @@
-use Rattle.laws_again.proofs.TypedFitting.{fitting_typed}
-use Rattle.laws_again.proofs.typed.fitting_worlds_are_typed.Goals as goal
-
-pub returns : goal.returns
-returns c = fitting_typed

@@ -1,0 +1,5 @@
+use Rattle.laws_documents.proofs.UntakenWhole.{untaken_plain_values_dont_matter}
+use Rattle.laws_documents.proofs.prototypes.untaken_plain_values_dont_matter.Goals as goal
+
+pub returns : goal.returns
+returns c = untaken_plain_values_dont_matter

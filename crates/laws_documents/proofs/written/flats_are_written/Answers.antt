@@ -1,0 +1,5 @@
+use Rattle.laws_documents.proofs.WrittenWhole.{flats_are_written}
+use Rattle.laws_documents.proofs.written.flats_are_written.Goals as goal
+
+pub returns : goal.returns
+returns c = flats_are_written

@@ -1,9 +1,0 @@
-pub mod Lists
-pub mod Trees
-pub mod Readings
-pub mod ClosingParts
-pub mod LinesParts
-pub mod FieldsParts
-pub mod ShapeParts
-pub mod ShapeTrees
-pub mod FieldsFilled

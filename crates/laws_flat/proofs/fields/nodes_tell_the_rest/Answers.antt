@@ -1,5 +1,0 @@
-use Rattle.laws_flat.proofs.FieldsFilled.{nodes_tell_the_rest}
-use Rattle.laws_flat.proofs.fields.nodes_tell_the_rest.Goals as goal
-
-pub returns : goal.returns
-returns c = nodes_tell_the_rest

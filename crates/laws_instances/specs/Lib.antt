@@ -1,2 +1,0 @@
-pub mod WithFields
-pub mod WithHelpers

@@ -1,5 +1,0 @@
-use Rattle.laws_networks.proofs.TextRewound.{taken_rewind}
-use Rattle.laws_networks.proofs.texts.taken_snapshots_of_texts_rewind.Goals as goal
-
-pub returns : goal.returns
-returns c = taken_rewind

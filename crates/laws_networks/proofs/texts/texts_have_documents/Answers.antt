@@ -1,5 +1,0 @@
-use Rattle.laws_networks.proofs.Countable.{is_document}
-use Rattle.laws_networks.proofs.texts.texts_have_documents.Goals as goal
-
-pub returns : goal.returns
-returns c = is_document

@@ -1,8 +1,0 @@
-use Rattle.laws_networks.proofs.Worlds.{worlds_fit, worlds_have}
-use Rattle.laws_networks.proofs.texts.worlds_of_texts_fit.Goals as goal
-
-pub returns-clause-fit : goal.returns-clause-fit
-returns-clause-fit c = worlds_fit
-
-pub returns-clause-snapshots : goal.returns-clause-snapshots
-returns-clause-snapshots c = worlds_have

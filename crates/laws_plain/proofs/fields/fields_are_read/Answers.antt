@@ -1,5 +1,0 @@
-use Rattle.laws_plain.proofs.FieldWhole.{fields_are_read}
-use Rattle.laws_plain.proofs.fields.fields_are_read.Goals as goal
-
-pub returns : goal.returns
-returns c = fields_are_read

@@ -1,5 +1,0 @@
-use Rattle.laws_plain.proofs.BesideWhole.{documents_are_read_plainly}
-use Rattle.laws_plain.proofs.laws.documents_are_read_plainly.Goals as goal
-
-pub returns : goal.returns
-returns c = documents_are_read_plainly

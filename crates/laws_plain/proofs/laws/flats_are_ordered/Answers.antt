@@ -1,5 +1,0 @@
-use Rattle.laws_plain.proofs.Order.{flats_are_ordered}
-use Rattle.laws_plain.proofs.laws.flats_are_ordered.Goals as goal
-
-pub returns : goal.returns
-returns c = flats_are_ordered

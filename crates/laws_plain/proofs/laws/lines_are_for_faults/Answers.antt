@@ -1,5 +1,0 @@
-use Rattle.laws_plain.proofs.Lines.{lines_are_for_faults}
-use Rattle.laws_plain.proofs.laws.lines_are_for_faults.Goals as goal
-
-pub returns : goal.returns
-returns c = lines_are_for_faults

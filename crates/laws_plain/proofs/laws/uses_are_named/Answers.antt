@@ -1,5 +1,0 @@
-use Rattle.laws_plain.proofs.Uses.{uses_are_named}
-use Rattle.laws_plain.proofs.laws.uses_are_named.Goals as goal
-
-pub returns : goal.returns
-returns c = uses_are_named

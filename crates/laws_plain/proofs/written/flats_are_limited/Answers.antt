@@ -1,5 +1,0 @@
-use Rattle.laws_plain.proofs.WrittenWhole.{flats_are_limited}
-use Rattle.laws_plain.proofs.written.flats_are_limited.Goals as goal
-
-pub returns : goal.returns
-returns c = flats_are_limited

@@ -1,5 +1,0 @@
-use Rattle.laws_plain.proofs.Heads.{helpers_are_of_instances}
-use Rattle.laws_plain.proofs.written.helpers_are_of_instances.Goals as goal
-
-pub returns : goal.returns
-returns c = helpers_are_of_instances

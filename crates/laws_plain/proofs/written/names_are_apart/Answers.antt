@@ -1,5 +1,0 @@
-use Rattle.laws_plain.proofs.WrittenWhole.{names_are_apart}
-use Rattle.laws_plain.proofs.written.names_are_apart.Goals as goal
-
-pub returns : goal.returns
-returns c = names_are_apart

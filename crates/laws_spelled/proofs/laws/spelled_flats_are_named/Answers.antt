@@ -1,5 +1,0 @@
-use Rattle.laws_spelled.proofs.Named.{spelled_flats_are_named}
-use Rattle.laws_spelled.proofs.laws.spelled_flats_are_named.Goals as goal
-
-pub returns : goal.returns
-returns c = spelled_flats_are_named

@@ -1,8 +1,0 @@
-use Rattle.laws_text.proofs.Defaults.{defaults_are_left_out, left_out_are_defaults}
-use Rattle.laws_text.proofs.laws.fields_are_left_out.Goals as goal
-
-pub returns-clause-defaults : goal.returns-clause-defaults
-returns-clause-defaults c = left_out_are_defaults
-
-pub returns-clause-all : goal.returns-clause-all
-returns-clause-all c = defaults_are_left_out

@@ -1,8 +1,0 @@
-use Rattle.laws_text.proofs.Again.{all_numbered_again, all_numbered_under_root}
-use Rattle.laws_text.proofs.numbering.scenes_are_numbered_again.Goals as goal
-
-pub returns-clause-same : goal.returns-clause-same
-returns-clause-same c = all_numbered_again
-
-pub returns-clause-under_root : goal.returns-clause-under_root
-returns-clause-under_root c = all_numbered_under_root

@@ -1,5 +1,0 @@
-use Rattle.pick_track.proofs.Leading.{points_are_inward}
-use Rattle.pick_track.proofs.laws.sensors_points_are_inward_law.Goals as goal
-
-pub returns : goal.returns
-returns c = points_are_inward

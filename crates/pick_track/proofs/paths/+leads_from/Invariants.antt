@@ -1,5 +1,0 @@
-use Rattle.std.proofs.Common.{length}
-use Rattle.pick_track.proofs.paths.+leads_from.Given as goal
-
-abbrev pub decreases-leads_from : goal.decreases-leads_from
-decreases-leads_from l = length l.path.now

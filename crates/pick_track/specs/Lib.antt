@@ -1,5 +1,0 @@
-pub mod Paths
-pub mod Track
-pub mod Again
-pub mod SensorPaths
-pub mod Examples

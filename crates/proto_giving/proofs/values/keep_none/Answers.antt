@@ -1,7 +1,0 @@
-use Rattle.std.proofs.Common.{None}
-use Rattle.proto_giving.proofs.Given.{filled-inside}
-use Rattle.proto_giving.proofs.values.keep_none.Goals as goal
-
-pub returns-clause-filled : goal.returns-clause-filled
-returns-clause-filled c =
-    λ at o. filled-inside at o c.args.inside.now c.fill.new.self c.args.line c.args.name.now c.args.field None c.in_ok-fill.ensures.fields c.in_ok-fill.ensures.filled

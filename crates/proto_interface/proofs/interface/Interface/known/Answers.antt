@@ -1,5 +1,0 @@
-use Rattle.proto_interface.proofs.Numbered.{known-is}
-use Rattle.proto_interface.proofs.interface.Interface.known.Goals as goal
-
-pub returns : goal.returns
-returns c = known-is c.args.name.now c.args.self.now c.field.result c.field.ensures

@@ -1,7 +1,0 @@
-use Rattle.std.proofs.Common.{◌≡◌, map, take}
-use Rattle.proto_joins.specs.Joins.{braces_of}
-use Rattle.proto_joins.specs.Sides.{made_routes, parts_routes}
-use Rattle.proto_joins.proofs.sides.routes_made.Given as goal
-
-abbrev pub invariant-loop-part : goal.invariant-loop-part
-invariant-loop-part l = made_routes l.made ≡ parts_routes (take l.part-index l.parts) (map braces_of l.braces)

@@ -1,4 +1,0 @@
-pub mod Joined
-pub mod Joins
-pub mod Laws
-pub mod Sides

@@ -1,8 +1,0 @@
-//! A law of what ISs join.
-
-ghost use Rattle.proto_joins.specs.Laws.{JoinsGrow};
-
-/// One more IS adds its ends to those of the field that it names, and to no other.
-pub fn joins_grow()
-    ensures { JoinsGrow }
-{}

@@ -1,5 +1,0 @@
-use Rattle.proto_limits.proofs.Settling.{limits_are_settled}
-use Rattle.proto_limits.proofs.laws.limits_are_settled.Goals as goal
-
-pub returns : goal.returns
-returns c = limits_are_settled

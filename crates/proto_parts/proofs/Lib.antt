@@ -1,0 +1,13 @@
+pub mod Settling
+pub mod Scopes
+pub mod PutNamed
+pub mod Filling
+pub mod Pairs
+pub mod Waiting
+pub mod Joining
+pub mod Naming
+pub mod Numbered
+pub mod Suffixes
+pub mod Scoping
+pub mod Closed
+pub mod Knowing

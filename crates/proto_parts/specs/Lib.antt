@@ -1,0 +1,17 @@
+pub mod Settled
+pub mod LimitLaws
+pub mod Names
+pub mod Put
+pub mod Given
+pub mod Ends
+pub mod Routes
+pub mod Wires
+pub mod Joined
+pub mod Joins
+pub mod JoinLaws
+pub mod Sides
+pub mod Fields
+pub mod Routed
+pub mod Scope
+pub mod Inside
+pub mod Closing

@@ -1,6 +1,0 @@
-use Rattle.std.proofs.Common.{◌≡◌, ◌++◌, take}
-use Rattle.proto_routes.specs.Routes.{routes_from}
-use Rattle.proto_routes.proofs.routes.push_from.Given as goal
-
-abbrev pub invariant-loop-target : goal.invariant-loop-target
-invariant-loop-target l = l.routes ≡ l.fn.routes ++ routes_from l.line (take l.target-index l.targets) l.source

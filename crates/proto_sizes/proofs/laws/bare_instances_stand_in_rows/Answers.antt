@@ -1,5 +1,0 @@
-use Rattle.proto_sizes.proofs.InRows.{bare_instances_stand_in_rows}
-use Rattle.proto_sizes.proofs.laws.bare_instances_stand_in_rows.Goals as goal
-
-pub returns : goal.returns
-returns c = bare_instances_stand_in_rows

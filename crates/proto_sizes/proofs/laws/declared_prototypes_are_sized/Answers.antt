@@ -1,5 +1,0 @@
-use Rattle.proto_sizes.proofs.SizeWhole.{declared_prototypes_are_sized}
-use Rattle.proto_sizes.proofs.laws.declared_prototypes_are_sized.Goals as goal
-
-pub returns : goal.returns
-returns c = declared_prototypes_are_sized

@@ -1,5 +1,0 @@
-use Rattle.proto_sizes.proofs.InRows.{rows_are_sums}
-use Rattle.proto_sizes.proofs.laws.rows_are_sums.Goals as goal
-
-pub returns : goal.returns
-returns c = rows_are_sums

@@ -1,9 +1,0 @@
-pub mod Same
-pub mod Good
-pub mod Given
-pub mod Parts
-pub mod Statements
-pub mod Whole
-pub mod Defaults
-pub mod Prototypes
-pub mod Worked

@@ -1,5 +1,0 @@
-use Rattle.proto_tree.proofs.Prototypes.{prototypes_are_the_same}
-use Rattle.proto_tree.proofs.laws.prototypes_are_the_same.Goals as goal
-
-pub returns : goal.returns
-returns c = prototypes_are_the_same

@@ -1,5 +1,0 @@
-use Rattle.proto_tree.proofs.Whole.{texts_stand_for_the_same}
-use Rattle.proto_tree.proofs.laws.texts_stand_for_the_same.Goals as goal
-
-pub returns : goal.returns
-returns c = texts_stand_for_the_same

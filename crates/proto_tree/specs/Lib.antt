@@ -1,4 +1,0 @@
-pub mod Given
-pub mod Meaning
-pub mod Resolved
-pub mod Laws

@@ -1,7 +1,0 @@
-use Rattle.std.proofs.Common.{refl}
-use Rattle.proto_walker.proofs.Stepping.{opens}
-use Rattle.proto_walker.proofs.walker.Walker.open_braces.Goals as goal
-
-pub returns : goal.returns
-returns c =
-    (opens c.args.name.now c.args.self.now (record c.args.self.now { scope = c.open.new.self }) c.in_ok-at.at c.in_ok-at.ensures.at c.in_ok-at.ensures.shown refl refl, c.in_ok-at.ensures.sound)

@@ -1,4 +1,0 @@
-pub mod Boxes
-pub mod Came
-pub mod Faults
-pub mod Texts

@@ -1,0 +1,35 @@
+//! From which number on a host keeps its inputs, and when it is done.
+
+ghost use Rattle.std.specs.Prelude.{◌≡◌, ◌<◌, ◌+◌, ◌^◌};
+ghost use Rattle.share_turns.specs.Ends.{floor_for, is_past, is_served};
+
+/// Returns the floor of a host that keeps the last `keep` of the inputs below `lowest`: those that
+/// every viewer it heard of has asked past. The floor is never below `floor`, the previous one. It
+/// is at most the number of the next input, if `floor` is.
+pub fn floor_for(keep: u32, lowest: u32, floor: u32, count: u32) -> u32
+    requires { count + 1 < 2 ^ 32 }
+    ensures { result ≡ floor_for keep lowest floor count }
+{
+    lowest.min(count + 1).saturating_sub(keep).max(floor)
+}
+
+fn is_past(until: u32, lowest: Option<u32>) -> bool
+    ensures { result ≡ is_past until lowest }
+{
+    match lowest {
+        Some(lowest) => until < lowest,
+        None => false,
+    }
+}
+
+/// Reports whether a host that has numbered `count` inputs is done: `until` inputs are numbered,
+/// and every viewer it heard of, at least one, has asked past them. Without `until` it is never
+/// done.
+pub fn is_served(until: Option<u32>, lowest: Option<u32>, count: u32) -> bool
+    ensures { result ≡ is_served until lowest count }
+{
+    match until {
+        Some(until) => until <= count && is_past(until, lowest),
+        None => false,
+    }
+}

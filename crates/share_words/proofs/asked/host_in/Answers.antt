@@ -1,5 +1,0 @@
-use Rattle.share_words.proofs.AskedLemmas.{host_needs}
-use Rattle.share_words.proofs.asked.host_in.Goals as goal
-
-pub returns-in_default-clause-none : goal.returns-in_default-clause-none
-returns-in_default-clause-none c = λ o h. let given = host_needs _ o h in c.in_default.ensures.none given.0 given.1

@@ -1,5 +1,0 @@
-use Rattle.share_words.proofs.AskedLemmas.{view_needs}
-use Rattle.share_words.proofs.asked.view_in.Goals as goal
-
-pub returns-in_default-clause-none : goal.returns-in_default-clause-none
-returns-in_default-clause-none c = λ o h. let given = view_needs _ o h in c.in_default.ensures.none given.0 given.1

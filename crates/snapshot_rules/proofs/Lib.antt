@@ -1,5 +1,0 @@
-pub mod BesideLaws
-pub mod Growing
-mod PartSizes
-pub mod SetLaws
-mod Ways

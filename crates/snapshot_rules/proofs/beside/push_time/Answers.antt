@@ -1,7 +1,0 @@
-use Rattle.std.proofs.Common.{rules}
-use Rattle.snapshot_rules.specs.Beside.{time_part}
-use Rattle.snapshot_rules.proofs.beside.push_time.Goals as goal
-
-pub returns-in-TimeSensor-clause-ok : goal.returns-in-TimeSensor-clause-ok
-unfolding time_part
-returns-in-TimeSensor-clause-ok c = search rules

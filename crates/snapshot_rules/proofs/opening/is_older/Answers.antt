@@ -1,5 +1,0 @@
-use Rattle.std.proofs.Common.{rules}
-use Rattle.snapshot_rules.proofs.opening.is_older.Goals as goal
-
-pub returns : goal.returns
-returns c = search rules

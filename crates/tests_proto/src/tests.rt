@@ -1,3 +1,0 @@
-//! Texts with prototypes.
-
-mod resolving;
