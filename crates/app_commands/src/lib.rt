@@ -28,4 +28,4 @@ pub use rehearsing::rehearse_job;
 pub use sockets::{bound, bound_free, number_of};
 pub use telling::TellingPort;
 pub use viewing::{Seat, first_boot, seated_job, view_job};
-pub use watch::{Node, Note, Refusal, Tally, Watch};
+pub use watch::{Counts, Note, Peer, Refusal, Watch};

@@ -2,7 +2,7 @@
 
 ghost use Rattle.std.specs.Prelude.{◌≡◌};
 
-use crate::watch::{Note, Tally, Watch};
+use crate::watch::{Counts, Note, Watch};
 use share_turns::{Port, PortFault, RECEIVED};
 use std::io::Eprint;
 
@@ -32,8 +32,8 @@ impl<P, R: Eprint> TellingPort<P, R> {
     }
 
     /// Returns how much passed; nothing is counted unless the port is verbose.
-    pub fn tally(&self) -> Tally {
-        self.watch.tally()
+    pub fn counts(&self) -> Counts {
+        self.watch.counts()
     }
 
     fn tell(&self, note: Option<Note>) {

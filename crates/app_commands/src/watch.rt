@@ -13,7 +13,7 @@ const PLACES: usize = MAX_VIEWERS as usize;
 
 /// How much passed. Each count stops at 2^64 - 1.
 #[derive(Clone, Copy)]
-pub struct Tally {
+pub struct Counts {
     pub turns: u64,
     /// How many datagrams were received.
     pub received: u64,
@@ -22,7 +22,7 @@ pub struct Tally {
     pub points: u64,
 }
 
-impl fmt::Display for Tally {
+impl fmt::Display for Counts {
     fn fmt<W: fmt::Write>(&self, f: &mut fmt::Formatter<W>) -> fmt::Result {
         write!(
             f,
@@ -82,9 +82,9 @@ impl fmt::Display for Note {
     }
 }
 
-/// The node that has the port.
+/// The peer that has the port.
 #[derive(Clone, Copy)]
-pub enum Node {
+pub enum Peer {
     /// A host of this many viewers.
     Host(u8),
     /// A viewer with this boot.
@@ -95,27 +95,27 @@ pub enum Node {
 #[derive(Clone, Copy)]
 pub struct Watch {
     mark: [u8; 32],
-    node: Node,
+    peer: Peer,
     heard: [bool; PLACES],
     /// The highest boot of each viewer's offers; and the boot and the count of the last ack that
     /// was sent to each viewer.
     boots: [u32; PLACES],
     acked: [(u32, u32); PLACES],
     told: [bool; 4],
-    tally: Tally,
+    counts: Counts,
 }
 
 impl Watch {
     /// Returns a watch that has seen nothing, for a run of the scene with this mark.
-    pub fn new(mark: [u8; 32], node: Node) -> Watch {
+    pub fn new(mark: [u8; 32], peer: Peer) -> Watch {
         Watch {
             mark,
-            node,
+            peer,
             heard: [false; PLACES],
             boots: [0; PLACES],
             acked: [(0, 0); PLACES],
             told: [false; 4],
-            tally: Tally {
+            counts: Counts {
                 turns: 0,
                 received: 0,
                 sent: 0,
@@ -125,8 +125,8 @@ impl Watch {
     }
 
     /// Returns how much passed until now.
-    pub fn tally(&self) -> Tally {
-        self.tally
+    pub fn counts(&self) -> Counts {
+        self.counts
     }
 
     /// Reports whether an offer's boot is below an earlier one of the viewer; else records it as
@@ -160,9 +160,9 @@ impl Watch {
             Came::Elsewhere => return Some(Refusal::WrongScene),
             Came::Here(brief) => brief,
         };
-        match (self.node, brief) {
-            (Node::Host(viewers), brief) => self.host_refusal(brief, viewers),
-            (Node::Viewer(own), Brief::Ack { boot, .. }) if boot > own => Some(Refusal::OldBoot),
+        match (self.peer, brief) {
+            (Peer::Host(viewers), brief) => self.host_refusal(brief, viewers),
+            (Peer::Viewer(own), Brief::Ack { boot, .. }) if boot > own => Some(Refusal::OldBoot),
             _ => None,
         }
     }
@@ -180,7 +180,7 @@ impl Watch {
     /// Returns the note of the viewer that sent these bytes to a host, if the host first hears of
     /// it.
     fn first_heard(&mut self, bytes: &[u8], peer: u16) -> Option<Note> {
-        let Node::Host(_) = self.node else {
+        let Peer::Host(_) = self.peer else {
             return None;
         };
         let who = match brief_of(bytes) {
@@ -197,7 +197,7 @@ impl Watch {
 
     /// Records a datagram from a peer, and returns the note that it causes.
     pub fn comes(&mut self, peer: u16, bytes: &[u8]) -> Option<Note> {
-        self.tally.received = self.tally.received.saturating_add(1);
+        self.counts.received = self.counts.received.saturating_add(1);
         match self.refusal(bytes) {
             Some(why) => self.dropped(why, peer),
             None => self.first_heard(bytes, peer),
@@ -213,12 +213,12 @@ impl Watch {
         let before = if acked.0 == boot { acked.1 } else { 0 };
         *acked = (boot, count);
         let more = u64::from(count.saturating_sub(before));
-        self.tally.points = self.tally.points.saturating_add(more);
+        self.counts.points = self.counts.points.saturating_add(more);
     }
 
     /// Records a datagram that is sent.
     pub fn goes(&mut self, bytes: &[u8]) {
-        self.tally.sent = self.tally.sent.saturating_add(1);
+        self.counts.sent = self.counts.sent.saturating_add(1);
         if let Brief::Ack { who, boot, count } = brief_of(bytes) {
             self.acks(who, boot, count);
         }
@@ -226,9 +226,9 @@ impl Watch {
 
     /// Records the end of a turn, and returns the note that it causes.
     pub fn rests(&mut self) -> Option<Note> {
-        self.tally.turns = self.tally.turns.saturating_add(1);
-        match self.node {
-            Node::Viewer(_) if self.tally.received == 0 && self.tally.turns == SILENT => {
+        self.counts.turns = self.counts.turns.saturating_add(1);
+        match self.peer {
+            Peer::Viewer(_) if self.counts.received == 0 && self.counts.turns == SILENT => {
                 Some(Note::NoAnswer)
             }
             _ => None,

@@ -22,7 +22,7 @@ use Rattle.share_law.specs.declared.step.Step.TheVariants.{PiecePacket, ViewerGa
 use Rattle.app_jobs.specs.declared.schedule.Schedule.{Schedule}
 use Rattle.app_jobs.specs.Job.{is_scene, behind_lines}
 use Rattle.app_jobs.specs.Points.{word, behind, number_below, vector_of}
-use Rattle.app_jobs.specs.Schedule.{number, clock_step, given, give_step, paired, two_numbers, rewound, rewind_step, point_of, offered, offer_step}
+use Rattle.app_jobs.specs.Schedule.{number, clock_step, given, give_step, paired, two_numbers, rewound, rewind_step, read_point, offered, offer_step}
 use Rattle.app_jobs.specs.Schedule.{host_step, viewer_step, piece_step, step_of, steps_of, with_step, with_bytes, schedule_lines, spaced, IsCall, IsClockAt, IsGivenHost, IsOffer, IsStepLine, EachIsStep, IsSchedule}
 use Rattle.app_jobs.proofs.ScheduleLemmas.{of_line}
 use Rattle.app_jobs.proofs.SpaceLemmas.{Spaceless, word_is, behind_is, numeral_is}
@@ -99,11 +99,11 @@ unfolding step_of host_step give_step word behind
 give_at text p s first e =
     ap (λ r. option_or (given r (behind text)) (others (codes "give") text)) first ∙ ap (λ r. option_or r (others (codes "give") text)) e
 
-offer_at : (text : List ℕ) (v : ℕ) (p : Point) → number (word text) ≡ Some v → point_of (behind text) ≡ Some p
+offer_at : (text : List ℕ) (v : ℕ) (p : Point) → number (word text) ≡ Some v → read_point (behind text) ≡ Some p
     → step_of (codes "offer" ++ (32 ∷ text)) ≡ Some (ViewerOffer v p)
 unfolding step_of host_step viewer_step offer_step word behind
 offer_at text v p first second =
-    ap (λ r. option_or (offered r (point_of (behind text))) (piece_step (codes "offer") text)) first
+    ap (λ r. option_or (offered r (read_point (behind text))) (piece_step (codes "offer") text)) first
     ∙ ap (λ r. option_or (offered (Some v) r) (piece_step (codes "offer") text)) second
 
 -- ---- a line that is a step
@@ -167,8 +167,8 @@ clock_only line t h = ap step_of h.words ∙ clock_at h.text t (numeral_complete
 
 point_at : (text x y z d dy dz : List ℕ) (n : ℕ) (o v : Vec3) → behind text ≡ x → behind x ≡ y → behind y ≡ z → behind z ≡ d → behind d ≡ dy → behind dy ≡ dz
     → number_below 2 (word text) ≡ Some n → vector_of (word x) (word y) (word z) ≡ Some o → vector_of (word d) (word dy) dz ≡ Some v
-    → point_of text ≡ Some (record { down = n == 1; origin = o; dir = v })
-unfolding point_of
+    → read_point text ≡ Some (record { down = n == 1; origin = o; dir = v })
+unfolding read_point
 point_at text x y z d dy dz n o v at_x at_y at_z at_d at_dy at_dz n_is o_is v_is = rw (at_x, at_y, at_z, at_d, at_dy, at_dz, n_is, o_is, v_is) refl
 
 pub bit_low : (b : Bool) → (if b then 1 else 0) < 2
@@ -203,14 +203,14 @@ offer_only line v p h =
     let v_is : vector_of (word d) (word dy) h.dz ≡ Some p.dir =
     ap (λ w. vector_of w (word dy) h.dz) (word_is h.dx dy dx)
     ∙ (ap (λ w. vector_of h.dx w h.dz) (word_is h.dy h.dz dy_apart) ∙ vector_is h.dx h.dy h.dz p.dir h.direction) in
-    let made : point_of rest ≡ Some (record { down = n == 1; origin = p.origin; dir = p.dir }) =
+    let made : read_point rest ≡ Some (record { down = n == 1; origin = p.origin; dir = p.dir }) =
     point_at rest x y z d dy h.dz n p.origin p.dir (behind_is h.down x down) (behind_is h.ox y ox) (behind_is h.oy z oy) (behind_is h.oz d oz) (behind_is h.dx dy dx)
     (behind_is h.dy h.dz dy_apart) n_is o_is v_is in
     let same : Some (record { down = n == 1; origin = p.origin; dir = p.dir }) ≡ Some p =
     ap (λ b. Some (record { down = b; origin = p.origin; dir = p.dir })) (bit_is p.down) in
     let first : number (word text) ≡ Some v =
     ap number (word_is h.who rest who) ∙ one_is h.who v h.viewer_is in
-    let second : point_of (behind text) ≡ Some p = ap point_of (behind_is h.who rest who) ∙ (made ∙ same) in
+    let second : read_point (behind text) ≡ Some p = ap read_point (behind_is h.who rest who) ∙ (made ∙ same) in
     ap step_of h.words ∙ offer_at text v p first second
 
 notice_at : step_of (codes "notice") ≡ Some HostFloorPacket

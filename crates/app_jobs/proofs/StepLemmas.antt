@@ -18,7 +18,7 @@ use Rattle.share_law.specs.declared.step.Step.TheVariants.{ViewerTake, ViewerSav
 use Rattle.share_law.specs.declared.step.Step.TheVariants.{HostDropBelow, HostFloorPacket}
 use Rattle.share_law.specs.declared.step.Step.TheVariants.{PiecePacket, ViewerGather, ViewerJoin, ViewerForget}
 use Rattle.app_jobs.specs.Points.{word, behind, number_below, vector_of, IsNumber, AreNumerals}
-use Rattle.app_jobs.specs.Schedule.{number, clock_step, given, give_step, paired, two_numbers, rewound, rewind_step, point, point_of, offered, offer_step}
+use Rattle.app_jobs.specs.Schedule.{number, clock_step, given, give_step, paired, two_numbers, rewound, rewind_step, point, read_point, offered, offer_step}
 use Rattle.app_jobs.specs.Schedule.{host_step, viewer_step, piece_step, named_step, step_of, spaced, IsCall, IsClockAt, IsGivenHost, IsOffer, IsStepLine}
 use Rattle.app_jobs.proofs.PointLemmas.{cut_word, word_filled, ok_from, numeral_filled, number_from, vector_from, bit}
 use Rattle.app_jobs.proofs.WrittenNumbers.{mapped, AreWritten, one_from, written_one, written_more, named, called, called_by}
@@ -163,8 +163,8 @@ record ArePoint (text : List ℕ) (p : Point) : Type 0 where
   direction : AreNumerals dx dy dz p.dir
   filled : 0 < length text
 
-point_from : (text : List ℕ) (p : Point) → point_of text ≡ Some p → ArePoint text p
-unfolding point_of
+point_from : (text : List ℕ) (p : Point) → read_point text ≡ Some p → ArePoint text p
+unfolding read_point
 point_from text p e =
     let x : List ℕ = behind text in
     let y : List ℕ = behind x in
@@ -206,7 +206,7 @@ point_from text p e =
     }
 
 offered_from : (line text : List ℕ) (v : Option ℕ) (p : Option Point) (s : Step) → bytes_eq (word line) (codes "offer") ≡ true → text ≡ behind line
-    → number (word text) ≡ v → point_of (behind text) ≡ p → offered v p ≡ Some s → IsStepLine line s
+    → number (word text) ≡ v → read_point (behind text) ≡ p → offered v p ≡ Some s → IsStepLine line s
 offered_from line text None p s is at_text v_is p_is e = absurd (cc)
 offered_from line text (Some v) None s is at_text v_is p_is e = absurd (cc)
 offered_from line text (Some v) (Some p) s is at_text v_is p_is e =
@@ -235,7 +235,7 @@ offered_from line text (Some v) (Some p) s is at_text v_is p_is e =
 
 offer_from : (line : List ℕ) (s : Step) → bytes_eq (word line) (codes "offer") ≡ true → offer_step (behind line) ≡ Some s → IsStepLine line s
 unfolding offer_step
-offer_from line s is e = offered_from line (behind line) (number (word (behind line))) (point_of (behind (behind line))) s is refl refl refl e
+offer_from line s is e = offered_from line (behind line) (number (word (behind line))) (read_point (behind (behind line))) s is refl refl refl e
 
 viewer_from : (line : List ℕ) (s : Step) → viewer_step (word line) (behind line) ≡ Some s → IsStepLine line s
 unfolding viewer_step

@@ -71,8 +71,8 @@ point (Some down) None dir = None
 point None origin dir = None
 
 -- whether the button is down, and six numerals; the last is the rest of the text
-unfoldable pub point_of : List ℕ → Option Point
-point_of text =
+unfoldable pub read_point : List ℕ → Option Point
+read_point text =
     let x = behind text in
     let y = behind x in
     let z = behind y in
@@ -87,7 +87,7 @@ offered (Some viewer) None = None
 offered None point = None
 
 unfoldable pub offer_step : List ℕ → Option Step
-offer_step text = offered (number (word text)) (point_of (behind text))
+offer_step text = offered (number (word text)) (read_point (behind text))
 
 -- ---- the line
 

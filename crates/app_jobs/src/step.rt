@@ -79,9 +79,9 @@ fn rewind_step(text: &[u8]) -> Option<Step>
 }
 
 /// Returns the point of `D ox oy oz dx dy dz`. Any numerals make a point.
-#[tactic(auto, unfolding(crate::specs::Schedule::point_of))]
-fn point_of(text: &[u8]) -> Option<Point>
-    ensures { result ≡ spec.point_of text.now }
+#[tactic(auto, unfolding(crate::specs::Schedule::read_point))]
+fn read_point(text: &[u8]) -> Option<Point>
+    ensures { result ≡ spec.read_point text.now }
 {
     let (down, rest) = cut_word(text);
     let (x, rest) = cut_word(rest);
@@ -112,7 +112,7 @@ fn offer_step(text: &[u8]) -> Option<Step>
     let Some(viewer) = number(viewer) else {
         return None;
     };
-    match point_of(rest) {
+    match read_point(rest) {
         Some(point) => Some(Step::ViewerOffer { viewer, point }),
         None => None,
     }

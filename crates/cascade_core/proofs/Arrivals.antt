@@ -10,13 +10,13 @@ use Rattle.script_host.specs.Hosting.{SlotView}
 use Rattle.script_slots.specs.Settling.{DueScriptsView, with_received}
 use Rattle.script_running.specs.Acting.{Acted, call_of, receive, receiving}
 use Rattle.cascade_core.specs.Cascade.{Arrival, Reacted, arrival, received_by}
-use Rattle.cascade_core.specs.Course.{Course, Wiring, ports_of, script_of}
+use Rattle.cascade_core.specs.Course.{CourseView, Wiring, ports_of, script_of}
 
 -- a call of that script
 abbrev made : ℕ → Call → Arrival
 made k call = record { number = k; call = call }
 
-module _ (wiring : Wiring) (c : Course) (target : End) (v : Value) where
+module _ (wiring : Wiring) (c : CourseView) (target : End) (v : Value) where
   -- what a call of that script is
   abbrev call_at : ℕ → Option Call
   call_at k = call_of (ports_of wiring k) k target.field v c.scripts

@@ -10,7 +10,7 @@ use Rattle.script_host.specs.Hosting.{SlotView}
 use Rattle.script_running.specs.Acting.{kinds_of}
 use Rattle.script_running.proofs.CallLemmas.{kinds_stand}
 use Rattle.cascade_core.specs.Apply.{SendingView, Started, after_input, apply, begun, opening, opening_course, sent_by_all, start_one, started, world_after}
-use Rattle.cascade_core.specs.Course.{Course, Wiring, Scripted, wiring_of, ports_of}
+use Rattle.cascade_core.specs.Course.{CourseView, Wiring, Scripted, wiring_of, ports_of}
 use Rattle.cascade_core.specs.ScriptLaws.{KindsStand, StatesStand}
 use Rattle.cascade_core.specs.Scripts.{kinds_in, scripts_in, states_of}
 use Rattle.cascade_core.specs.Settles.{settle}
@@ -18,20 +18,20 @@ use Rattle.script_running.proofs.Runnings.{running-kinds, states-many}
 use Rattle.cascade_core.proofs.Settled.{input-of, sent-of, settle-of}
 
 module _ (wiring : Wiring) (kinds : List Kind) where
-  abbrev Of : Course → Type 0
+  abbrev Of : CourseView → Type 0
   Of c = kinds_of c.scripts ≡ kinds
 
-  after-of : (scene : SceneView) (c : Course) (input : StampedView) → Of c → Of (after_input scene wiring c input)
+  after-of : (scene : SceneView) (c : CourseView) (input : StampedView) → Of c → Of (after_input scene wiring c input)
   after-of scene c input p =
       input-of wiring Of (λ c s v h p. p) (λ c a p. p) (λ c b p. p) (λ c k call p. kinds_stand (ports_of wiring k) call k c.scripts ∙ p)
       (λ c k p. kinds_stand (ports_of wiring k) Settle k c.scripts ∙ p) scene c input p
 
-  settled-of : (c : Course) → Of c → Of (settle wiring c)
+  settled-of : (c : CourseView) → Of c → Of (settle wiring c)
   settled-of c p =
       settle-of wiring Of (λ c s v h p. p) (λ c a p. p) (λ c b p. p) (λ c k call p. kinds_stand (ports_of wiring k) call k c.scripts ∙ p)
       (λ c k p. kinds_stand (ports_of wiring k) Settle k c.scripts ∙ p) c p
 
-  all-of : (c : Course) (sendings : List SendingView) → Of c → Of (sent_by_all wiring c sendings)
+  all-of : (c : CourseView) (sendings : List SendingView) → Of c → Of (sent_by_all wiring c sendings)
   all-of c sendings p =
       sent-of wiring Of (λ c s v h p. p) (λ c a p. p) (λ c b p. p) (λ c k call p. kinds_stand (ports_of wiring k) call k c.scripts ∙ p)
       (λ c k p. kinds_stand (ports_of wiring k) Settle k c.scripts ∙ p) c sendings p
@@ -60,7 +60,7 @@ unfolding opening
 opened-full scene routes =
     let wiring : Wiring = wiring_of scene routes in
     let s : Started = started wiring (scripts_in scene) in
-    let c : Course = sent_by_all wiring (opening_course scene s.scripts) s.sendings in
+    let c : CourseView = sent_by_all wiring (opening_course scene s.scripts) s.sendings in
     full scene (settle wiring c).scripts
     (settled-of wiring (kinds_in scene) c
     (all-of wiring (kinds_in scene) (opening_course scene s.scripts) s.sendings (started-of wiring (kinds_in scene) (scripts_in scene) refl)))
@@ -69,7 +69,7 @@ pub applied-full : (scene : SceneView) (routes : List Route) (w : Scripted) (inp
 unfolding apply
 applied-full scene routes w input p =
     let wiring : Wiring = wiring_of scene routes in
-    let c : Course = begun scene w input in
+    let c : CourseView = begun scene w input in
     full scene (after_input scene wiring c input).scripts
     (after-of wiring (kinds_in scene) scene c input (running-kinds (kinds_in scene) w.states p))
 

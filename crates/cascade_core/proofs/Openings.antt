@@ -16,7 +16,7 @@ use Rattle.script_running.specs.Ports.{PortsView}
 use Rattle.script_running.proofs.CallLemmas.{kinds_stand}
 use Rattle.cascade_core.specs.Apply.{SendingView, Started, opening, sent_by_all, start_one, started, untold}
 use Rattle.cascade_core.specs.Cascade.{send_replies}
-use Rattle.cascade_core.specs.Course.{Course, Wiring, Scripted, course, ended, node_of, wiring_at, wiring_of, ports_of}
+use Rattle.cascade_core.specs.Course.{CourseView, Wiring, Scripted, course, ended, node_of, wiring_at, wiring_of, ports_of}
 use Rattle.cascade_core.specs.Outputs.{is_scene_output}
 use Rattle.cascade_core.specs.Scripts.{are_begun, scripts_in}
 use Rattle.cascade_core.specs.Settles.{settle}
@@ -143,11 +143,11 @@ module _ (wiring : Wiring) where
   -- ---- what they send is sent
 
   -- no script settles by it
-  pub sent_unsettled : (c : Course) (sendings : List SendingView) → c.settling.settled ≡ [] → (sent_by_all wiring c sendings).settling.settled ≡ []
+  pub sent_unsettled : (c : CourseView) (sendings : List SendingView) → c.settling.settled ≡ [] → (sent_by_all wiring c sendings).settling.settled ≡ []
   sent_unsettled c [] none = none
   sent_unsettled c (x ∷ xs) none =
       sent_unsettled (send_replies wiring x.node c x.replies) xs
-      (replies-of wiring (λ (d : Course). d.settling.settled ≡ []) (λ d s v h p. p) (λ d a p. p) (λ d q p. p) (λ d k call p. p) x.node c x.replies none)
+      (replies-of wiring (λ (d : CourseView). d.settling.settled ≡ []) (λ d s v h p. p) (λ d a p. p) (λ d q p. p) (λ d k call p. p) x.node c x.replies none)
 
 -- ---- the whole of input 0
 
@@ -167,7 +167,7 @@ unfolding opening
 opened-routed g routed = ap (λ (wiring : Wiring). opened-from g.scene wiring (scripts_in g.scene)) (routed-plan g routed)
 
 -- the course behind the initialization of all scripts
-abbrev starts : Live → List SlotView → DueScriptsView → Course
+abbrev starts : Live → List SlotView → DueScriptsView → CourseView
 starts live rs settling = record { live = live; scripts = rs; settling = settling }
 
 -- a world in which nothing has happened, and nothing has sent
@@ -184,7 +184,7 @@ starts-same live scene rs given settling many world unsent e is counted =
     ∙ ap (λ (s : DueScriptsView). starts (record { world = untold scene; sent = [] }) given s) all
 
 -- how input 0 ends
-pub opened_same : (g : RoutedScene) → RunsItsScripts g → (live : Live) (given rs : List SlotView) (settling : DueScriptsView) (many : ℕ) (sendings : List SendingView) (before after : Course) →
+pub opened_same : (g : RoutedScene) → RunsItsScripts g → (live : Live) (given rs : List SlotView) (settling : DueScriptsView) (many : ℕ) (sendings : List SendingView) (before after : CourseView) →
     given ≡ scripts_in g.scene → live.world ≡ untold g.scene → live.sent ≡ [] →
     rs ≡ (started (wiring_at g) given).scripts → settling ≡ unsettled many → many ≡ length given → sendings ≡ (started (wiring_at g) given).sendings →
     before ≡ sent_by_all (wiring_at g) (record { live = live; scripts = rs; settling = settling }) sendings → after ≡ settle (wiring_at g) before →
@@ -193,17 +193,17 @@ opened_same g routed live given rs settling many sendings before after same worl
     let wiring = wiring_at g in
     let all : many ≡ length (started wiring given).scripts = counted ∙ sym (started_many wiring given) in
     ap ended done
-    ∙ ap (λ (c : Course). ended (settle wiring c)) was
-    ∙ ap (λ (c : Course). ended (settle wiring (sent_by_all wiring c sendings))) (starts-same live g.scene rs (started wiring given).scripts settling many world unsent scripts is all)
+    ∙ ap (λ (c : CourseView). ended (settle wiring c)) was
+    ∙ ap (λ (c : CourseView). ended (settle wiring (sent_by_all wiring c sendings))) (starts-same live g.scene rs (started wiring given).scripts settling many world unsent scripts is all)
     ∙ ap (λ (xs : List SendingView). ended (settle wiring (sent_by_all wiring (course (record { world = untold g.scene; sent = [] }) (started wiring given).scripts) xs))) sent
     ∙ ap (λ (xs : List SlotView). opened-from g.scene wiring xs) same
     ∙ opened-routed g routed
 
 -- nothing was settled before
-pub sent_fresh : (wiring : Wiring) (live : Live) (rs : List SlotView) (settling : DueScriptsView) (after : Course) (sendings : List SendingView) (many : ℕ) →
+pub sent_fresh : (wiring : Wiring) (live : Live) (rs : List SlotView) (settling : DueScriptsView) (after : CourseView) (sendings : List SendingView) (many : ℕ) →
     after ≡ sent_by_all wiring (record { live = live; scripts = rs; settling = settling }) sendings → settling ≡ unsettled many → after.settling.settled ≡ []
 sent_fresh wiring live rs settling after sendings many is none =
-    ap (λ (c : Course). c.settling.settled) is ∙ sent_unsettled wiring (record { live = live; scripts = rs; settling = settling }) sendings (ap (λ (s : DueScriptsView). s.settled) none)
+    ap (λ (c : CourseView). c.settling.settled) is ∙ sent_unsettled wiring (record { live = live; scripts = rs; settling = settling }) sendings (ap (λ (s : DueScriptsView). s.settled) none)
 
 -- ---- the scripts of the course
 

@@ -7,7 +7,7 @@ use Rattle.script_host.specs.Hosting.{SlotView}
 use Rattle.script_running.specs.Acting.{kinds_of}
 use Rattle.cascade_core.specs.declared.tasks.CascadeTask.{CascadeTask}
 use Rattle.cascade_world.specs.declared.world.Live.{Live}
-use Rattle.cascade_core.specs.Course.{Course, Wiring, course}
+use Rattle.cascade_core.specs.Course.{CourseView, Wiring, course}
 use Rattle.cascade_core.specs.Resting.{HasSameScripts, IsAtRest, IsWorking}
 use Rattle.cascade_core.specs.Sound.{HasScriptsOf, IsSound}
 use Rattle.cascade_core.specs.declared.routed.RoutedScene.{RoutedScene}
@@ -16,11 +16,11 @@ use Rattle.cascade_core.proofs.SoundLemmas.{has_scripts_still}
 -- ---- the same scripts
 
 -- at one step and at the next
-pub scripts_then : {a b c : Course} → HasSameScripts a b → HasSameScripts b c → HasSameScripts a c
+pub scripts_then : {a b c : CourseView} → HasSameScripts a b → HasSameScripts b c → HasSameScripts a c
 scripts_then first next = record { kinds = next.kinds ∙ first.kinds; count = next.count ∙ first.count }
 
 -- they are those that are run, as they were
-pub has_scripts_then : {wiring : Wiring} {old new : Course} → HasSameScripts old new → HasScriptsOf wiring old → HasScriptsOf wiring new
+pub has_scripts_then : {wiring : Wiring} {old new : CourseView} → HasSameScripts old new → HasScriptsOf wiring old → HasScriptsOf wiring new
 has_scripts_then {wiring} {old} {new} same has_scripts = has_scripts_still wiring old new same.kinds same.count has_scripts
 
 -- as many as there are, before any was settled
@@ -30,9 +30,9 @@ has_scripts_begun wiring live scripts sound = record { sound = sound; counted = 
 -- ---- at rest
 
 -- whatever replies nothing says
-pub rest_said : {routed : RoutedScene} {tasks : List CascadeTask} {replies : List SentEvent} {rows : List BoxRow} {c : Course} → IsAtRest routed tasks replies rows c → IsAtRest routed tasks [] rows c
+pub rest_said : {routed : RoutedScene} {tasks : List CascadeTask} {replies : List SentEvent} {rows : List BoxRow} {c : CourseView} → IsAtRest routed tasks replies rows c → IsAtRest routed tasks [] rows c
 rest_said rest = record { empty = rest.empty; none = refl; boxes = rest.boxes; has_scripts = rest.has_scripts }
 
 -- while tasks are left the next event may be delivered
-pub rest_working : {routed : RoutedScene} {tasks : List CascadeTask} {replies : List SentEvent} {rows : List BoxRow} {c : Course} → IsWorking routed tasks replies rows c → IsAtRest routed [] replies rows c
+pub rest_working : {routed : RoutedScene} {tasks : List CascadeTask} {replies : List SentEvent} {rows : List BoxRow} {c : CourseView} → IsWorking routed tasks replies rows c → IsAtRest routed [] replies rows c
 rest_working working = record { empty = refl; none = working.none; boxes = working.boxes; has_scripts = working.has_scripts }

@@ -7,7 +7,7 @@ use Rattle.std.proofs.lemmas.List.FromFn.{length-range_with_len}
 use Rattle.script_host.specs.Behaviour.{Settle}
 use Rattle.script_running.specs.Acting.{act}
 use Rattle.cascade_core.specs.Stack.{one_unless}
-use Rattle.cascade_core.specs.Course.{Course, Wiring, node_of, ports_of}
+use Rattle.cascade_core.specs.Course.{CourseView, Wiring, node_of, ports_of}
 use Rattle.cascade_core.specs.ScriptLaws.{SettlesAll}
 use Rattle.script_slots.specs.Settling.{all_differ, is_among, is_due, lowest_due, with_settled}
 use Rattle.cascade_core.specs.Settles.{next_due, settle_one, settle_up_to}
@@ -123,10 +123,10 @@ differ-push (j ∷ ks) k d h =
 -- ---- settling
 
 module _ (wiring : Wiring) where
-  abbrev Stands : List ℕ → ℕ → Course → Type 0
+  abbrev Stands : List ℕ → ℕ → CourseView → Type 0
   Stands settled count c = (c.settling.settled ≡ settled) × (c.settling.count ≡ count)
 
-  one-stands : (c : Course) (k : ℕ) → Stands (c.settling.settled ++ k ∷ []) c.settling.count (settle_one wiring c k)
+  one-stands : (c : CourseView) (k : ℕ) → Stands (c.settling.settled ++ k ∷ []) c.settling.count (settle_one wiring c k)
   unfolding settle_one
   one-stands c k =
       let a = act (ports_of wiring k) Settle k c.scripts in
@@ -135,14 +135,14 @@ module _ (wiring : Wiring) where
       (node_of wiring k) (record c { scripts = a.scripts; settling = with_settled c.settling k }) a.replies
       (refl, refl)
 
-  abbrev pub due_left : Course → ℕ
+  abbrev pub due_left : CourseView → ℕ
   due_left c = left (range_with_len 0 c.settling.count) c.settling.settled
 
-  pub one-due : (c : Course) (k : ℕ) → next_due c ≡ Some k → (is_due c.settling k ≡ true) × (is_among (range_with_len 0 c.settling.count) k ≡ true)
+  pub one-due : (c : CourseView) (k : ℕ) → next_due c ≡ Some k → (is_due c.settling k ≡ true) × (is_among (range_with_len 0 c.settling.count) k ≡ true)
   unfolding lowest_due
   one-due c k h = found (is_due c.settling) (range_with_len 0 c.settling.count) k h
 
-  pub one-fewer : (c : Course) (k : ℕ) → next_due c ≡ Some k → due_left (settle_one wiring c k) < due_left c
+  pub one-fewer : (c : CourseView) (k : ℕ) → next_due c ≡ Some k → due_left (settle_one wiring c k) < due_left c
   one-fewer c k h =
       let (due, there) = one-due c k h in
       let (received, unsettled) = both (is_among c.settling.received k) (not (is_among c.settling.settled k)) due in
@@ -150,51 +150,51 @@ module _ (wiring : Wiring) where
       rw (settled, count)
       (left-less (range_with_len 0 c.settling.count) c.settling.settled k there (is-not (is_among c.settling.settled k) unsettled))
 
-  one-differs : (c : Course) (k : ℕ) → next_due c ≡ Some k → all_differ c.settling.settled ≡ true → all_differ (settle_one wiring c k).settling.settled ≡ true
+  one-differs : (c : CourseView) (k : ℕ) → next_due c ≡ Some k → all_differ c.settling.settled ≡ true → all_differ (settle_one wiring c k).settling.settled ≡ true
   one-differs c k h d =
       let (due, there) = one-due c k h in
       let (received, unsettled) = both (is_among c.settling.received k) (not (is_among c.settling.settled k)) due in
       rw (one-stands c k).0 (differ-push c.settling.settled k d (is-not (is_among c.settling.settled k) unsettled))
 
-  abbrev Done : Course → Type 0
+  abbrev Done : CourseView → Type 0
   Done c = (next_due c ≡ None) × (all_differ c.settling.settled ≡ true)
 
-  settle-by : (n : ℕ) → ((c : Course) → due_left c ≤ n → all_differ c.settling.settled ≡ true → Done (settle_up_to wiring n c)) →
-      (c : Course) (due : Option ℕ) → next_due c ≡ due → due_left c ≤ suc n → all_differ c.settling.settled ≡ true → Done (settle_up_to wiring (suc n) c)
+  settle-by : (n : ℕ) → ((c : CourseView) → due_left c ≤ n → all_differ c.settling.settled ≡ true → Done (settle_up_to wiring n c)) →
+      (c : CourseView) (due : Option ℕ) → next_due c ≡ due → due_left c ≤ suc n → all_differ c.settling.settled ≡ true → Done (settle_up_to wiring (suc n) c)
   unfolding settle_up_to
   settle-by n rest c None h few d = rw h (h, d)
   settle-by n rest c (Some k) h few d =
       rw h (rest (settle_one wiring c k) (omega (arith, one-fewer c k h, few)) (one-differs c k h d))
 
-  none-due : (c : Course) → due_left c ≤ 0 → next_due c ≡ None
+  none-due : (c : CourseView) → due_left c ≤ 0 → next_due c ≡ None
   unfolding lowest_due
   none-due c few = settled-all (range_with_len 0 c.settling.count) c.settling.received c.settling.settled few
 
-  settles : (n : ℕ) (c : Course) → due_left c ≤ n → all_differ c.settling.settled ≡ true → Done (settle_up_to wiring n c)
+  settles : (n : ℕ) (c : CourseView) → due_left c ≤ n → all_differ c.settling.settled ≡ true → Done (settle_up_to wiring n c)
   unfolding settle_up_to
   settles zero c few d = (none-due c few, d)
   settles (suc n) c few d = settle-by n (settles n) c (next_due c) refl few d
 
   -- as many steps as there are scripts left to settle are enough
-  settle-by-more : (n m : ℕ) → ((c : Course) → due_left c ≤ n → due_left c ≤ m → settle_up_to wiring n c ≡ settle_up_to wiring m c) →
-      (c : Course) (due : Option ℕ) → next_due c ≡ due → due_left c ≤ suc n → due_left c ≤ suc m → settle_up_to wiring (suc n) c ≡ settle_up_to wiring (suc m) c
+  settle-by-more : (n m : ℕ) → ((c : CourseView) → due_left c ≤ n → due_left c ≤ m → settle_up_to wiring n c ≡ settle_up_to wiring m c) →
+      (c : CourseView) (due : Option ℕ) → next_due c ≡ due → due_left c ≤ suc n → due_left c ≤ suc m → settle_up_to wiring (suc n) c ≡ settle_up_to wiring (suc m) c
   unfolding settle_up_to
   settle-by-more n m same c None h few less = rw h refl
   settle-by-more n m same c (Some k) h few less =
       rw h (same (settle_one wiring c k) (omega (arith, one-fewer c k h, few)) (omega (arith, one-fewer c k h, less)))
 
-  pub settle-end : (n : ℕ) (c : Course) → next_due c ≡ None → settle_up_to wiring n c ≡ c
+  pub settle-end : (n : ℕ) (c : CourseView) → next_due c ≡ None → settle_up_to wiring n c ≡ c
   unfolding settle_up_to
   settle-end zero c h = refl
   settle-end (suc n) c h = rw h refl
 
-  settle-more : (n m : ℕ) (c : Course) → due_left c ≤ n → due_left c ≤ m → settle_up_to wiring n c ≡ settle_up_to wiring m c
+  settle-more : (n m : ℕ) (c : CourseView) → due_left c ≤ n → due_left c ≤ m → settle_up_to wiring n c ≡ settle_up_to wiring m c
   settle-more zero m c few less = settle-end zero c (none-due c few) ∙ sym (settle-end m c (none-due c few))
   settle-more (suc n) zero c few less = settle-end (suc n) c (none-due c less) ∙ sym (settle-end zero c (none-due c less))
   settle-more (suc n) (suc m) c few less = settle-by-more n m (settle-more n m) c (next_due c) refl few less
 
   -- one settles, and then the rest
-  pub settle-step : (n : ℕ) (c : Course) (k : ℕ) → next_due c ≡ Some k → due_left c ≤ n → settle_up_to wiring n c ≡ settle_up_to wiring n (settle_one wiring c k)
+  pub settle-step : (n : ℕ) (c : CourseView) (k : ℕ) → next_due c ≡ Some k → due_left c ≤ n → settle_up_to wiring n c ≡ settle_up_to wiring n (settle_one wiring c k)
   unfolding settle_up_to
   settle-step zero c k h few = absurd (omega (arith, one-fewer c k h, few))
   settle-step (suc n) c k h few =
@@ -202,7 +202,7 @@ module _ (wiring : Wiring) where
       let first : settle_up_to wiring (suc n) c ≡ settle_up_to wiring n (settle_one wiring c k) = rw h refl in
       first ∙ settle-more n (suc n) (settle_one wiring c k) less (omega (arith, less))
 
-  pub due_left-most : (c : Course) → due_left c ≤ c.settling.count
+  pub due_left-most : (c : CourseView) → due_left c ≤ c.settling.count
   due_left-most c = omega (arith, left-le (range_with_len 0 c.settling.count) c.settling.settled, length-range_with_len 0 c.settling.count)
 
   -- a script that is due is one of those that are counted
@@ -214,7 +214,7 @@ module _ (wiring : Wiring) where
       cases true is m rest = let same : a ≡ k = eqb-true a k is in omega arith
       cases false is m rest = omega (arith, rest m)
 
-  pub due-below : (c : Course) (k : ℕ) → next_due c ≡ Some k → k < c.settling.count
+  pub due-below : (c : CourseView) (k : ℕ) → next_due c ≡ Some k → k < c.settling.count
   due-below c k h = omega (arith, among-range 0 c.settling.count k (one-due c k h).1)
 
 pub settles_all : SettlesAll

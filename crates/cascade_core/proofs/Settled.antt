@@ -11,40 +11,40 @@ use Rattle.script_slots.specs.Settling.{with_settled}
 use Rattle.cascade_world.specs.Answers.{NodeAnswer, with_answer}
 use Rattle.cascade_core.specs.Apply.{SendingView, after_input, happen, sent_by_all, with_button}
 use Rattle.cascade_core.specs.Cascade.{recorded, send_replies}
-use Rattle.cascade_core.specs.Course.{Course, Wiring, node_of, ports_of, with_live}
+use Rattle.cascade_core.specs.Course.{CourseView, Wiring, node_of, ports_of, with_live}
 use Rattle.cascade_trace.specs.Ends.{has_sent}
 use Rattle.cascade_core.specs.Settles.{next_due, settle, settle_one, settle_up_to}
 use Rattle.cascade_core.proofs.Keeping.{called, happen-of, replies-of}
 
-module _ (wiring : Wiring) (P : Course → Type 0)
-    (records : (c : Course) (source : End) (v : Value) → has_sent c.live.sent source ≡ false → P c → P (recorded c source v))
-    (answers : (c : Course) (a : NodeAnswer) → P c → P (with_live c (with_answer c.live a)))
-    (buttons : (c : Course) (p : PointerView) → P c → P (with_live c (with_button c.live p)))
-    (calls : (c : Course) (k : ℕ) (call : Call) → P c → P (called wiring k call c))
-    (settles : (c : Course) (k : ℕ) → P c → P (record c { scripts = (act (ports_of wiring k) Settle k c.scripts).scripts; settling = with_settled c.settling k })) where
-  one-of : (c : Course) (k : ℕ) → P c → P (settle_one wiring c k)
+module _ (wiring : Wiring) (P : CourseView → Type 0)
+    (records : (c : CourseView) (source : End) (v : Value) → has_sent c.live.sent source ≡ false → P c → P (recorded c source v))
+    (answers : (c : CourseView) (a : NodeAnswer) → P c → P (with_live c (with_answer c.live a)))
+    (buttons : (c : CourseView) (p : PointerView) → P c → P (with_live c (with_button c.live p)))
+    (calls : (c : CourseView) (k : ℕ) (call : Call) → P c → P (called wiring k call c))
+    (settles : (c : CourseView) (k : ℕ) → P c → P (record c { scripts = (act (ports_of wiring k) Settle k c.scripts).scripts; settling = with_settled c.settling k })) where
+  one-of : (c : CourseView) (k : ℕ) → P c → P (settle_one wiring c k)
   unfolding settle_one
   one-of c k p =
       let a = act (ports_of wiring k) Settle k c.scripts in
       replies-of wiring P records answers buttons calls (node_of wiring k) (record c { scripts = a.scripts; settling = with_settled c.settling k }) a.replies (settles c k p)
 
-  by-of : (n : ℕ) → ((c : Course) → P c → P (settle_up_to wiring n c)) → (c : Course) (due : Option ℕ) → next_due c ≡ due → P c → P (settle_up_to wiring (suc n) c)
+  by-of : (n : ℕ) → ((c : CourseView) → P c → P (settle_up_to wiring n c)) → (c : CourseView) (due : Option ℕ) → next_due c ≡ due → P c → P (settle_up_to wiring (suc n) c)
   unfolding settle_up_to
   by-of n keeps c None h p = rw h p
   by-of n keeps c (Some k) h p = rw h (keeps (settle_one wiring c k) (one-of c k p))
 
-  up_to-of : (n : ℕ) (c : Course) → P c → P (settle_up_to wiring n c)
+  up_to-of : (n : ℕ) (c : CourseView) → P c → P (settle_up_to wiring n c)
   unfolding settle_up_to
   up_to-of zero c p = p
   up_to-of (suc n) c p = by-of n (up_to-of n) c (next_due c) refl p
 
-  pub settle-of : (c : Course) → P c → P (settle wiring c)
+  pub settle-of : (c : CourseView) → P c → P (settle wiring c)
   settle-of c p = up_to-of c.settling.count c p
 
-  pub input-of : (scene : SceneView) (c : Course) (input : StampedView) → P c → P (after_input scene wiring c input)
+  pub input-of : (scene : SceneView) (c : CourseView) (input : StampedView) → P c → P (after_input scene wiring c input)
   input-of scene c input p =
       settle-of (happen scene wiring input.time c input.cause) (happen-of wiring P records answers buttons calls scene input.time c input.cause p)
 
-  pub sent-of : (c : Course) (sendings : List SendingView) → P c → P (sent_by_all wiring c sendings)
+  pub sent-of : (c : CourseView) (sendings : List SendingView) → P c → P (sent_by_all wiring c sendings)
   sent-of c [] p = p
   sent-of c (x ∷ xs) p = sent-of (send_replies wiring x.node c x.replies) xs (replies-of wiring P records answers buttons calls x.node c x.replies p)

@@ -8,31 +8,31 @@ use Rattle.cascade_world.specs.Pointer.{untracked}
 use Rattle.cascade_world.specs.declared.aim.Concerned.{Concerned}
 use Rattle.cascade_core.specs.Apply.{point_node, tick_node}
 use Rattle.cascade_core.specs.Cascade.{send_replies}
-use Rattle.cascade_core.specs.Course.{Course, Wiring, with_live}
+use Rattle.cascade_core.specs.Course.{CourseView, Wiring, with_live}
 use Rattle.cascade_core.specs.Walks.{over_block, untracked_by, where_passes}
 use Rattle.cascade_core.proofs.Walks.{block_still, passed-still}
 
 -- what a node answers is sent
-abbrev answering : Wiring → Course → ℕ → NodeAnswer → Course
+abbrev answering : Wiring → CourseView → ℕ → NodeAnswer → CourseView
 answering wiring c node a = send_replies wiring node (with_live c (with_answer c.live a)) a.replies
 
-pub idle-course : (wiring : Wiring) (now : ℤ) (c : Course) (node : ℕ) → ticked c.live.world node now ≡ nothing c.live.world → c ≡ tick_node wiring now c node
+pub idle-course : (wiring : Wiring) (now : ℤ) (c : CourseView) (node : ℕ) → ticked c.live.world node now ≡ nothing c.live.world → c ≡ tick_node wiring now c node
 unfolding tick_node
 idle-course wiring now c node h = sym (ap (answering wiring c node) h)
 
-pub passed-course : (scene : SceneView) (wiring : Wiring) (p : PointerView) (before : Bool) (is : Insides) (c : Course) (x : Concerned) →
+pub passed-course : (scene : SceneView) (wiring : Wiring) (p : PointerView) (before : Bool) (is : Insides) (c : CourseView) (x : Concerned) →
     met scene c.live.world x.sensor (pointer_at p before is x.tracked x.sensor) ≡ nothing c.live.world → c ≡ point_node scene wiring p before is c x
 unfolding point_node
 passed-course scene wiring p before is c x h = sym (ap (answering wiring c x.sensor) h)
 
 -- so is a block of nodes where nothing happens
-pub idle-block : (p : ℕ → Bool) (wiring : Wiring) (now : ℤ) (c : Course) (block count : ℕ) → ((node : ℕ) → node / 32 ≡ block → ticked c.live.world node now ≡ nothing c.live.world) →
+pub idle-block : (p : ℕ → Bool) (wiring : Wiring) (now : ℤ) (c : CourseView) (block count : ℕ) → ((node : ℕ) → node / 32 ≡ block → ticked c.live.world node now ≡ nothing c.live.world) →
     c ≡ over_block (where_passes p (tick_node wiring now)) c block count
 idle-block p wiring now c block count h =
     block_still (where_passes p (tick_node wiring now)) c block count
     (λ i within. passed-still (p i) (tick_node wiring now c i) c (idle-course wiring now c i (h i within)))
 
-pub passed-block : (q : ℕ → Bool) (scene : SceneView) (wiring : Wiring) (p : PointerView) (before : Bool) (is : Insides) (c : Course) (block count : ℕ) →
+pub passed-block : (q : ℕ → Bool) (scene : SceneView) (wiring : Wiring) (p : PointerView) (before : Bool) (is : Insides) (c : CourseView) (block count : ℕ) →
     ((sensor : ℕ) → sensor / 32 ≡ block → met scene c.live.world sensor (pointer_at p before is None sensor) ≡ nothing c.live.world) →
     c ≡ over_block (where_passes q (untracked_by (point_node scene wiring p before is))) c block count
 passed-block q scene wiring p before is c block count h =

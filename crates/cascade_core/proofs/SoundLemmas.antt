@@ -18,7 +18,7 @@ use Rattle.script_host.proofs.OutputLemmas.{sends_by_outputs}
 use Rattle.script_running.specs.Acting.{act, acting, call_of, kinds_of}
 use Rattle.script_running.specs.Ports.{PortsView, reply_of}
 use Rattle.script_running.proofs.CallLemmas.{kinds_stand}
-use Rattle.cascade_core.specs.Course.{Course, Wiring, node_of, ports_of, script_of}
+use Rattle.cascade_core.specs.Course.{CourseView, Wiring, node_of, ports_of, script_of}
 use Rattle.cascade_core.specs.Scripts.{script_from}
 use Rattle.cascade_core.specs.Outputs.{is_scene_output}
 use Rattle.cascade_core.specs.Cascade.{Arrival, arrival, reached, reached_by}
@@ -99,7 +99,7 @@ module _ (wiring : Wiring) where
 
   -- ---- what an event comes to
 
-  arrived : (c : Course) (target : End) (v : Value) (at : Arrival) → arrival wiring c target v ≡ Some at → script_of wiring target.node ≡ Some at.number
+  arrived : (c : CourseView) (target : End) (v : Value) (at : Arrival) → arrival wiring c target v ≡ Some at → script_of wiring target.node ≡ Some at.number
   arrived c target v at h = by-script (script_of wiring target.node) refl h
     where
       by-call : (k : ℕ) (call : Option Call) → option_map (λ call. record { number = k; call = call }) call ≡ Some at → k ≡ at.number
@@ -112,7 +112,7 @@ module _ (wiring : Wiring) where
       by-script None is m = cc
       by-script (Some k) is m = ap Some (by-call k (call_of (ports_of wiring k) k target.field v c.scripts) m)
 
-  pub reached-sends : (c : Course) (target : End) (v : Value) → IsSound wiring (kinds_of c.scripts) → AllOutputs wiring.shapes target.node (reached wiring c target v).replies
+  pub reached-sends : (c : CourseView) (target : End) (v : Value) → IsSound wiring (kinds_of c.scripts) → AllOutputs wiring.shapes target.node (reached wiring c target v).replies
   unfolding reached
   reached-sends c target v sound = by-arrival (arrival wiring c target v) refl
     where
@@ -123,7 +123,7 @@ module _ (wiring : Wiring) where
           rw here at (act-sends c.scripts sound at.number at.call)
 
   -- no output has sent more
-  pub reached-sent : (c : Course) (target : End) (v : Value) → (reached wiring c target v).course.live.sent ≡ c.live.sent
+  pub reached-sent : (c : CourseView) (target : End) (v : Value) → (reached wiring c target v).course.live.sent ≡ c.live.sent
   unfolding reached
   reached-sent c target v = by-arrival (arrival wiring c target v)
     where
@@ -131,7 +131,7 @@ module _ (wiring : Wiring) where
       by-arrival None = refl
       by-arrival (Some at) = refl
 
-  pub reached-kinds : (c : Course) (target : End) (v : Value) → kinds_of (reached wiring c target v).course.scripts ≡ kinds_of c.scripts
+  pub reached-kinds : (c : CourseView) (target : End) (v : Value) → kinds_of (reached wiring c target v).course.scripts ≡ kinds_of c.scripts
   unfolding reached
   reached-kinds c target v = by-arrival (arrival wiring c target v)
     where
@@ -142,14 +142,14 @@ module _ (wiring : Wiring) where
 -- ---- the scripts of a course
 
 -- what keeps the kinds and the count keeps the scripts that the wiring runs
-pub has_scripts_still : (wiring : Wiring) (old new : Course) → kinds_of new.scripts ≡ kinds_of old.scripts → new.settling.count ≡ old.settling.count → HasScriptsOf wiring old → HasScriptsOf wiring new
+pub has_scripts_still : (wiring : Wiring) (old new : CourseView) → kinds_of new.scripts ≡ kinds_of old.scripts → new.settling.count ≡ old.settling.count → HasScriptsOf wiring old → HasScriptsOf wiring new
 has_scripts_still wiring old new kinds count has_scripts = record {
   sound = rw kinds has_scripts.sound;
   counted = count ∙ has_scripts.counted ∙ ap length (sym kinds);
 }
 
-pub has_scripts-many : (wiring : Wiring) (c : Course) → HasScriptsOf wiring c → length wiring.runs ≡ length c.scripts
+pub has_scripts-many : (wiring : Wiring) (c : CourseView) → HasScriptsOf wiring c → length wiring.runs ≡ length c.scripts
 has_scripts-many wiring c has_scripts = has_scripts.sound.many ∙ length-map c.scripts (λ (r : SlotView). r.kind)
 
-pub has_scripts-counted : (wiring : Wiring) (c : Course) → HasScriptsOf wiring c → c.settling.count ≡ length c.scripts
+pub has_scripts-counted : (wiring : Wiring) (c : CourseView) → HasScriptsOf wiring c → c.settling.count ≡ length c.scripts
 has_scripts-counted wiring c has_scripts = has_scripts.counted ∙ length-map c.scripts (λ (r : SlotView). r.kind)

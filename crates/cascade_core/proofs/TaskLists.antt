@@ -9,7 +9,7 @@ use Rattle.x3d_values.specs.declared.script.Kind.{Kind}
 use Rattle.script_host.specs.Behaviour.{Call}
 use Rattle.script_host.specs.Hosting.{SlotView}
 use Rattle.script_running.specs.Acting.{act, kinds_of}
-use Rattle.cascade_core.specs.Course.{Course, Wiring, node_of, ports_of}
+use Rattle.cascade_core.specs.Course.{CourseView, Wiring, node_of, ports_of}
 use Rattle.cascade_core.specs.Cascade.{deliver, reached, recorded, send_all, send_full}
 use Rattle.cascade_core.specs.Sound.{IsSound}
 use Rattle.sensor_plane.specs.declared.meeting.SensorPointer.{SensorPointer}
@@ -48,73 +48,73 @@ reversed node replies tasks = rw (reverse-append, map-reverse, reverse-reverse) 
 
 module _ (wiring : Wiring) where
   -- the last task is done first
-  pub finish-push : (c : Course) (tasks : List CascadeTask) (task : CascadeTask) → finish wiring c (tasks ++ task ∷ []) ≡ finish wiring (do_task wiring c task) tasks
+  pub finish-push : (c : CourseView) (tasks : List CascadeTask) (task : CascadeTask) → finish wiring c (tasks ++ task ∷ []) ≡ finish wiring (do_task wiring c task) tasks
   unfolding finish
   finish-push c tasks task = ap (fold (do_task wiring) c) (reverse-push tasks task)
 
-  sends-done : (node : ℕ) (replies : List SentEvent) (c : Course) → fold (do_task wiring) c (map (send_by node) replies) ≡ send_all (send_full wiring) node c replies
+  sends-done : (node : ℕ) (replies : List SentEvent) (c : CourseView) → fold (do_task wiring) c (map (send_by node) replies) ≡ send_all (send_full wiring) node c replies
   sends-done node [] c = refl
   sends-done node (r ∷ replies) c = sends-done node replies (send_full wiring c (record { node = node; field = r.field }) r.value)
 
   -- replies that are pushed last to first are sent first to last
-  pub finish-replies : (node : ℕ) (replies : List SentEvent) (c : Course) (tasks : List CascadeTask) →
+  pub finish-replies : (node : ℕ) (replies : List SentEvent) (c : CourseView) (tasks : List CascadeTask) →
       finish wiring c (tasks ++ map (send_by node) (reverse replies)) ≡ finish wiring (send_all (send_full wiring) node c replies) tasks
   unfolding finish
   finish-replies node replies c tasks =
       ap (fold (do_task wiring) c) (reversed node replies tasks)
       ∙ fold-append (do_task wiring) c (map (send_by node) replies) (reverse tasks)
-      ∙ ap (λ (t : Course). fold (do_task wiring) t (reverse tasks)) (sends-done node replies c)
+      ∙ ap (λ (t : CourseView). fold (do_task wiring) t (reverse tasks)) (sends-done node replies c)
 
-  pub begin-done : (kinds : List Kind) → IsSound wiring kinds → (c : Course) (source : End) (v : Value) (tasks : List CascadeTask) → is_scene_output wiring.shapes source ≡ true → kinds_of c.scripts ≡ kinds →
+  pub begin-done : (kinds : List Kind) → IsSound wiring kinds → (c : CourseView) (source : End) (v : Value) (tasks : List CascadeTask) → is_scene_output wiring.shapes source ≡ true → kinds_of c.scripts ≡ kinds →
       has_sent c.live.sent source ≡ false → finish wiring (recorded c source v) (tasks ++ Follow source v 0 ∷ []) ≡ finish wiring (send_full wiring c source v) tasks
   begin-done kinds sound c source v tasks o of h =
       finish-push (recorded c source v) tasks (Follow source v 0)
-      ∙ ap (λ (t : Course). finish wiring t tasks) (sym (send_full-new wiring kinds sound c source v o of h))
+      ∙ ap (λ (t : CourseView). finish wiring t tasks) (sym (send_full-new wiring kinds sound c source v o of h))
 
   -- no route is left
-  pub follow-none : (c : Course) (source : End) (v : Value) (next : ℕ) → slice_get (targets_of wiring.routes source) next ≡ None → do_task wiring c (Follow source v next) ≡ c
+  pub follow-none : (c : CourseView) (source : End) (v : Value) (next : ℕ) → slice_get (targets_of wiring.routes source) next ≡ None → do_task wiring c (Follow source v next) ≡ c
   follow-none c source v next h = rw (drop-none (targets_of wiring.routes source) next h) refl
 
   -- the next route is followed, and the rest are left
-  pub follow-one : (c : Course) (source : End) (v : Value) (next : ℕ) (target : End) (tasks : List CascadeTask) → slice_get (targets_of wiring.routes source) next ≡ Some target →
+  pub follow-one : (c : CourseView) (source : End) (v : Value) (next : ℕ) (target : End) (tasks : List CascadeTask) → slice_get (targets_of wiring.routes source) next ≡ Some target →
       finish wiring (deliver (send_full wiring) wiring v c target) (tasks ++ Follow source v (next + 1) ∷ []) ≡ finish wiring (do_task wiring c (Follow source v next)) tasks
   follow-one c source v next target tasks h =
       finish-push (deliver (send_full wiring) wiring v c target) tasks (Follow source v (next + 1))
       ∙ ap (λ (targets : List End). finish wiring (fold (deliver (send_full wiring) wiring v) c targets) tasks) (sym (drop-some (targets_of wiring.routes source) next target h))
 
-  pub finish-one : (c : Course) (source : End) (v : Value) → finish wiring c (Send source v ∷ []) ≡ send_full wiring c source v
+  pub finish-one : (c : CourseView) (source : End) (v : Value) → finish wiring c (Send source v ∷ []) ≡ send_full wiring c source v
   unfolding finish
   finish-one c source v = refl
 
-  pub finish-none : (c : Course) → finish wiring c [] ≡ c
+  pub finish-none : (c : CourseView) → finish wiring c [] ≡ c
   unfolding finish
   finish-none c = refl
 
   -- replies alone
-  pub finish-all : (node : ℕ) (replies : List SentEvent) (c : Course) → finish wiring c (map (send_by node) (reverse replies)) ≡ send_all (send_full wiring) node c replies
+  pub finish-all : (node : ℕ) (replies : List SentEvent) (c : CourseView) → finish wiring c (map (send_by node) (reverse replies)) ≡ send_all (send_full wiring) node c replies
   finish-all node replies c = finish-replies node replies c [] ∙ finish-none (send_all (send_full wiring) node c replies)
 
-  pub reached-done : (c : Course) (target : End) (v : Value) (tasks : List CascadeTask) →
+  pub reached-done : (c : CourseView) (target : End) (v : Value) (tasks : List CascadeTask) →
       finish wiring (reached wiring c target v).course (tasks ++ map (send_by target.node) (reverse (reached wiring c target v).replies))
       ≡ finish wiring (deliver (send_full wiring) wiring v c target) tasks
   unfolding deliver
   reached-done c target v tasks =
       let r = reached wiring c target v in finish-replies target.node r.replies r.course tasks
 
-  pub follow-done : (c : Course) (source : End) (v : Value) (next : ℕ) (target : End) (tasks : List CascadeTask) → slice_get (targets_of wiring.routes source) next ≡ Some target →
+  pub follow-done : (c : CourseView) (source : End) (v : Value) (next : ℕ) (target : End) (tasks : List CascadeTask) → slice_get (targets_of wiring.routes source) next ≡ Some target →
       finish wiring (reached wiring c target v).course ((tasks ++ Follow source v (next + 1) ∷ []) ++ map (send_by target.node) (reverse (reached wiring c target v).replies))
       ≡ finish wiring (do_task wiring c (Follow source v next)) tasks
   follow-done c source v next target tasks h =
       reached-done c target v (tasks ++ Follow source v (next + 1) ∷ []) ∙ follow-one c source v next target tasks h
 
   -- the last route is followed, and no other is left
-  pub last-done : (c : Course) (source : End) (v : Value) (next : ℕ) (target : End) (tasks : List CascadeTask) → slice_get (targets_of wiring.routes source) next ≡ Some target →
+  pub last-done : (c : CourseView) (source : End) (v : Value) (next : ℕ) (target : End) (tasks : List CascadeTask) → slice_get (targets_of wiring.routes source) next ≡ Some target →
       slice_get (targets_of wiring.routes source) (next + 1) ≡ None →
       finish wiring (reached wiring c target v).course (tasks ++ map (send_by target.node) (reverse (reached wiring c target v).replies)) ≡ finish wiring (do_task wiring c (Follow source v next)) tasks
   last-done c source v next target tasks h last =
-      let after : Course = deliver (send_full wiring) wiring v c target in
+      let after : CourseView = deliver (send_full wiring) wiring v c target in
       reached-done c target v tasks
-      ∙ ap (λ (t : Course). finish wiring t tasks) (sym (follow-none after source v (next + 1) last))
+      ∙ ap (λ (t : CourseView). finish wiring t tasks) (sym (follow-none after source v (next + 1) last))
       ∙ sym (finish-push after tasks (Follow source v (next + 1)))
       ∙ follow-one c source v next target tasks h
 
@@ -132,19 +132,19 @@ module _ (wiring : Wiring) where
   unfolding weights
   weights-one task = omega arith
 
-  pub work-push : (c : Course) (tasks : List CascadeTask) (task : CascadeTask) → work_left wiring c (tasks ++ task ∷ []) ≡ work_left wiring c tasks + weight wiring.routes task
+  pub work-push : (c : CourseView) (tasks : List CascadeTask) (task : CascadeTask) → work_left wiring c (tasks ++ task ∷ []) ≡ work_left wiring c tasks + weight wiring.routes task
   unfolding work_left
   work-push c tasks task = omega (arith, weights-append tasks (task ∷ []), weights-one task)
 
-  pub begin-fewer : (c : Course) (source : End) (v : Value) (tasks : List CascadeTask) → is_scene_output wiring.shapes source ≡ true → has_sent c.live.sent source ≡ false →
+  pub begin-fewer : (c : CourseView) (source : End) (v : Value) (tasks : List CascadeTask) → is_scene_output wiring.shapes source ≡ true → has_sent c.live.sent source ≡ false →
       work_left wiring (recorded c source v) (tasks ++ Follow source v 0 ∷ []) + 1 ≤ work_left wiring c tasks + 1
   unfolding work_left
   begin-fewer c source v tasks o h =
-      let after : Course = recorded c source v in
+      let after : CourseView = recorded c source v in
       let less : unsent wiring.shapes after.live + 1 ≤ unsent wiring.shapes c.live = omega (arith, unsent-less (ends_from 0 wiring.shapes) c.live.sent source o h) in
       omega (arith, weights-append tasks (Follow source v 0 ∷ []), weights-one (Follow source v 0), mul-le-mul_right (6 * length wiring.routes + 2) less)
 
-  pub follow-fewer : (c : Course) (target source : End) (v : Value) (next node : ℕ) (replies : List SentEvent) (tasks : List CascadeTask) → length replies ≤ 5 → next < length wiring.routes →
+  pub follow-fewer : (c : CourseView) (target source : End) (v : Value) (next node : ℕ) (replies : List SentEvent) (tasks : List CascadeTask) → length replies ≤ 5 → next < length wiring.routes →
       work_left wiring (reached wiring c target v).course ((tasks ++ Follow source v (next + 1) ∷ []) ++ map (send_by node) (reverse replies)) + 1
       ≤ work_left wiring c tasks + weight wiring.routes (Follow source v next)
   unfolding work_left
@@ -159,7 +159,7 @@ module _ (wiring : Wiring) where
         length-reverse replies,
       ))
 
-  pub last-fewer : (c : Course) (target source : End) (v : Value) (next node : ℕ) (replies : List SentEvent) (tasks : List CascadeTask) → length replies ≤ 5 → next < length wiring.routes →
+  pub last-fewer : (c : CourseView) (target source : End) (v : Value) (next node : ℕ) (replies : List SentEvent) (tasks : List CascadeTask) → length replies ≤ 5 → next < length wiring.routes →
       work_left wiring (reached wiring c target v).course (tasks ++ map (send_by node) (reverse replies)) + 1
       ≤ work_left wiring c tasks + weight wiring.routes (Follow source v next)
   unfolding work_left
@@ -214,7 +214,7 @@ act-ready wiring scripts sound k call =
     (all-reverse (λ (r : SentEvent). is_scene_output wiring.shapes (record { node = node_of wiring k; field = r.field }) ≡ true) rs (act-sends wiring scripts sound k call))
 
 -- the replies of a target are sent by outputs
-pub reached-ready : (wiring : Wiring) (c : Course) (target : End) (v : Value) (tasks : List CascadeTask) → IsSound wiring (kinds_of c.scripts) → AllByRecursion (IsReady wiring.shapes) tasks →
+pub reached-ready : (wiring : Wiring) (c : CourseView) (target : End) (v : Value) (tasks : List CascadeTask) → IsSound wiring (kinds_of c.scripts) → AllByRecursion (IsReady wiring.shapes) tasks →
     AllByRecursion (IsReady wiring.shapes) (tasks ++ map (send_by target.node) (reverse (reached wiring c target v).replies))
 reached-ready wiring c target v tasks sound p =
     let rs = (reached wiring c target v).replies in

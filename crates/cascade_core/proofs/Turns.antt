@@ -4,7 +4,7 @@ use Rattle.x3d_values.specs.Stamp.{StampedView}
 use Rattle.scene_core.specs.declared.scene.Route.{Route}
 use Rattle.scene_core.specs.Scene.{SceneView}
 use Rattle.cascade_core.specs.Apply.{apply, begun, opening, opening_course, started}
-use Rattle.cascade_core.specs.Course.{Course, Wiring, Scripted, wiring_of}
+use Rattle.cascade_core.specs.Course.{CourseView, Wiring, Scripted, wiring_of}
 use Rattle.cascade_core.specs.Scripts.{scripts_in}
 use Rattle.cascade_core.specs.Held.{Running, refusal_in, world_refusal}
 use Rattle.cascade_core.specs.InOrder.{Follow}
@@ -12,7 +12,7 @@ use Rattle.cascade_core.proofs.Settled.{input-of, sent-of, settle-of}
 
 module _ (number : ℕ) (time : ℤ) where
   -- the world has had this many inputs, the last at this time
-  abbrev IsAt : Course → Type 0
+  abbrev IsAt : CourseView → Type 0
   IsAt c = (c.live.world.applied ≡ number) × (c.live.world.last_time ≡ time)
 
 pub apply-at : (scene : SceneView) (routes : List Route) (w : Scripted) (input : StampedView) →
@@ -27,7 +27,7 @@ unfolding opening
 opening-at scene routes =
     let wiring : Wiring = wiring_of scene routes in
     let s = started wiring (scripts_in scene) in
-    let c : Course = opening_course scene s.scripts in
+    let c : CourseView = opening_course scene s.scripts in
     settle-of wiring (IsAt 0 (pos 0)) (λ c s v h p. p) (λ c a p. p) (λ c q p. p) (λ c k call p. p) (λ c k p. p) _
     (sent-of wiring (IsAt 0 (pos 0)) (λ c s v h p. p) (λ c a p. p) (λ c q p. p) (λ c k call p. p) (λ c k p. p) c s.sendings (refl, refl))
 

@@ -18,7 +18,7 @@ use Rattle.script_running.specs.Acting.{act}
 use Rattle.cascade_world.specs.Answers.{met, pointer_at, ticked, with_answer}
 use Rattle.cascade_world.specs.Insides.{Insides, insides}
 use Rattle.cascade_core.specs.Cascade.{send_replies}
-use Rattle.cascade_core.specs.Course.{Course, Wiring, Scripted, course, ended, node_of, wiring_of, ports_of, with_live}
+use Rattle.cascade_core.specs.Course.{CourseView, Wiring, Scripted, course, ended, node_of, wiring_of, ports_of, with_live}
 use Rattle.cascade_world.specs.Nodes.{clocks_of}
 use Rattle.cascade_world.specs.Pointer.{concerned, is_down}
 use Rattle.cascade_core.specs.Scripts.{kinds_in, running, scripts_in}
@@ -30,14 +30,14 @@ pub use Rattle.cascade_world.specs.World.{begin, with_button}
 -- ---- an input
 
 -- a time sensor ticks, and the events that it sends are followed
-unfoldable pub tick_node : Wiring → ℤ → Course → ℕ → Course
+unfoldable pub tick_node : Wiring → ℤ → CourseView → ℕ → CourseView
 tick_node wiring now c node =
     let t = ticked c.live.world node now in
     send_replies wiring node (with_live c (with_answer c.live t)) t.replies
 
 -- a pointing sensor gets a viewer's pointer, and the events that it sends are followed
-unfoldable pub point_node : SceneView → Wiring → PointerView → Bool → Insides → Course → Concerned
-    → Course
+unfoldable pub point_node : SceneView → Wiring → PointerView → Bool → Insides → CourseView → Concerned
+    → CourseView
 point_node scene wiring p before is c x =
     let a = met scene c.live.world x.sensor (pointer_at p before is x.tracked x.sensor) in
     send_replies wiring x.sensor (with_live c (with_answer c.live a)) a.replies
@@ -45,7 +45,7 @@ point_node scene wiring p before is c x =
 -- a viewer points: where its ray hits, which sensors the hit is inside of, which sensors the viewer
 -- presses, where its ray meets the planes of its drags, and whether its button was down are fixed
 -- first; then each sensor that is concerned gets the pointer in turn
-unfoldable pub point : SceneView → Wiring → Course → PointerView → Course
+unfoldable pub point : SceneView → Wiring → CourseView → PointerView → CourseView
 point scene wiring c p =
     let is = insides scene c.live.world.fields p.ray in
     let before = is_down c.live.world p.who in
@@ -53,20 +53,20 @@ point scene wiring c p =
     (concerned scene c.live.world p)
 
 -- each time sensor ticks in turn, or a viewer points
-abbrev pub happen : SceneView → Wiring → ℤ → Course → Cause → Course
+abbrev pub happen : SceneView → Wiring → ℤ → CourseView → Cause → CourseView
 happen scene wiring now c Clock = fold (tick_node wiring now) c (clocks_of (types_of scene))
 happen scene wiring now c (Pointer p) = point scene wiring c p
 
 -- an input comes to a world: no script has received an event yet
-abbrev pub begun : SceneView → Scripted → StampedView → Course
+abbrev pub begun : SceneView → Scripted → StampedView → CourseView
 begun scene w input = course (begin w.world input) (running (kinds_in scene) w.states)
 
 -- the cause of the input goes to the nodes that it concerns, and then scripts settle
-abbrev pub after_input : SceneView → Wiring → Course → StampedView → Course
+abbrev pub after_input : SceneView → Wiring → CourseView → StampedView → CourseView
 after_input scene wiring c input = settle wiring (happen scene wiring input.time c input.cause)
 
 -- the course of an input at its end
-abbrev pub course_after : SceneView → List Route → Scripted → StampedView → Course
+abbrev pub course_after : SceneView → List Route → Scripted → StampedView → CourseView
 course_after scene routes w input =
     after_input scene (wiring_of scene routes) (begun scene w input) input
 
@@ -119,12 +119,12 @@ started wiring scripts =
     (range_with_len 0 (length scripts))
 
 -- the replies are sent in that order
-abbrev pub sent_by_all : Wiring → Course → List SendingView → Course
+abbrev pub sent_by_all : Wiring → CourseView → List SendingView → CourseView
 sent_by_all wiring c sendings =
     fold (λ c (x : SendingView). send_replies wiring x.node c x.replies) c sendings
 
 -- the course of input 0, at time 0, after the initialization of all scripts
-abbrev pub opening_course : SceneView → List SlotView → Course
+abbrev pub opening_course : SceneView → List SlotView → CourseView
 opening_course scene scripts = course (record { world = untold scene; sent = [] }) scripts
 
 -- the world of a scene before any other input: the result of input 0

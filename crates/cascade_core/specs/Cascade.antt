@@ -14,10 +14,10 @@ use Rattle.cascade_world.specs.Answers.{answer, with_answer}
 use Rattle.cascade_trace.specs.Ends.{has_sent, targets_of}
 use Rattle.cascade_core.specs.Outputs.{outputs_of}
 use Rattle.cascade_world.specs.World.{record_event}
-use Rattle.cascade_core.specs.Course.{Course, Wiring, ports_of, script_of, with_live}
+use Rattle.cascade_core.specs.Course.{CourseView, Wiring, ports_of, script_of, with_live}
 
 -- the replies of a node, one after another, each sent on by `go`
-abbrev pub send_all : (Course → End → Value → Course) → ℕ → Course → List SentEvent → Course
+abbrev pub send_all : (CourseView → End → Value → CourseView) → ℕ → CourseView → List SentEvent → CourseView
 send_all go node c replies =
     fold (λ t reply. go t (record { node = node; field = reply.field }) reply.value) c replies
 
@@ -27,7 +27,7 @@ pub record Arrival : Type 0 where
   pub call : Call
 
 -- the call that an event causes, if its target is an input of a script that takes the value
-abbrev pub arrival : Wiring → Course → End → Value → Option Arrival
+abbrev pub arrival : Wiring → CourseView → End → Value → Option Arrival
 arrival wiring c target v =
     option_and_then
     (λ k. option_map (λ call. record { number = k; call = call })
@@ -36,11 +36,11 @@ arrival wiring c target v =
 
 -- the result of an event at its target: the course, and the events that the target's node sends
 pub record Reacted : Type 0 where
-  pub course : Course
+  pub course : CourseView
   pub replies : List SentEvent
 
 -- a script is called, and has received an event
-abbrev pub called_at : Wiring → Course → Arrival → Reacted
+abbrev pub called_at : Wiring → CourseView → Arrival → Reacted
 called_at wiring c at =
     let a = act (ports_of wiring at.number) at.call at.number c.scripts in
     record {
@@ -49,34 +49,34 @@ called_at wiring c at =
     }
 
 -- nothing happens if no script receives the event
-abbrev pub received_by : Wiring → Course → Option Arrival → Reacted
+abbrev pub received_by : Wiring → CourseView → Option Arrival → Reacted
 received_by wiring c (Some at) = called_at wiring c at
 received_by wiring c None = record { course = c; replies = [] }
 
 -- a target that isn't a script answers
-abbrev pub answered_at : Wiring → Course → End → Value → Reacted
+abbrev pub answered_at : Wiring → CourseView → End → Value → Reacted
 answered_at wiring c target v =
     let a = answer wiring.shapes c.live.world target v
     in record { course = with_live c (with_answer c.live a); replies = a.replies }
 
-abbrev pub reached_by : Wiring → Course → End → Value → Option Arrival → Reacted
+abbrev pub reached_by : Wiring → CourseView → End → Value → Option Arrival → Reacted
 reached_by wiring c target v (Some at) = called_at wiring c at
 reached_by wiring c target v None = answered_at wiring c target v
 
-unfoldable pub reached : Wiring → Course → End → Value → Reacted
+unfoldable pub reached : Wiring → CourseView → End → Value → Reacted
 reached wiring c target v = reached_by wiring c target v (arrival wiring c target v)
 
 -- the target is reached, and each reply of its node is sent on
-unfoldable pub deliver : (Course → End → Value → Course) → Wiring → Value → Course → End → Course
+unfoldable pub deliver : (CourseView → End → Value → CourseView) → Wiring → Value → CourseView → End → CourseView
 deliver go wiring v c target =
     let r = reached wiring c target v in send_all go target.node r.course r.replies
 
-abbrev pub recorded : Course → End → Value → Course
+abbrev pub recorded : CourseView → End → Value → CourseView
 recorded c source v = with_live c (record_event c.live source v)
 
 -- an event is sent by an output, unless the output has sent before: it is recorded, and follows
 -- each route to its end
-unfoldable pub send : Wiring → ℕ → Course → End → Value → Course
+unfoldable pub send : Wiring → ℕ → CourseView → End → Value → CourseView
 send wiring zero c source v = c
 send wiring (suc depth) c source v =
     if has_sent c.live.sent source
@@ -85,9 +85,9 @@ send wiring (suc depth) c source v =
     (targets_of wiring.routes source)
 
 -- an event is sent with all its consequences
-abbrev pub send_full : Wiring → Course → End → Value → Course
+abbrev pub send_full : Wiring → CourseView → End → Value → CourseView
 send_full wiring = send wiring (outputs_of wiring.shapes + 1)
 
 -- the replies of a node are sent with all their consequences
-abbrev pub send_replies : Wiring → ℕ → Course → List SentEvent → Course
+abbrev pub send_replies : Wiring → ℕ → CourseView → List SentEvent → CourseView
 send_replies wiring node c replies = send_all (send_full wiring) node c replies

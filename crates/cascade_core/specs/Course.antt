@@ -40,24 +40,24 @@ wiring_at g = record { shapes = shapes_of g.scene; routes = g.routes; runs = g.r
 
 -- a world in the course of an input, and which of its scripts have received an event and which were
 -- settled
-pub record Course : Type 0 where
+pub record CourseView : Type 0 where
   pub live : Live
   pub scripts : List SlotView
   pub settling : DueScriptsView
 
 -- the course as the code holds it, whatever its boxes are
-abbrev pub seen : {X : Type 0} → lent.Course X → Course
+abbrev pub seen : {X : Type 0} → lent.Course X → CourseView
 seen c = record { live = c.live; scripts = c.scripts; settling = c.settling }
 
-abbrev pub with_live : Course → Live → Course
+abbrev pub with_live : CourseView → Live → CourseView
 with_live c live = record c { live = live }
 
 -- an input begins: no script has received an event, and none is settled
-abbrev pub course : Live → List SlotView → Course
+abbrev pub course : Live → List SlotView → CourseView
 course live scripts =
     record { live = live; scripts = scripts; settling = unsettled (length scripts) }
 
-abbrev pub ended : Course → Scripted
+abbrev pub ended : CourseView → Scripted
 ended c = record { world = c.live.world; states = states_of c.scripts }
 
 -- ---- the scripts of nodes

@@ -8,7 +8,7 @@ use Rattle.script_slots.specs.Settling.{all_differ}
 use Rattle.script_host.specs.Hosting.{SlotView}
 use Rattle.script_running.specs.Acting.{kinds_of}
 use Rattle.cascade_core.specs.Apply.{after_input, world}
-use Rattle.cascade_core.specs.Course.{Course, Wiring}
+use Rattle.cascade_core.specs.Course.{CourseView, Wiring}
 use Rattle.cascade_core.specs.Held.{Held, is_spoiled}
 use Rattle.cascade_core.specs.Installing.{RefusesBox}
 use Rattle.cascade_core.specs.Scripts.{kinds_in}
@@ -18,7 +18,7 @@ use Rattle.cascade_core.specs.declared.fault.PlaceFault.TheVariants.{Memory}
 
 -- no input changes the kind of a script or the number of scripts
 abbrev pub KindsStand : Type 0
-KindsStand = (scene : SceneView) (wiring : Wiring) (c : Course) (input : StampedView)
+KindsStand = (scene : SceneView) (wiring : Wiring) (c : CourseView) (input : StampedView)
     → kinds_of (after_input scene wiring c input).scripts ≡ kinds_of c.scripts
 
 -- a world has a state for each script of its scene
@@ -28,7 +28,7 @@ StatesStand = (scene : SceneView) (routes : List Route) (inputs : List StampedVi
 
 -- settling leaves no script due, and settles each script at most once
 abbrev pub SettlesAll : Type 0
-SettlesAll = (wiring : Wiring) (c : Course) → c.settling.settled ≡ []
+SettlesAll = (wiring : Wiring) (c : CourseView) → c.settling.settled ≡ []
     → (next_due (settle wiring c) ≡ None) × (all_differ (settle wiring c).settling.settled ≡ true)
 
 -- a stage that isn't spoiled refuses a box for at most one reason, unless memory runs out; if it

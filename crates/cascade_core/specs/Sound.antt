@@ -8,7 +8,7 @@ use Rattle.script_running.specs.Runs.{runs_of}
 use Rattle.script_host.specs.Interface.{outputs}
 use Rattle.script_running.specs.Acting.{kinds_of}
 use Rattle.cascade_core.specs.Apply.{SendingView}
-use Rattle.cascade_core.specs.Course.{Course, Wiring, node_of, ports_of}
+use Rattle.cascade_core.specs.Course.{CourseView, Wiring, node_of, ports_of}
 use Rattle.cascade_core.specs.declared.routed.RoutedScene.{RoutedScene}
 use Rattle.cascade_core.specs.Outputs.{is_scene_output}
 
@@ -35,6 +35,6 @@ abbrev pub RunsItsScripts : RoutedScene → Type 0
 RunsItsScripts g = g.runs ≡ runs_of g.scene
 
 -- the scripts of a course are those that the wiring runs, and no others are counted
-pub record HasScriptsOf (wiring : Wiring) (c : Course) : Type 0 where
+pub record HasScriptsOf (wiring : Wiring) (c : CourseView) : Type 0 where
   pub sound : IsSound wiring (kinds_of c.scripts)
   pub counted : c.settling.count ≡ length (kinds_of c.scripts)

@@ -4,7 +4,7 @@ use Rattle.std.specs.List.{fold}
 use Rattle.scene_core.specs.declared.scene.End.{End}
 use Rattle.scene_core.specs.declared.scene.Route.{Route}
 use Rattle.scene_core.specs.Shape.{Shape}
-use Rattle.cascade_core.specs.Course.{Course, Wiring}
+use Rattle.cascade_core.specs.Course.{CourseView, Wiring}
 use Rattle.cascade_trace.specs.Ends.{has_sent, targets_of}
 use Rattle.cascade_core.specs.Outputs.{is_scene_output, ends_from}
 use Rattle.cascade_core.specs.Cascade.{deliver, send_full}
@@ -13,13 +13,13 @@ use Rattle.cascade_core.specs.declared.tasks.CascadeTask.TheVariants.{Send, Foll
 use Rattle.cascade_world.specs.declared.world.Live.{Live}
 
 -- the effect of a task, by the definition of the cascade
-abbrev pub do_task : Wiring → Course → CascadeTask → Course
+abbrev pub do_task : Wiring → CourseView → CascadeTask → CourseView
 do_task wiring c (Send source v) = send_full wiring c source v
 do_task wiring c (Follow source v next) =
     fold (deliver (send_full wiring) wiring v) c (drop next (targets_of wiring.routes source))
 
 -- the effect of the tasks, from the last to the first
-unfoldable pub finish : Wiring → Course → List CascadeTask → Course
+unfoldable pub finish : Wiring → CourseView → List CascadeTask → CourseView
 finish wiring c tasks = fold (do_task wiring) c (reverse tasks)
 
 -- only outputs of the scene send
@@ -52,6 +52,6 @@ abbrev pub unsent : List Shape → Live → ℕ
 unsent shapes live = unsent_among (ends_from 0 shapes) live.sent
 
 -- a bound on the remaining tasks
-unfoldable pub work_left : Wiring → Course → List CascadeTask → ℕ
+unfoldable pub work_left : Wiring → CourseView → List CascadeTask → ℕ
 work_left wiring c tasks =
     unsent wiring.shapes c.live * (6 * length wiring.routes + 2) + weights wiring.routes tasks

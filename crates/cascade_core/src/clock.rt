@@ -46,7 +46,7 @@ fn tick_node<B: Behaviour>(
 }
 
 /// Lets the node of that number tick, if it is a TimeSensor.
-fn tick_any<B: Behaviour>(
+fn tick_at<B: Behaviour>(
     routed: &RoutedScene,
     tasks: &mut Vec<CascadeTask>,
     course: &mut Course<B>,
@@ -71,7 +71,7 @@ fn tick_any<B: Behaviour>(
 }
 
 /// Lets each TimeSensor from node `start` to before `end` tick in turn.
-fn tick_all<B: Behaviour>(
+fn tick_range<B: Behaviour>(
     routed: &RoutedScene,
     tasks: &mut Vec<CascadeTask>,
     course: &mut Course<B>,
@@ -92,7 +92,7 @@ fn tick_all<B: Behaviour>(
     ensures scripts { HasSameScripts (seen course.old) (seen course.new) }
 {
     for node in start..end {
-        tick_any(routed, tasks, course, replies, boxes, node, input)?;
+        tick_at(routed, tasks, course, replies, boxes, node, input)?;
     }
     Ok(())
 }
@@ -124,7 +124,7 @@ fn tick_block<B: Behaviour>(
     }
     let start = block * BLOCK;
     let many = (count - start).min(BLOCK);
-    tick_all(
+    tick_range(
         routed,
         tasks,
         course,

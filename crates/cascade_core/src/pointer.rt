@@ -56,7 +56,7 @@ fn point_node<B: Behaviour>(
 }
 
 /// Hands a pointer to each of these sensors in turn.
-fn point_all<B: Behaviour>(
+fn point_listed<B: Behaviour>(
     routed: &RoutedScene,
     sensors: &[Concerned],
     tasks: &mut Vec<CascadeTask>,
@@ -83,7 +83,7 @@ fn point_all<B: Behaviour>(
 }
 
 /// Hands a pointer to the node of that number, if it is a pointing sensor.
-fn point_any<B: Behaviour>(
+fn point_at<B: Behaviour>(
     routed: &RoutedScene,
     tasks: &mut Vec<CascadeTask>,
     course: &mut Course<B>,
@@ -113,7 +113,7 @@ fn point_any<B: Behaviour>(
 }
 
 /// Hands a pointer to each pointing sensor from node `start` to before `end`, in turn.
-fn point_some<B: Behaviour>(
+fn point_range<B: Behaviour>(
     routed: &RoutedScene,
     tasks: &mut Vec<CascadeTask>,
     course: &mut Course<B>,
@@ -135,7 +135,7 @@ fn point_some<B: Behaviour>(
     ensures scripts { HasSameScripts (seen course.old) (seen course.new) }
 {
     for node in start..end {
-        point_any(routed, tasks, course, replies, boxes, node, aim)?;
+        point_at(routed, tasks, course, replies, boxes, node, aim)?;
     }
     Ok(())
 }
@@ -168,7 +168,7 @@ fn point_block<B: Behaviour>(
     }
     let start = block * BLOCK;
     let many = (count - start).min(BLOCK);
-    point_some(
+    point_range(
         routed,
         tasks,
         course,
@@ -183,7 +183,7 @@ fn point_block<B: Behaviour>(
 }
 
 /// Hands a pointer to each pointing sensor in turn.
-fn point_each<B: Behaviour>(
+fn point_all<B: Behaviour>(
     routed: &RoutedScene,
     tasks: &mut Vec<CascadeTask>,
     course: &mut Course<B>,
@@ -241,8 +241,8 @@ fn point_concerned<B: Behaviour>(
     ensures scripts { HasSameScripts (seen course.old) (seen course.new) }
 {
     match pressed {
-        [] => point_each(routed, tasks, course, boxes, aim),
-        _ => point_all(routed, pressed, tasks, course, boxes, aim),
+        [] => point_all(routed, tasks, course, boxes, aim),
+        _ => point_listed(routed, pressed, tasks, course, boxes, aim),
     }
 }
 

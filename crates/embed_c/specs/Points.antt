@@ -41,5 +41,5 @@ kind_of number =
     else None
 
 -- what a viewer points at, with the button down or not
-abbrev pub point_of : Bool → Aim → Point
-point_of down aim = record { down = down; origin = origin_of aim; dir = direction_of aim }
+abbrev pub aimed_point : Bool → Aim → Point
+aimed_point down aim = record { down = down; origin = origin_of aim; dir = direction_of aim }

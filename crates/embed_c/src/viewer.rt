@@ -11,7 +11,7 @@ ghost use Rattle.embed_world.specs.declared.viewer.EmbeddedViewer.{EmbeddedViewe
 ghost use Rattle.embed_world.specs.Status.{Asks, CallsOut, HandsOut, no_packet};
 ghost use Rattle.embed_c.specs.NodeAnswers.{ViewerOpens, ViewerOpensIf};
 ghost use Rattle.embed_world.specs.PeerStatus.{number_by, status_by, status_of_offer, status_of_take, taken_by};
-ghost use Rattle.embed_c.specs.Points.{point_of};
+ghost use Rattle.embed_c.specs.Points.{aimed_point};
 
 use crate::inputs::{Aim, direction_of, origin_of};
 use crate::open::refuse;
@@ -179,8 +179,8 @@ pub extern "C" fn x3d_viewer_take(
 }
 
 /// Returns the point that the viewer points at.
-fn point_of(down: bool, aim: &Aim) -> Point
-    ensures { result ≡ point_of down aim.now }
+fn aimed_point(down: bool, aim: &Aim) -> Point
+    ensures { result ≡ aimed_point down aim.now }
 {
     Point {
         down,
@@ -212,11 +212,11 @@ pub extern "C" fn x3d_viewer_offer(
     aim: &Aim,
     number: &mut u32,
 ) -> u8
-    ensures { CallsOut (λ (v : Embedded). viewers.Offers v (point_of down aim.now))
+    ensures { CallsOut (λ (v : Embedded). viewers.Offers v (aimed_point down aim.now))
         (status_by status_of_offer) number_by handle.old.viewer result handle.new.viewer
         number.old number.new }
 {
-    let point = point_of(down, aim);
+    let point = aimed_point(down, aim);
     offer(alloc, handle, point, number)
 }
 

@@ -20,7 +20,7 @@ use Rattle.laws_worlds.specs.Calls.{call_fits}
 use Rattle.laws_worlds.specs.Nodes.{RunsAll, runs}
 use Rattle.laws_worlds.proofs.Running.{runs_by}
 use Rattle.cascade_core.specs.Cascade.{Arrival, arrival}
-use Rattle.cascade_core.specs.Course.{Course, Wiring, node_of, ports_of, script_of}
+use Rattle.cascade_core.specs.Course.{CourseView, Wiring, node_of, ports_of, script_of}
 use Rattle.cascade_core.specs.Scripts.{kinds_in, script_for}
 use Rattle.cascade_core.proofs.SoundLemmas.{script-node}
 
@@ -98,7 +98,7 @@ called scripts ports k field v call h r here =
     taken r.kind ports field v call
     (subst (λ (o : Option SlotView). option_and_then (λ (x : SlotView). call_at x.kind ports field v) o ≡ Some call) here h)
 
-pub arrives : (wiring : Wiring) (c : Course) (target : End) (v : Value) (at : Arrival) → arrival wiring c target v ≡ Some at → Arrives wiring c.scripts target at
+pub arrives : (wiring : Wiring) (c : CourseView) (target : End) (v : Value) (at : Arrival) → arrival wiring c target v ≡ Some at → Arrives wiring c.scripts target at
 arrives wiring c target v at h = by_script (script_of wiring target.node) refl h
   where
     numbered : ℕ → Call → Arrival

@@ -15,7 +15,7 @@ use Rattle.x3d_values.specs.Ranges.{coordinates_fit}
 use Rattle.scene_core.specs.Scene.{SceneView, type_at}
 use Rattle.snapshot_codec.specs.Values.{is_within, vector3}
 use Rattle.pick_core.specs.Boxes.{boxes}
-use Rattle.pick_core.specs.Local.{reached, point_of, quotient, back_along, moved_back, entered, entered_by, or_own, local_along, or_world, local_of}
+use Rattle.pick_core.specs.Local.{reached, point_along, quotient, back_along, moved_back, entered, entered_by, or_own, local_along, or_world, local_of}
 use Rattle.pick_core.specs.Looks.{kind_as, kind_of, motion_of}
 use Rattle.pick_core.specs.Motion.{clamped}
 use Rattle.pick_core.specs.Picked.{picked}
@@ -45,8 +45,8 @@ clamped_fits z = high_fits z (int_lt (pos 1000000000000000) z) refl
 abbrev pub InRange : Vec3 → Type 0
 InRange p = vector3.fits p ≡ true
 
-ray_fits : (ray : RayView) (n m : ℕ) → InRange (point_of ray n m)
-unfolding point_of reached vector3
+ray_fits : (ray : RayView) (n m : ℕ) → InRange (point_along ray n m)
+unfolding point_along reached vector3
 ray_fits ray n m =
     and_true _ _ (clamped_fits (ray.origin.x +ℤ int_div_euclid (pos n *ℤ ray.dir.x) (pos m)))
     (and_true _ _ (clamped_fits (ray.origin.y +ℤ int_div_euclid (pos n *ℤ ray.dir.y) (pos m))) (clamped_fits (ray.origin.z +ℤ int_div_euclid (pos n *ℤ ray.dir.z) (pos m))))
@@ -99,8 +99,8 @@ or_fits (Some p) world f g = f
 local_fits : (scene : SceneView) (state : List Fields) (hit : Hit) (ray : RayView) (sensor : ℕ) → InRange (local_of scene state hit ray sensor)
 unfolding local_of
 local_fits scene state hit ray sensor =
-    or_fits (local_along scene state sensor None hit.path (point_of ray hit.n hit.m)) (point_of ray hit.n hit.m)
-    (along_fits scene state sensor hit.path None (point_of ray hit.n hit.m) (ray_fits ray hit.n hit.m)) (ray_fits ray hit.n hit.m)
+    or_fits (local_along scene state sensor None hit.path (point_along ray hit.n hit.m)) (point_along ray hit.n hit.m)
+    (along_fits scene state sensor hit.path None (point_along ray hit.n hit.m) (ray_fits ray hit.n hit.m)) (ray_fits ray hit.n hit.m)
 
 -- ---- the sensors that a ray is inside of
 

@@ -12,7 +12,7 @@ use Rattle.scene_core.specs.declared.scene.Route.{Route}
 use Rattle.laws_worlds.specs.Nodes.{RunsAll}
 use Rattle.cascade_world.specs.Answers.{answer, met, pointer_at, ticked}
 use Rattle.cascade_core.specs.Apply.{after_input, apply, begin, begun, untold}
-use Rattle.cascade_core.specs.Course.{Course, Scripted, wiring_of}
+use Rattle.cascade_core.specs.Course.{CourseView, Scripted, wiring_of}
 use Rattle.cascade_trace.specs.Ends.{has_sent, targets_of}
 use Rattle.cascade_core.specs.Outputs.{ends_from, is_scene_output, outputs_of}
 use Rattle.cascade_world.specs.Insides.{insides}
@@ -77,14 +77,14 @@ pub sends_few : InputsSendFew
 unfolding apply
 sends_few scene routes w input all =
     let start : List TraceLine = w.world.trace in
-    let c : Course = after_input scene (wiring_of scene routes) (begun scene w input) input in
+    let c : CourseView = after_input scene (wiring_of scene routes) (begun scene w input) input in
     let h = input_keeps scene routes (IsFew (shapes_of scene) start) (AreAmong scene) (λ source v. IsOutput scene source) (λ target v. Unit {0}) (sending scene routes all start) w input
     (event_keeps scene routes all start input input.cause) (begins (shapes_of scene) (begin w.world input) refl) (running_among scene w.states) in
     few_lines (shapes_of scene) start c.live h.live
 
 pub opening_few : OpeningsSendFew
 opening_few scene routes all =
-    let c : Course = first_course scene routes in
+    let c : CourseView = first_course scene routes in
     let h = opening_keeps scene routes (IsFew (shapes_of scene) []) (AreAmong scene) (λ source v. IsOutput scene source) (λ target v. Unit {0}) (sending scene routes all [])
     (begins (shapes_of scene) (record { world = untold scene; sent = [] }) refl) (all_among scene) in
     let few : length c.live.world.trace ≤ outputs_of (shapes_of scene) = omega (arith, few_lines (shapes_of scene) [] c.live h.live) in

@@ -23,7 +23,7 @@ use Rattle.scene_core.specs.Scene.{SceneView, shape_of, shapes_of, types_of}
 use Rattle.scene_core.specs.Shape.{Shape, rows_of, declared_entry, most_declared, numbered_fields, shape_by}
 use Rattle.cascade_world.specs.Answers.{answer, met, pointer_at, ticked}
 use Rattle.cascade_core.specs.Apply.{after_input, apply, begun, with_button}
-use Rattle.cascade_core.specs.Course.{Course, Scripted, ended, wiring_of}
+use Rattle.cascade_core.specs.Course.{CourseView, Scripted, ended, wiring_of}
 use Rattle.cascade_world.specs.Insides.{Insides, insides}
 use Rattle.cascade_world.specs.Nodes.{is_clock, is_sensor}
 use Rattle.cascade_world.specs.Pointer.{tracked_at}
@@ -138,7 +138,7 @@ module _ (scene : SceneView) (routes : List Route) (staged : IsStaged scene rout
   event_fits now m (Pointer p) v = (button_fits p, meet_fits p v)
 
   -- the world that a course ends with
-  ended_fits : (c : Course) → Holds (Fit scene) (InStates scene) c → ScriptedFits scene (ended c)
+  ended_fits : (c : CourseView) → Holds (Fit scene) (InStates scene) c → ScriptedFits scene (ended c)
   ended_fits c h = record { world = h.live.world; paths = h.live.paths; states = states_are (scripts_in scene) c.scripts h.scripts.kinds h.scripts.states }
 
 moment_of : (t : ℤ) → is_input_time t ≡ true → is_moment t ≡ true
@@ -163,7 +163,7 @@ all_steps_fit scene routes w input staged is f =
 
 pub all_openings_fit : OpeningsFit
 all_openings_fit scene routes staged world starts =
-    let c : Course = first_course scene routes in
+    let c : CourseView = first_course scene routes in
     subst (λ (w : Scripted). ScriptedFits scene w) (sym (opening_is scene routes))
     (ended_fits scene routes staged c
     (opening_keeps scene routes (Fit scene) (InStates scene) (Leaves (shapes_of scene)) (Comes (shapes_of scene)) (fitting scene routes staged)

@@ -21,7 +21,7 @@ use Rattle.laws_worlds.specs.Calls.{call_fits}
 use Rattle.cascade_world.specs.Answers.{NodeAnswer, answer, met, pointer_at, ticked, with_answer}
 use Rattle.cascade_core.specs.Apply.{SendingView, Started, after_input, begin, begun, happen, opening, opening_course, point, point_node, sent_by_all, start_one, started, tick_node, untold, with_button}
 use Rattle.cascade_core.specs.Cascade.{Arrival, arrival, deliver, reached, reached_by, recorded, send, send_all, send_replies}
-use Rattle.cascade_core.specs.Course.{Course, Wiring, Scripted, ended, node_of, wiring_of, ports_of, with_live}
+use Rattle.cascade_core.specs.Course.{CourseView, Wiring, Scripted, ended, node_of, wiring_of, ports_of, with_live}
 use Rattle.cascade_trace.specs.Ends.{has_sent, targets_of}
 use Rattle.cascade_world.specs.Insides.{insides}
 use Rattle.cascade_world.specs.Nodes.{clocks_of, is_clock, is_of, is_sensor, numbers_of, pointing_sensors_of}
@@ -63,7 +63,7 @@ pub record Rules (scene : SceneView) (routes : List Route) (T : Live → Type 0)
       → ActKeeps S Q (node_of (wiring_of scene routes) k) (act (ports_of (wiring_of scene routes) k) call k scripts)
 
 -- both hold of a course
-pub record Holds (T : Live → Type 0) (S : List SlotView → Type 0) (c : Course) : Type 0 where
+pub record Holds (T : Live → Type 0) (S : List SlotView → Type 0) (c : CourseView) : Type 0 where
   pub live : T c.live
   pub scripts : S c.scripts
 
@@ -143,7 +143,7 @@ all_push P [] x a p = (p, tt)
 all_push P (y ∷ xs) x a p = (a.0, all_push P xs x a.1 p)
 
 -- the course of input 0
-abbrev pub first_course : SceneView → List Route → Course
+abbrev pub first_course : SceneView → List Route → CourseView
 first_course scene routes =
     let s = started (wiring_of scene routes) (scripts_in scene) in
     settle (wiring_of scene routes) (sent_by_all (wiring_of scene routes) (opening_course scene s.scripts) s.sendings)
@@ -152,23 +152,23 @@ module _ (scene : SceneView) (routes : List Route) (T : Live → Type 0) (S : Li
   abbrev wiring : Wiring
   wiring = wiring_of scene routes
 
-  abbrev P : Course → Type 0
+  abbrev P : CourseView → Type 0
   P c = Holds T S c
 
-  abbrev Goes : (Course → End → Value → Course) → Type 0
-  Goes go = (c : Course) (source : End) (v : Value) → Q source v → P c → P (go c source v)
+  abbrev Goes : (CourseView → End → Value → CourseView) → Type 0
+  Goes go = (c : CourseView) (source : End) (v : Value) → Q source v → P c → P (go c source v)
 
   -- ---- a cascade
 
-  all_sent : (go : Course → End → Value → Course) → Goes go → (node : ℕ) (c : Course) (replies : List SentEvent) → AllSent Q node replies → P c → P (send_all go node c replies)
+  all_sent : (go : CourseView → End → Value → CourseView) → Goes go → (node : ℕ) (c : CourseView) (replies : List SentEvent) → AllSent Q node replies → P c → P (send_all go node c replies)
   all_sent go keeps node c replies a p =
-      fold-keeps P (λ (r : SentEvent). Q (record { node = node; field = r.field }) r.value) (λ (t : Course) (r : SentEvent). go t (record { node = node; field = r.field }) r.value)
+      fold-keeps P (λ (r : SentEvent). Q (record { node = node; field = r.field }) r.value) (λ (t : CourseView) (r : SentEvent). go t (record { node = node; field = r.field }) r.value)
       (λ t r q k. keeps t (record { node = node; field = r.field }) r.value q k) c replies a p
 
-  abbrev Reaches : Course → End → Value → Option Arrival → Type 0
+  abbrev Reaches : CourseView → End → Value → Option Arrival → Type 0
   Reaches c target v at = P (reached_by wiring c target v at).course × AllSent Q target.node (reached_by wiring c target v at).replies
 
-  reaches : (c : Course) (target : End) (v : Value) → R target v → P c → (at : Option Arrival) → arrival wiring c target v ≡ at → Reaches c target v at
+  reaches : (c : CourseView) (target : End) (v : Value) → R target v → P c → (at : Option Arrival) → arrival wiring c target v ≡ at → Reaches c target v at
   reaches c target v come p None h =
       let g = rules.answers c.live target v come p.live in
       (record { live = g.0; scripts = p.scripts }, g.1)
@@ -177,14 +177,14 @@ module _ (scene : SceneView) (routes : List Route) (T : Live → Type 0) (S : Li
       let g = rules.calls c.scripts at.number at.call a.fits p.scripts in
       (record { live = p.live; scripts = g.0 }, subst (λ (n : ℕ). AllSent Q n (act (ports_of wiring at.number) at.call at.number c.scripts).replies) a.node g.1)
 
-  delivers : (go : Course → End → Value → Course) → Goes go → (v : Value) (c : Course) (target : End) → R target v → P c → P (deliver go wiring v c target)
+  delivers : (go : CourseView → End → Value → CourseView) → Goes go → (v : Value) (c : CourseView) (target : End) → R target v → P c → P (deliver go wiring v c target)
   unfolding deliver reached
   delivers go keeps v c target come p =
       let at : Option Arrival = arrival wiring c target v in
       let g = reaches c target v come p at refl in
       all_sent go keeps target.node (reached_by wiring c target v at).course (reached_by wiring c target v at).replies g.1 g.0
 
-  deeper : (depth : ℕ) → Goes (send wiring depth) → (c : Course) (source : End) (v : Value) → Q source v → P c → (b : Bool) → has_sent c.live.sent source ≡ b → P (send wiring (suc depth) c source v)
+  deeper : (depth : ℕ) → Goes (send wiring depth) → (c : CourseView) (source : End) (v : Value) → Q source v → P c → (b : Bool) → has_sent c.live.sent source ≡ b → P (send wiring (suc depth) c source v)
   unfolding send
   deeper depth keeps c source v q p true e = rw e p
   deeper depth keeps c source v q p false e =
@@ -196,25 +196,25 @@ module _ (scene : SceneView) (routes : List Route) (T : Live → Type 0) (S : Li
   sends zero c source v q p = p
   sends (suc depth) c source v q p = deeper depth (sends depth) c source v q p (has_sent c.live.sent source) refl
 
-  replies_keep : (node : ℕ) (c : Course) (replies : List SentEvent) → AllSent Q node replies → P c → P (send_replies wiring node c replies)
+  replies_keep : (node : ℕ) (c : CourseView) (replies : List SentEvent) → AllSent Q node replies → P c → P (send_replies wiring node c replies)
   replies_keep node c replies a p = all_sent (send wiring (outputs_of (shapes_of scene) + 1)) (sends (outputs_of (shapes_of scene) + 1)) node c replies a p
 
   -- ---- an input
 
-  answered_keeps : (node : ℕ) (c : Course) (a : NodeAnswer) → AnswerKeeps T Q node c.live a → P c → P (send_replies wiring node (with_live c (with_answer c.live a)) a.replies)
+  answered_keeps : (node : ℕ) (c : CourseView) (a : NodeAnswer) → AnswerKeeps T Q node c.live a → P c → P (send_replies wiring node (with_live c (with_answer c.live a)) a.replies)
   answered_keeps node c a g p = replies_keep node (with_live c (with_answer c.live a)) a.replies g.1 (record { live = g.0; scripts = p.scripts })
 
-  ticks : (now : ℤ) → TickKeeps scene T Q now → (c : Course) (node : ℕ) → is_clock (types_of scene) node ≡ true → P c → P (tick_node wiring now c node)
+  ticks : (now : ℤ) → TickKeeps scene T Q now → (c : CourseView) (node : ℕ) → is_clock (types_of scene) node ≡ true → P c → P (tick_node wiring now c node)
   unfolding tick_node
   ticks now keeps c node is p = answered_keeps node c (ticked c.live.world node now) (keeps c.live node is p.live) p
 
-  meets : (p : PointerView) → PointKeeps scene T Q p → (first : Live) (before : Bool) (c : Course) (x : Concerned) → T first → Aims scene first.world p x → P c
+  meets : (p : PointerView) → PointKeeps scene T Q p → (first : Live) (before : Bool) (c : CourseView) (x : Concerned) → T first → Aims scene first.world p x → P c
       → P (point_node scene wiring p before (insides scene first.world.fields p.ray) c x)
   unfolding point_node
   meets p keeps first before c x t aims k =
       answered_keeps x.sensor c (met scene c.live.world x.sensor (pointer_at p before (insides scene first.world.fields p.ray) x.tracked x.sensor)) (keeps first before c.live x t aims k.live) k
 
-  points : (p : PointerView) → ((live : Live) → T live → T (with_button live p)) → PointKeeps scene T Q p → (c : Course) → P c → P (point scene wiring c p)
+  points : (p : PointerView) → ((live : Live) → T live → T (with_button live p)) → PointKeeps scene T Q p → (c : CourseView) → P c → P (point scene wiring c p)
   unfolding point
   points p buttons keeps c k =
       let before : Bool = is_down c.live.world p.who in
@@ -222,26 +222,26 @@ module _ (scene : SceneView) (routes : List Route) (T : Live → Type 0) (S : Li
       (λ d x aims h. meets p keeps c.live before d x k.live aims h) (with_live c (with_button c.live p)) (concerned scene c.live.world p)
       (all_concerned scene c.live.world p) (record { live = buttons c.live k.live; scripts = k.scripts })
 
-  happens : (now : ℤ) (cause : Cause) → EventKeeps scene T Q now cause → (c : Course) → P c → P (happen scene wiring now c cause)
+  happens : (now : ℤ) (cause : Cause) → EventKeeps scene T Q now cause → (c : CourseView) → P c → P (happen scene wiring now c cause)
   happens now Clock keeps c p =
       fold-keeps P (λ (n : ℕ). is_clock (types_of scene) n ≡ true) (tick_node wiring now) (λ d n is h. ticks now keeps d n is h) c (clocks_of (types_of scene)) (all_of is_time_sensor (types_of scene)) p
   happens now (Pointer p) keeps c k = points p keeps.0 keeps.1 c k
 
   -- ---- scripts settle
 
-  settles_one : (c : Course) (k : ℕ) → P c → P (settle_one wiring c k)
+  settles_one : (c : CourseView) (k : ℕ) → P c → P (settle_one wiring c k)
   unfolding settle_one
   settles_one c k p =
       let a : Acted = act (ports_of wiring k) Settle k c.scripts in
       let g = rules.calls c.scripts k Settle (λ r h. refl) p.scripts in
       replies_keep (node_of wiring k) (record c { scripts = a.scripts; settling = with_settled c.settling k }) a.replies g.1 (record { live = p.live; scripts = g.0 })
 
-  settles_by : (n : ℕ) → ((c : Course) → P c → P (settle_up_to wiring n c)) → (c : Course) (due : Option ℕ) → next_due c ≡ due → P c → P (settle_up_to wiring (suc n) c)
+  settles_by : (n : ℕ) → ((c : CourseView) → P c → P (settle_up_to wiring n c)) → (c : CourseView) (due : Option ℕ) → next_due c ≡ due → P c → P (settle_up_to wiring (suc n) c)
   unfolding settle_up_to
   settles_by n keeps c None h p = rw h p
   settles_by n keeps c (Some k) h p = rw h (keeps (settle_one wiring c k) (settles_one c k p))
 
-  settles : (n : ℕ) (c : Course) → P c → P (settle_up_to wiring n c)
+  settles : (n : ℕ) (c : CourseView) → P c → P (settle_up_to wiring n c)
   unfolding settle_up_to
   settles zero c p = p
   settles (suc n) c p = settles_by n (settles n) c (next_due c) refl p
@@ -250,7 +250,7 @@ module _ (scene : SceneView) (routes : List Route) (T : Live → Type 0) (S : Li
   pub input_keeps : (w : Scripted) (input : StampedView) → EventKeeps scene T Q input.time input.cause → T (begin w.world input) → S (running (kinds_in scene) w.states)
       → P (after_input scene wiring (begun scene w input) input)
   input_keeps w input keeps t s =
-      let c : Course = happen scene wiring input.time (begun scene w input) input.cause in
+      let c : CourseView = happen scene wiring input.time (begun scene w input) input.cause in
       settles c.settling.count c (happens input.time input.cause keeps (begun scene w input) (record { live = t; scripts = s }))
 
   -- ---- input 0
@@ -270,16 +270,16 @@ module _ (scene : SceneView) (routes : List Route) (T : Live → Type 0) (S : Li
       fold-keeps Begins (λ (k : ℕ). Unit {0}) (start_one wiring) (λ b k q h. starts_one b k h) (record { scripts = scripts; sendings = [] })
       (range_with_len 0 (length scripts)) (all_free (range_with_len 0 (length scripts))) (s, tt)
 
-  all_send : (c : Course) (sendings : List SendingView) → AllByRecursion (λ (x : SendingView). AllSent Q x.node x.replies) sendings → P c → P (sent_by_all wiring c sendings)
+  all_send : (c : CourseView) (sendings : List SendingView) → AllByRecursion (λ (x : SendingView). AllSent Q x.node x.replies) sendings → P c → P (sent_by_all wiring c sendings)
   all_send c sendings a p =
-      fold-keeps P (λ (x : SendingView). AllSent Q x.node x.replies) (λ (d : Course) (x : SendingView). send_replies wiring x.node d x.replies)
+      fold-keeps P (λ (x : SendingView). AllSent Q x.node x.replies) (λ (d : CourseView) (x : SendingView). send_replies wiring x.node d x.replies)
       (λ d x q k. replies_keep x.node d x.replies q k) c sendings a p
 
   pub opening_keeps : T (record { world = untold scene; sent = [] }) → S (scripts_in scene) → P (first_course scene routes)
   opening_keeps t s =
       let b : Started = started wiring (scripts_in scene) in
       let g = starts (scripts_in scene) s in
-      let c : Course = sent_by_all wiring (opening_course scene b.scripts) b.sendings in
+      let c : CourseView = sent_by_all wiring (opening_course scene b.scripts) b.sendings in
       settles c.settling.count c (all_send (opening_course scene b.scripts) b.sendings g.1 (record { live = t; scripts = g.0 }))
 
 pub opening_is : (scene : SceneView) (routes : List Route) → opening scene routes ≡ ended (first_course scene routes)

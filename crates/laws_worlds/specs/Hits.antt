@@ -6,7 +6,7 @@ use Rattle.proto_flat.specs.declared.flat.Flat.{Flat}
 use Rattle.scene_core.specs.Building.{scene_of}
 use Rattle.scene_core.specs.Scene.{SceneView}
 use Rattle.pick_core.specs.Boxes.{boxes}
-use Rattle.pick_core.specs.Local.{on_ray, point_of}
+use Rattle.pick_core.specs.Local.{on_ray, point_along}
 use Rattle.pick_core.specs.Nearest.{IsPicked}
 use Rattle.pick_core.specs.Within.{AreSized}
 use Rattle.pick_core.specs.declared.hit.Hit.{Hit}
@@ -21,4 +21,4 @@ abbrev pub DocumentHitsAreOnRays : Type 0
 DocumentHitsAreOnRays =
     (flat : Flat) (scene : SceneView) (state : List Fields) (ray : RayView) (hit : Hit)
     → scene_of flat ≡ Ok scene → IsPicked ray (boxes scene state) (Some hit)
-    → point_of ray hit.n hit.m ≡ on_ray ray hit.n hit.m
+    → point_along ray hit.n hit.m ≡ on_ray ray hit.n hit.m

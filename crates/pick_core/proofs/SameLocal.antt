@@ -9,7 +9,7 @@ use Rattle.x3d_values.specs.declared.fields.Fields.{Fields}
 use Rattle.x3d_values.specs.declared.vector.Vec3.{Vec3}
 use Rattle.x3d_values.specs.Pointing.{RayView}
 use Rattle.scene_core.specs.Scene.{SceneView}
-use Rattle.pick_core.specs.Local.{reached, point_of, local_along, or_world, local_of}
+use Rattle.pick_core.specs.Local.{reached, point_along, local_along, or_world, local_of}
 use Rattle.pick_core.specs.Motion.{clamped}
 use Rattle.pick_core.specs.declared.hit.Hit.{Hit}
 use Rattle.pick_rules.proofs.Fractions.{slope_backward}
@@ -76,8 +76,8 @@ same_reached : (origin d : ℤ) (n m n' m' : ℕ) → 0 < m → 0 < m' → n * m
 unfolding reached
 same_reached origin d n m n' m' p p' e = ap (λ z. clamped (origin +ℤ z)) (same_way d n m n' m' p p' e)
 
-same_point : (ray : RayView) (n m n' m' : ℕ) → 0 < m → 0 < m' → n * m' ≡ n' * m → point_of ray n m ≡ point_of ray n' m'
-unfolding point_of
+same_point : (ray : RayView) (n m n' m' : ℕ) → 0 < m → 0 < m' → n * m' ≡ n' * m → point_along ray n m ≡ point_along ray n' m'
+unfolding point_along
 same_point ray n m n' m' p p' e =
     let x = same_reached ray.origin.x ray.dir.x n m n' m' p p' e in
     let y = same_reached ray.origin.y ray.dir.y n m n' m' p p' e in
@@ -91,4 +91,4 @@ pub one_local : (scene : SceneView) (state : List Fields) (ray : RayView) (senso
 unfolding local_of
 one_local scene state ray sensor h k p q path e =
     let from : List ℕ → Vec3 → Vec3 = λ ps at. or_world (local_along scene state sensor None ps at) at in
-    ap (λ ps. from ps (point_of ray h.n h.m)) path ∙ ap (from k.path) (same_point ray h.n h.m k.n k.m p q e)
+    ap (λ ps. from ps (point_along ray h.n h.m)) path ∙ ap (from k.path) (same_point ray h.n h.m k.n k.m p q e)

@@ -15,7 +15,7 @@ use Rattle.pick_rules.specs.Hits.{IsCrossed, IsHit}
 use Rattle.pick_rules.specs.declared.bounds.Bounds.{Bounds}
 use Rattle.pick_rules.proofs.Fractions.{mul_parts}
 use Rattle.pick_core.specs.Boxes.{Placed, boxes, inside, layer, shown, shown_child, under}
-use Rattle.pick_core.specs.Local.{on_axis, point_of, reached}
+use Rattle.pick_core.specs.Local.{on_axis, point_along, reached}
 use Rattle.pick_core.specs.Looks.{choice_of, kind_of, listed, motion_of}
 use Rattle.pick_core.specs.Motion.{box_of, clamped, half, moved_at, moved_box, moved_by}
 use Rattle.pick_core.specs.Nearest.{IsReached}
@@ -223,7 +223,7 @@ unfolding reached
 same_reached low high origin d n m p l h c = same_clamped low high (on_axis origin d n m) l h (between low high origin d n m p c)
 
 pub hits_are_on_rays : HitsAreOnRays
-unfolding point_of
+unfolding point_along
 hits_are_on_rays scene state ray hit sized picked =
     let s = struck_in ray hit (boxes scene state) (boxes_inside scene state sized) picked.reached in
     let b = s.bounds in

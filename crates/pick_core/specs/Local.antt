@@ -35,8 +35,8 @@ on_ray ray n m = record {
 unfoldable pub reached : ℤ → ℤ → ℕ → ℕ → ℤ
 reached origin dir n m = clamped (on_axis origin dir n m)
 
-unfoldable pub point_of : RayView → ℕ → ℕ → Vec3
-point_of ray n m = record {
+unfoldable pub point_along : RayView → ℕ → ℕ → Vec3
+point_along ray n m = record {
   x = reached ray.origin.x ray.dir.x n m;
   y = reached ray.origin.y ray.dir.y n m;
   z = reached ray.origin.z ray.dir.z n m;
@@ -97,8 +97,8 @@ or_world (Some p) world = p
 -- the point of a hit in the coordinates of a sensor; no sensor is in two lists that a hit concerns
 unfoldable pub local_of : SceneView → List Fields → Hit → RayView → ℕ → Vec3
 local_of scene state hit ray sensor =
-    or_world (local_along scene state sensor None hit.path (point_of ray hit.n hit.m))
-    (point_of ray hit.n hit.m)
+    or_world (local_along scene state sensor None hit.path (point_along ray hit.n hit.m))
+    (point_along ray hit.n hit.m)
 
 -- the point depends only on the path and the value of the fraction
 abbrev pub OneLocal : Type 0

@@ -7,7 +7,7 @@ use Rattle.x3d_values.specs.Pointing.{RayView}
 use Rattle.x3d_values.specs.Ranges.{coordinates_fit}
 use Rattle.scene_core.specs.Scene.{SceneView}
 use Rattle.pick_core.specs.Boxes.{boxes}
-use Rattle.pick_core.specs.Local.{on_ray, point_of}
+use Rattle.pick_core.specs.Local.{on_ray, point_along}
 use Rattle.pick_core.specs.Looks.{kind_of}
 use Rattle.pick_core.specs.Nearest.{IsPicked}
 use Rattle.pick_core.specs.declared.hit.Hit.{Hit}
@@ -22,4 +22,4 @@ AreSized scene = (node : ℕ) (size : Vec3) → kind_of scene node ≡ Shape (So
 abbrev pub HitsAreOnRays : Type 0
 HitsAreOnRays = (scene : SceneView) (state : List Fields) (ray : RayView) (hit : Hit)
     → AreSized scene → IsPicked ray (boxes scene state) (Some hit)
-    → point_of ray hit.n hit.m ≡ on_ray ray hit.n hit.m
+    → point_along ray hit.n hit.m ≡ on_ray ray hit.n hit.m

@@ -20,7 +20,7 @@ pub fn local_point(scene: &Scene, state: &[Fields], hit: &Hit, ray: Ray, sensor:
     requires { 0 < hit.now.m }
     ensures { result ≡ spec.local_of scene.now state.now hit.now ray sensor }
 {
-    let world = point_of(ray, hit.n, hit.m);
+    let world = point_along(ray, hit.n, hit.m);
     match local_along(scene, state, sensor, None, hit.path.as_slice(), world) {
         Some(point) => point,
         None => world,
@@ -45,10 +45,10 @@ fn reached(origin: i64, dir: i64, n: u64, m: u64) -> i64
     clamped(origin as i128 + way(dir, n, m))
 }
 
-#[tactic(auto, using(crate::proofs::Passed::passed), unfolding(crate::specs::Local::point_of))]
-fn point_of(ray: Ray, n: u64, m: u64) -> Vec3
+#[tactic(auto, using(crate::proofs::Passed::passed), unfolding(crate::specs::Local::point_along))]
+fn point_along(ray: Ray, n: u64, m: u64) -> Vec3
     requires { 0 < m }
-    ensures { result ≡ spec.point_of ray n m }
+    ensures { result ≡ spec.point_along ray n m }
 {
     let (origin, dir) = (ray.origin(), ray.dir());
     Vec3 {

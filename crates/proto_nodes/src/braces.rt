@@ -25,7 +25,7 @@ use x3d_values::NodeType;
 /// Braces of the text: the line of the first word, the name that DEF gives, what the word before
 /// the braces means, and the items between them.
 #[derive(Clone, Copy)]
-pub struct Full<'t, 'a> {
+pub struct BracedNode<'t, 'a> {
     pub line: u32,
     pub name: &'a Option<Text>,
     pub word: Word,
@@ -36,7 +36,7 @@ pub struct Full<'t, 'a> {
 fn open_braces<'t, 'a>(
     alloc: Global,
     walker: &mut Walker<'t, 'a>,
-    text: Full<'t, 'a>,
+    text: BracedNode<'t, 'a>,
     owner: Owner<'t, 'a>,
 ) -> Result<NodeTask<'t, 'a>, ExpandFault>
     requires { shown.Sound walker.old }
@@ -61,7 +61,7 @@ fn open_braces<'t, 'a>(
 fn begin_node<'t, 'a>(
     alloc: Global,
     walker: &mut Walker<'t, 'a>,
-    text: Full<'t, 'a>,
+    text: BracedNode<'t, 'a>,
     node_type: NodeType,
 ) -> Result<NodeTask<'t, 'a>, ExpandFault>
     requires { shown.Sound walker.old }
@@ -79,7 +79,7 @@ fn begin_node<'t, 'a>(
 fn open_instance<'t, 'a>(
     alloc: Global,
     walker: &mut Walker<'t, 'a>,
-    text: Full<'t, 'a>,
+    text: BracedNode<'t, 'a>,
     interface: &'t Interface<'a>,
 ) -> Result<NodeTask<'t, 'a>, ExpandFault>
     requires { shown.Sound walker.old }
@@ -95,7 +95,7 @@ fn open_instance<'t, 'a>(
 fn begin_instance<'t, 'a>(
     alloc: Global,
     walker: &mut Walker<'t, 'a>,
-    text: Full<'t, 'a>,
+    text: BracedNode<'t, 'a>,
     proto: &'t Proto<'t, 'a>,
 ) -> Result<NodeTask<'t, 'a>, ExpandFault>
     requires { shown.Sound walker.old }
@@ -121,7 +121,7 @@ fn begin_full<'t, 'a>(
     alloc: Global,
     walker: &mut Walker<'t, 'a>,
     protos: &'t [Proto<'t, 'a>],
-    text: Full<'t, 'a>,
+    text: BracedNode<'t, 'a>,
 ) -> Result<NodeTask<'t, 'a>, ExpandFault>
     requires { shown.Sound walker.old }
     ensures goes { (ps : List Prototype) → Knows ps protos.now → Goes ps (doing (flat.full_node
@@ -177,7 +177,7 @@ pub fn begin<'t, 'a>(
     match node {
         NodeTree::Use(line, name) => begin_use(walker, *line, name),
         NodeTree::Full(line, name, word, items) => {
-            let text = Full {
+            let text = BracedNode {
                 line: *line,
                 name,
                 word: *word,

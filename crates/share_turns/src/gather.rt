@@ -49,7 +49,7 @@ fn gather_all<B: Behaviour, P: Port>(viewer: &mut Viewer<B>, port: &mut P) -> Re
         ≡ failures_after result (P.failure_count port.old) }
 {
     let mut bytes = [0; RECEIVED];
-    for _turn in 0..MOST {
+    for _datagram in 0..MOST {
         match port.receive(&mut bytes)? {
             Some((_from, count)) => gather_one(viewer, &bytes[..count])?,
             None => return Ok(()),

@@ -71,7 +71,7 @@ fn pass_over<P: Port>(port: &mut P) -> Result<(), TurnFault>
         ≡ failures_after result (P.failure_count port.old) }
 {
     let mut bytes = [0; RECEIVED];
-    for _turn in 0..MOST {
+    for _datagram in 0..MOST {
         match port.receive(&mut bytes)? {
             Some((_from, _count)) => {}
             None => return Ok(()),

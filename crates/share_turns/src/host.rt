@@ -260,7 +260,7 @@ pub(crate) fn hearing_turn<P: Port>(
     let viewers = host.viewers();
     number_clock(host, clock)?;
     let mut bytes = [0; RECEIVED];
-    for _turn in 0..MOST {
+    for _datagram in 0..MOST {
         match port.receive(&mut bytes)? {
             Some((from, count)) => {
                 let read = decode(&bytes[..count]);

@@ -61,7 +61,7 @@ fn take_all<B: Behaviour, P: Port>(viewer: &mut Viewer<B>, port: &mut P) -> Resu
         ≡ failures_after result (P.failure_count port.old) }
 {
     let mut bytes = [0; RECEIVED];
-    for _turn in 0..MOST {
+    for _datagram in 0..MOST {
         match port.receive(&mut bytes)? {
             Some((_from, count)) => take_one(viewer, &bytes[..count])?,
             None => return Ok(()),

@@ -1,6 +1,6 @@
 //! What a host and a viewer report on standard error if they are verbose.
 
-use app_commands::{Tally, number_of};
+use app_commands::{Counts, number_of};
 use share_turns::UdpPort;
 use std::fmt;
 use std::io::Eprint;
@@ -20,7 +20,7 @@ impl fmt::Display for BoundAt {
 struct HostEnd {
     inputs: u32,
     dropped: u64,
-    tally: Tally,
+    counts: Counts,
 }
 
 impl fmt::Display for HostEnd {
@@ -28,7 +28,7 @@ impl fmt::Display for HostEnd {
         write!(
             f,
             "{} inputs numbered, {} clocks dropped, {}",
-            self.inputs, self.dropped, self.tally
+            self.inputs, self.dropped, self.counts
         )
     }
 }
@@ -37,12 +37,12 @@ impl fmt::Display for HostEnd {
 #[derive(Drop)]
 struct ViewEnd {
     inputs: u32,
-    tally: Tally,
+    counts: Counts,
 }
 
 impl fmt::Display for ViewEnd {
     fn fmt<W: fmt::Write>(&self, f: &mut fmt::Formatter<W>) -> fmt::Result {
-        write!(f, "{} inputs applied, {}", self.inputs, self.tally)
+        write!(f, "{} inputs applied, {}", self.inputs, self.counts)
     }
 }
 
@@ -56,26 +56,26 @@ pub fn tell_port<R: Eprint>(rt: &R, verbose: bool, port: &UdpPort) {
 
 /// Returns how many of a host's clocks were dropped: the clocks that its turns had, less those that
 /// became inputs. The inputs that aren't clocks are the points that it numbered.
-fn dropped(clocks: usize, inputs: u32, tally: &Tally) -> u64 {
-    let handed = tally.turns.min(clocks as u64);
-    handed.saturating_sub(u64::from(inputs).saturating_sub(tally.points))
+fn dropped(clocks: usize, inputs: u32, counts: &Counts) -> u64 {
+    let handed = counts.turns.min(clocks as u64);
+    handed.saturating_sub(u64::from(inputs).saturating_sub(counts.points))
 }
 
 /// Reports the result of a host's run with this many clocks, if `verbose` is set.
-pub fn tell_host_end<R: Eprint>(rt: &R, verbose: bool, clocks: usize, inputs: u32, tally: Tally) {
+pub fn tell_host_end<R: Eprint>(rt: &R, verbose: bool, clocks: usize, inputs: u32, counts: Counts) {
     if verbose {
-        let dropped = dropped(clocks, inputs, &tally);
+        let dropped = dropped(clocks, inputs, &counts);
         let _told = rt.eprintln(HostEnd {
             inputs,
             dropped,
-            tally,
+            counts,
         });
     }
 }
 
 /// Reports the result of a viewer's run, if `verbose` is set.
-pub fn tell_view_end<R: Eprint>(rt: &R, verbose: bool, inputs: u32, tally: Tally) {
+pub fn tell_view_end<R: Eprint>(rt: &R, verbose: bool, inputs: u32, counts: Counts) {
     if verbose {
-        let _told = rt.eprintln(ViewEnd { inputs, tally });
+        let _told = rt.eprintln(ViewEnd { inputs, counts });
     }
 }

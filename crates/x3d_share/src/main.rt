@@ -2,12 +2,12 @@
 #![tactic(auto)]
 
 mod ends;
-mod nodes;
+mod peers;
 mod stack;
 
 ghost use Rattle.app_words.specs.Words.{IsInRange};
 
-use crate::nodes::{agree, host, rehearse, view};
+use crate::peers::{agree, host, rehearse, view};
 use crate::stack::has_room;
 use app_program::{
     Failure, RunFault, StreamFault, check_text, format_text, refusal_line, run_job, status_of,

@@ -3,7 +3,7 @@
 ghost use Rattle.std.specs.Prelude.{IsTrue};
 ghost use Rattle.share_wire.specs.Messages.{is_ordinal};
 
-use app_commands::{Node, Note, Refusal, Watch};
+use app_commands::{Note, Peer, Refusal, Watch};
 use share_wire::{Ack, Ask, Body, Message, Offer, Packet, encode};
 use std::process::Abort;
 use x3d_values::{Pointer, Ray, Vec3};
@@ -27,7 +27,7 @@ fn offer(boot: u32) -> Body
 /// A host of two viewers: each datagram with what the host reports of it.
 #[test]
 fn a_host_tells_who_comes_and_what_it_drops_once(rt: HostRuntime) {
-    let mut watch = Watch::new(MARK, Node::Host(2));
+    let mut watch = Watch::new(MARK, Peer::Host(2));
     let ask = packet(MARK, Body::Ask(Ask::new(1, 1)));
     assert!(rt; watch.comes(40, ask.as_slice()) == Some(Note::Viewer(1, 40)));
     assert!(rt; watch.comes(41, ask.as_slice()) == None);
@@ -44,22 +44,22 @@ fn a_host_tells_who_comes_and_what_it_drops_once(rt: HostRuntime) {
     assert!(rt; watch.comes(46, late.as_slice()) == Some(Note::Viewer(0, 46)));
     let old = Some(Note::Dropped(Refusal::OldBoot, 46));
     assert!(rt; watch.comes(46, early.as_slice()) == old);
-    assert!(rt; watch.comes(46, early.as_slice()) == None && watch.tally().received == 9);
+    assert!(rt; watch.comes(46, early.as_slice()) == None && watch.counts().received == 9);
 }
 
 #[test]
 fn a_host_counts_the_points_that_its_acks_tell(rt: HostRuntime) {
-    let mut watch = Watch::new(MARK, Node::Host(2));
+    let mut watch = Watch::new(MARK, Peer::Host(2));
     for (boot, count) in [(1, 0), (1, 3), (1, 3), (2, 2)] {
         watch.goes(packet(MARK, Body::Ack(Ack::new(0, boot, count))).as_slice());
     }
-    assert!(rt; watch.tally().points == 5 && watch.tally().sent == 4);
-    assert!(rt; watch.rests() == None && watch.tally().turns == 1);
+    assert!(rt; watch.counts().points == 5 && watch.counts().sent == 4);
+    assert!(rt; watch.rests() == None && watch.counts().turns == 1);
 }
 
 #[test]
 fn a_viewer_tells_of_silence_and_of_a_later_boot(rt: HostRuntime) {
-    let mut watch = Watch::new(MARK, Node::Viewer(3));
+    let mut watch = Watch::new(MARK, Peer::Viewer(3));
     for _turn in 1..20 {
         assert!(rt; watch.rests() == None);
     }

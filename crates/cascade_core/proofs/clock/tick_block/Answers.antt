@@ -14,11 +14,11 @@ returns-then-is_idle-clause-course g c =
 pub returns-clause-course : goal.returns-clause-course
 returns-clause-course g c =
     rw c.remember_idle.ensures
-    (c.in_ok-tick_all.ensures.course
+    (c.in_ok-tick_range.ensures.course
     ∙ block_is _ _ c.args.block c.args.count (c.args.block * 32) (c.args.block * 32 + c.min-many.result) refl (ap (λ (k : ℕ). c.args.block * 32 + k) c.min-many.ensures))
 
 pub returns-clause-rest : goal.returns-clause-rest
-returns-clause-rest g c = rw c.remember_idle.ensures c.in_ok-tick_all.ensures.rest
+returns-clause-rest g c = rw c.remember_idle.ensures c.in_ok-tick_range.ensures.rest
 
 pub returns-clause-scripts : goal.returns-clause-scripts
-returns-clause-scripts g c = record { kinds = c.tick_all.ensures.scripts.kinds; count = c.tick_all.ensures.scripts.count }
+returns-clause-scripts g c = record { kinds = c.tick_range.ensures.scripts.kinds; count = c.tick_range.ensures.scripts.count }

@@ -15,11 +15,11 @@ returns-then-passes_block-clause-course g c =
 pub returns-clause-course : goal.returns-clause-course
 returns-clause-course g c =
     rw c.remember_pointing.ensures
-    (c.in_ok-point_some.ensures.course
+    (c.in_ok-point_range.ensures.course
     ∙ block_is _ _ c.args.block c.args.count (c.args.block * 32) (c.args.block * 32 + c.min-many.result) refl (ap (λ (k : ℕ). c.args.block * 32 + k) c.min-many.ensures))
 
 pub returns-clause-rest : goal.returns-clause-rest
-returns-clause-rest g c = rw c.remember_pointing.ensures c.in_ok-point_some.ensures.rest
+returns-clause-rest g c = rw c.remember_pointing.ensures c.in_ok-point_range.ensures.rest
 
 pub returns-clause-scripts : goal.returns-clause-scripts
-returns-clause-scripts g c = record { kinds = c.point_some.ensures.scripts.kinds; count = c.point_some.ensures.scripts.count }
+returns-clause-scripts g c = record { kinds = c.point_range.ensures.scripts.kinds; count = c.point_range.ensures.scripts.count }

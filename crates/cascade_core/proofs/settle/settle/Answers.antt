@@ -1,5 +1,5 @@
 use Rattle.std.proofs.Common.{◌∙◌, ◌<◌, sym, subst, arith}
-use Rattle.cascade_core.specs.Course.{Course, wiring_at, seen}
+use Rattle.cascade_core.specs.Course.{CourseView, wiring_at, seen}
 use Rattle.cascade_core.proofs.SettleLemmas.{due-below, due_left, due_left-most, one-due, one-fewer, settle-end, settle-step}
 use Rattle.cascade_core.proofs.SoundLemmas.{has_scripts-counted}
 use Rattle.cascade_core.proofs.Resting.{rest_said, scripts_then}
@@ -18,7 +18,7 @@ settle_one-requires-clause-due g c = (one-due (wiring_at c.args.routed.now) (see
 
 pub loop-k-smaller : goal.loop-k-smaller
 loop-k-smaller g c =
-    subst (λ (d : Course). due_left (wiring_at c.args.routed.now) d < due_left (wiring_at c.args.routed.now) (seen c.loop-k.course))
+    subst (λ (d : CourseView). due_left (wiring_at c.args.routed.now) d < due_left (wiring_at c.args.routed.now) (seen c.loop-k.course))
     (sym c.in_ok-settle_one.ensures.course)
     (one-fewer (wiring_at c.args.routed.now) (seen c.loop-k.course) c.in-Some.k (sym c.in-Some.ensures))
 

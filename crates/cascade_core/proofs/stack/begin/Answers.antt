@@ -1,6 +1,6 @@
 use Rattle.std.proofs.Common.{◌≡◌, ◌∙◌, true, false, sym, ap, arith, refl}
 use Rattle.cascade_trace.specs.Ends.{has_sent}
-use Rattle.cascade_core.specs.Course.{Course, wiring_at, seen}
+use Rattle.cascade_core.specs.Course.{CourseView, wiring_at, seen}
 use Rattle.cascade_core.specs.Cascade.{recorded}
 use Rattle.cascade_core.specs.Stack.{finish}
 use Rattle.cascade_core.specs.declared.tasks.CascadeTask.TheVariants.{Follow}
@@ -49,7 +49,7 @@ pub returns-clause-done : goal.returns-clause-done
 returns-clause-done g c =
     let before : has_sent c.args.course.now.live.sent c.args.source ≡ true = was_sent _ _ c.in-Ok.ensures.first c.if-sends.false in
     rw (stands _ _ _ _ c.in-Ok.ensures.live before)
-    (ap (λ (t : Course). finish (wiring_at c.args.routed.now) t c.args.tasks.now.items)
+    (ap (λ (t : CourseView). finish (wiring_at c.args.routed.now) t c.args.tasks.now.items)
     (sym (send_full-sent (wiring_at c.args.routed.now) (seen c.args.course.now) c.args.source c.args.value before)))
 
 pub returns-clause-fewer : goal.returns-clause-fewer

@@ -1,5 +1,5 @@
 use Rattle.std.proofs.Common.{◌+◌, ◌<◌, sym, ap, length}
-use Rattle.cascade_core.specs.Course.{Course, wiring_at, seen}
+use Rattle.cascade_core.specs.Course.{CourseView, wiring_at, seen}
 use Rattle.cascade_core.specs.Stack.{finish}
 use Rattle.cascade_core.proofs.TaskLists.{follow-none, follow-done, follow-fewer, follow-ready, last-done, last-fewer, reached-ready}
 use Rattle.cascade_trace.proofs.RoutePlaces.{target-few}
@@ -11,7 +11,7 @@ deliver-requires g c = record { rest = rest_working c.requires.working }
 
 pub returns-in_default-clause-done : goal.returns-in_default-clause-done
 returns-in_default-clause-done g c =
-    ap (λ (t : Course). finish (wiring_at c.args.routed.now) t c.args.tasks.now.items)
+    ap (λ (t : CourseView). finish (wiring_at c.args.routed.now) t c.args.tasks.now.items)
     (sym (follow-none (wiring_at c.args.routed.now) (seen c.args.course.now) c.args.source c.args.value c.args.next (rw c.in_default.is at c.hop_at.ensures.none)))
 
 pub returns-clause-done : goal.returns-clause-done

@@ -10,4 +10,4 @@ pub returns : goal.returns
 returns c =
     subst (λ (p : Point). CallsOut (λ (v : EmbeddedViewer). viewers.Offers v p) (status_by status_of_offer) number_by
     c.args.handle.now.viewer c.offer.result c.offer.new.handle.viewer c.args.number.now c.offer.new.number)
-    c.point_of-point.ensures c.offer.ensures
+    c.aimed_point-point.ensures c.offer.ensures

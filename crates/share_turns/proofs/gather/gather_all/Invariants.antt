@@ -4,8 +4,8 @@ use Rattle.share_turns.proofs.Answering.{went_on}
 use Rattle.share_turns.proofs.Gathering.{GathersSoFar}
 use Rattle.share_turns.proofs.gather.gather_all.Given as goal
 
-abbrev pub invariant-loop-turn : goal.invariant-loop-turn
-invariant-loop-turn g l =
-    GathersSoFar l.fn.viewer.mark went_on (g.P.Port.told l.fn.port) (g.P.Port.told l.port) l.fn.viewer.gathering l.viewer.gathering l._turn
+abbrev pub invariant-loop-datagram : goal.invariant-loop-datagram
+invariant-loop-datagram g l =
+    GathersSoFar l.fn.viewer.mark went_on (g.P.Port.told l.fn.port) (g.P.Port.told l.port) l.fn.viewer.gathering l.viewer.gathering l._datagram
     × (l.viewer ≡ with_gathering l.fn.viewer l.viewer.gathering)
     × (g.P.Port.failure_count l.port ≡ g.P.Port.failure_count l.fn.port)

@@ -2,7 +2,7 @@ use Rattle.std.proofs.Common.{◌≡◌}
 use Rattle.share_turns.proofs.Gathering.{PassedSoFar}
 use Rattle.share_turns.proofs.give.pass_over.Given as goal
 
-abbrev pub invariant-loop-turn : goal.invariant-loop-turn
-invariant-loop-turn g l =
-    PassedSoFar (g.P.Port.told l.fn.port) (g.P.Port.told l.port) l._turn
+abbrev pub invariant-loop-datagram : goal.invariant-loop-datagram
+invariant-loop-datagram g l =
+    PassedSoFar (g.P.Port.told l.fn.port) (g.P.Port.told l.port) l._datagram
     × (g.P.Port.failure_count l.port ≡ g.P.Port.failure_count l.fn.port)

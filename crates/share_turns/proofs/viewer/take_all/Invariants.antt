@@ -4,8 +4,8 @@ use Rattle.share_turns.proofs.Answering.{went_on}
 use Rattle.share_turns.proofs.Taking.{TakesSoFar}
 use Rattle.share_turns.proofs.viewer.take_all.Given as goal
 
-abbrev pub invariant-loop-turn : goal.invariant-loop-turn
-invariant-loop-turn g l =
-    TakesSoFar l.fn.viewer went_on (g.P.Port.told l.fn.port) (g.P.Port.told l.port) l.viewer.state l._turn
+abbrev pub invariant-loop-datagram : goal.invariant-loop-datagram
+invariant-loop-datagram g l =
+    TakesSoFar l.fn.viewer went_on (g.P.Port.told l.fn.port) (g.P.Port.told l.port) l.viewer.state l._datagram
     × (l.viewer ≡ with_state l.fn.viewer l.viewer.state)
     × (g.P.Port.failure_count l.port ≡ g.P.Port.failure_count l.fn.port)

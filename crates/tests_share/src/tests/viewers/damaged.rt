@@ -10,19 +10,19 @@ use share_wire::{Ack, Ask, Body, Message, Packet, decode, encode};
 use std::alloc::Global;
 use std::process::Abort;
 
-/// The visible state of a node: three counts, and two packets that it sends.
+/// The visible state of a peer: three counts, and two packets that it sends.
 type Shown = ([u32; 3], Option<Packet>, Option<Packet>);
 
 /// A host or a viewer.
-trait Node {
-    /// Reports whether the node refuses these bytes, which are not a datagram or are one of another
+trait Peer {
+    /// Reports whether the peer refuses these bytes, which are not a datagram or are one of another
     /// scene.
     fn refuses(&mut self, bytes: &[u8]) -> bool;
 
     fn shown(&self) -> Shown;
 }
 
-impl Node for Host {
+impl Peer for Host {
     fn refuses(&mut self, bytes: &[u8]) -> bool {
         let wanted = match decode(bytes) {
             Ok(_) => HostFault::WrongScene,
@@ -37,7 +37,7 @@ impl Node for Host {
     }
 }
 
-impl Node for Viewer<StockScript> {
+impl Peer for Viewer<StockScript> {
     fn refuses(&mut self, bytes: &[u8]) -> bool {
         let wanted = match decode(bytes) {
             Ok(_) => TakeFault::WrongScene,
@@ -52,16 +52,16 @@ impl Node for Viewer<StockScript> {
     }
 }
 
-/// Reports whether a node refuses these bytes and is unchanged. A datagram of the node's scene
+/// Reports whether a peer refuses these bytes and is unchanged. A datagram of the peer's scene
 /// counts as right.
-fn stays<N: Node>(node: &mut N, bytes: &[u8]) -> bool {
+fn stays<N: Peer>(peer: &mut N, bytes: &[u8]) -> bool {
     if let Ok(message) = decode(bytes) {
         if message.mark == MARK {
             return true;
         }
     }
-    let before = node.shown();
-    node.refuses(bytes) && node.shown() == before
+    let before = peer.shown();
+    peer.refuses(bytes) && peer.shown() == before
 }
 
 /// Returns the packet with these bits of one byte flipped.
@@ -76,9 +76,9 @@ fn flipped(packet: &Packet, at: usize, bits: u8) -> Packet {
 
 /// Reports whether `stays` holds of a packet that is cut short after this many bytes, and of the
 /// packet with each bit of the next byte flipped.
-fn stays_at<N: Node>(node: &mut N, packet: &Packet, at: usize) -> bool {
+fn stays_at<N: Peer>(peer: &mut N, packet: &Packet, at: usize) -> bool {
     for bits in [1, 2, 4, 8, 16, 32, 64, 128] {
-        if !stays(node, flipped(packet, at, bits).as_slice()) {
+        if !stays(peer, flipped(packet, at, bits).as_slice()) {
             return false;
         }
     }
@@ -86,13 +86,13 @@ fn stays_at<N: Node>(node: &mut N, packet: &Packet, at: usize) -> bool {
     for byte in packet.as_slice().iter().take(at) {
         let _fits = front.try_push(*byte);
     }
-    stays(node, front.as_slice())
+    stays(peer, front.as_slice())
 }
 
 /// Reports whether `stays` holds of each damage of a packet.
-fn refuses_damage<N: Node>(node: &mut N, packet: &Packet) -> bool {
+fn refuses_damage<N: Peer>(peer: &mut N, packet: &Packet) -> bool {
     for at in 0..packet.len() {
-        if !stays_at(node, packet, at) {
+        if !stays_at(peer, packet, at) {
             return false;
         }
     }
@@ -105,14 +105,14 @@ fn packet_of(body: Body) -> Packet {
 }
 
 /// Reports whether `stays` holds of each damage of a packet of each kind.
-fn refuses_all<N: Node>(node: &mut N) -> bool {
+fn refuses_all<N: Peer>(peer: &mut N) -> bool {
     let Some(clock) = clock_packet(2) else {
         return false;
     };
-    refuses_damage(node, &clock)
-        && refuses_damage(node, &offer_packet())
-        && refuses_damage(node, &packet_of(Body::Ask(Ask::new(1, 1))))
-        && refuses_damage(node, &packet_of(Body::Ack(Ack::new(0, 1, 1))))
+    refuses_damage(peer, &clock)
+        && refuses_damage(peer, &offer_packet())
+        && refuses_damage(peer, &packet_of(Body::Ask(Ask::new(1, 1))))
+        && refuses_damage(peer, &packet_of(Body::Ack(Ack::new(0, 1, 1))))
 }
 
 /// There is no viewer 2. An undamaged packet is taken afterwards.

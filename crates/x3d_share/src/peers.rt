@@ -1,4 +1,4 @@
-//! The commands in which several nodes do a job: in memory, each at a port of this machine, or each
+//! The commands in which several peers do a job: in memory, each at a port of this machine, or each
 //! in a process of its own.
 
 ghost use Rattle.std.specs.Prelude.{◌≡◌, ◌≤◌, IfOk, length};
@@ -7,7 +7,7 @@ ghost use Rattle.app_words.specs.Words.{HostInRange, ViewInRange};
 
 use crate::ends::{tell_host_end, tell_port, tell_view_end};
 use app_commands::{
-    ExactPort, JointJob, Node, PatientPort, Seat, SharedJob, TellingPort, Watch, agree_job, bound,
+    ExactPort, JointJob, PatientPort, Peer, Seat, SharedJob, TellingPort, Watch, agree_job, bound,
     bound_free, first_boot, host_job, joint_job, number_of, rehearse_job, seated_job, shared_job,
     view_job,
 };
@@ -19,7 +19,7 @@ use std::io::{self, Eprint};
 use std::net::Net;
 use std::time::Clock;
 
-/// Reads the job of a command in which several nodes do it.
+/// Reads the job of a command in which several peers take part.
 fn read_shared<R: AllocGlobal + Input>(rt: &R, order: &Order) -> Result<SharedJob, JobFault> {
     let bytes = read_whole(rt.alloc(), &mut rt.reader())?;
     shared_job(rt.alloc(), bytes.as_slice(), order)
@@ -114,7 +114,7 @@ fn hosted<R: AllocGlobal + Net + Eprint + Clock>(
 {
     let bound = bound(rt, asked.port)?;
     tell_port(rt, asked.verbose, &bound);
-    let watch = Watch::new(job.mark, Node::Host(asked.viewers));
+    let watch = Watch::new(job.mark, Peer::Host(asked.viewers));
     let mut port = PatientPort::new(TellingPort::new(bound, rt, asked.verbose, watch), rt);
     let plan = host_plan(asked);
     let mut count = 0;
@@ -128,7 +128,7 @@ fn hosted<R: AllocGlobal + Net + Eprint + Clock>(
         &mut count,
     );
     let clocks = job.inputs.as_slice().len();
-    tell_host_end(rt, asked.verbose, clocks, count, port.port().tally());
+    tell_host_end(rt, asked.verbose, clocks, count, port.port().counts());
     done
 }
 
@@ -198,13 +198,13 @@ fn viewed<R: AllocGlobal + Net + Eprint + Clock>(
 ) -> Result<Vec<u8>, ShareFault> {
     let bound = bound(rt, own_port(asked))?;
     tell_port(rt, asked.verbose, &bound);
-    let watch = Watch::new(seat.viewer.mark(), Node::Viewer(asked.boot));
+    let watch = Watch::new(seat.viewer.mark(), Peer::Viewer(asked.boot));
     let telling = TellingPort::new(bound, rt, asked.verbose, watch);
     let mut port = PatientPort::new(ExactPort::new(telling, last_input(asked)), rt);
     let plan = view_plan(asked);
     let done = view_job(rt.alloc(), seat, asked.port, &plan, &mut port);
-    let tally = port.port().port().tally();
-    tell_view_end(rt, asked.verbose, seat.viewer.applied(), tally);
+    let counts = port.port().port().counts();
+    tell_view_end(rt, asked.verbose, seat.viewer.applied(), counts);
     done
 }
 

@@ -7,7 +7,7 @@ use Rattle.cascade_world.specs.Nodes.{is_sensor}
 use Rattle.cascade_world.specs.Insides.{seen as insides_seen}
 use Rattle.cascade_core.specs.Apply.{point_node as point_node_of}
 use Rattle.cascade_core.specs.Walks.{untracked_by, where_passes}
-use Rattle.cascade_core.proofs.pointer.point_some.Given as goal
+use Rattle.cascade_core.proofs.pointer.point_range.Given as goal
 
 -- the course now, after the nodes that are left, is what the definition gives for all of them
 abbrev pub invariant-loop-node : goal.invariant-loop-node

@@ -6,7 +6,7 @@ use Rattle.cascade_core.specs.Resting.{HasSameScripts, IsAtRest}
 use Rattle.cascade_world.specs.Nodes.{is_clock}
 use Rattle.cascade_core.specs.Apply.{tick_node as tick_node_of}
 use Rattle.cascade_core.specs.Walks.{where_passes}
-use Rattle.cascade_core.proofs.clock.tick_all.Given as goal
+use Rattle.cascade_core.proofs.clock.tick_range.Given as goal
 
 -- the course now, after the nodes that are left, is what the definition gives for all of them
 abbrev pub invariant-loop-node : goal.invariant-loop-node
