@@ -9,5 +9,5 @@ pub mod Naming
 pub mod Numbered
 pub mod Suffixes
 pub mod Scoping
-pub mod Closed
+pub mod Closings
 pub mod Knowing

@@ -2,7 +2,7 @@ use Rattle.std.proofs.Common.{◌≡◌, ◌++◌, ◌∙◌, List, ℕ, Bor, ap
 use Rattle.std.specs.List.{filter_map}
 use Rattle.proto_parts.specs.declared.given.GivenField.{GivenField}
 use Rattle.proto_parts.specs.Closing.{flat_field}
-use Rattle.proto_parts.proofs.Closed.{flat-values}
+use Rattle.proto_parts.proofs.Closings.{flat-values}
 use Rattle.proto_parts.proofs.closing.flat_fields.Goals as goal
 
 pub loop-pair-init : goal.loop-pair-init
