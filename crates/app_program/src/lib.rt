@@ -1,4 +1,13 @@
-//! The program's calls: opening and running a job, and what a refusal prints.
+//! The program's calls on bytes: opening and running a job, checking and formatting a scene, and
+//! what a refusal prints.
+//!
+//! | Modules | Content |
+//! |---|---|
+//! | `open`, `stages`, `boxes` | from the bytes of a job to a stage with boxes for its scripts |
+//! | `runs`, `texts` | runs a job, and writes its texts |
+//! | `check`, `format`, `laws` | checks a text, formats it, and a law of formatted texts |
+//! | `stream`, `counted` | reads an input whole, and writes an output whole |
+//! | `fault`, `run_fault`, `refusal` | faults, and what is printed of them |
 #![tactic(auto)]
 
 mod boxes;

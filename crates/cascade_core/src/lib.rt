@@ -1,5 +1,14 @@
 //! One viewer's world. Inputs start event cascades, which change what the nodes keep and are
 //! recorded in a trace (ISO/IEC 19775-1, event model).
+//!
+//! | Modules | Content |
+//! |---|---|
+//! | `stage`, `series` | a scene with its world, and inputs applied to it |
+//! | `input`, `clock`, `pointer`, `pressed` | what an input does, node by node |
+//! | `course`, `stack`, `tasks`, `sending`, `boxes` | a cascade, as a stack of tasks |
+//! | `settle`, `opening` | scripts after the events of a timestamp, and before all inputs |
+//! | `routed`, `parts`, `buffers`, `work`, `nodes` | what a stage is made of |
+//! | `fault`, `laws` | the faults, and laws |
 #![tactic(auto)]
 
 mod boxes;

@@ -1,5 +1,5 @@
 //! Handles for C: each is a struct of one pointer, to a world, a host or a viewer on the heap, or
-//! null.
+//! null. `loose` is a box as its raw pointer.
 #![tactic(auto)]
 
 pub mod host_handle;

@@ -1,7 +1,13 @@
-//! A world for a program that embeds it. `world` is a stage with the stock scripts, and what was
-//! last read of it. `opening` makes it from a scene's text, an `input` moves it on, `scripts`
-//! replaces its scripts, `shots` saves and loads it, and `texts` and `lists` read it as texts and
-//! numbers. `fault` says why it could not be read.
+//! Worlds, hosts and viewers for a program that embeds them.
+//!
+//! | Modules | Content |
+//! |---|---|
+//! | `world`, `opening`, `input`, `scripts`, `shots` | a world: made of a text, moved on, saved and loaded |
+//! | `host`, `viewer`, `pieces` | a host and a viewer of a shared world |
+//! | `texts`, `lists`, `viewer_texts`, `viewer_lists` | reads of them, as texts and numbers |
+//! | `lines`, `meet`, `named`, `numbers`, `value` | what a read looks up |
+//! | `status`, `peer_status`, `tell`, `buffers` | how C sees an answer |
+//! | `fault` | why a read fails |
 #![tactic(auto)]
 
 mod buffers;

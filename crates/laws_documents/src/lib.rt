@@ -1,5 +1,12 @@
-//! What is in the text of a document: its braces, names, fields and routes, read without prototypes
-//! and without a walk.
+//! Laws about documents and their flat forms.
+//!
+//! | Modules | Law about |
+//! |---|---|
+//! | `flat_fields` | what a document says without its walk: braces, names, fields, routes |
+//! | `prototypes` | documents with prototypes: names don't matter, instances are their bodies |
+//! | `instances` | instances with fields, and bodies of several nodes |
+//! | `plain_laws`, `plain_fields`, `plain_faults`, `written` | documents without prototypes |
+//! | `spelled` | the flat forms of texts |
 #![tactic(auto)]
 
 mod flat_fields;

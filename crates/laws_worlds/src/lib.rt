@@ -1,6 +1,13 @@
-//! Worlds keep the ranges of their fields, and scripts keep the ranges of their states: nodes,
-//! scripts and inputs preserve the ranges, so every world that a document's scene leads to fits its
-//! snapshot. Also what a hit in a scene is: where it lies, and which sensors it concerns.
+//! Laws about worlds: nodes, scripts and inputs preserve the ranges of fields and states, so every
+//! world that a document's scene leads to fits its snapshot.
+//!
+//! | Modules | Law about |
+//! |---|---|
+//! | `answers`, `scripts`, `worlds` | what a node, a script or an input keeps in its range |
+//! | `documents` | the worlds of documents, their routes, and hits in their scenes |
+//! | `sensors` | which sensors a hit concerns |
+//! | `networks`, `rewinding`, `texts` | the snapshots that viewers of a network took |
+//! | `sizes`, `traces` | how long scenes and traces are |
 #![tactic(auto)]
 
 mod answers;

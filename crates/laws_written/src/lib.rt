@@ -1,5 +1,11 @@
-//! What is written of a scene, as a document: its nodes are those of the scene, in the order of
-//! their numbers, with the same fields and routes. It has a flat form, unless it is too large.
+//! Laws about scenes that were written and read again: a written scene is a document whose nodes,
+//! fields and routes are those of the scene, and read again it is the same scene.
+//!
+//! | Modules | Law about |
+//! |---|---|
+//! | `text_laws`, `numbering` | the text of a scene: labels, values, numbers of nodes |
+//! | `nodes`, `fields`, `distinct`, `routes`, `order`, `limits` | the parts of the written document |
+//! | `again`, `existing`, `typed`, `worlds`, `staying` | the scene and the world that are read again |
 #![tactic(auto)]
 
 mod again;

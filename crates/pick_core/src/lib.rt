@@ -1,5 +1,15 @@
 //! What a viewer's ray hits: the nearest Box of a scene, the sensors that the hit concerns, and the
 //! point of the hit in their coordinates.
+//!
+//! | Modules | Content |
+//! |---|---|
+//! | `walk`, `nearest`, `hit`, `trail` | a walk over the scene for the nearest hit |
+//! | `cache`, `gather`, `row`, `renewal`, `ranges` | the boxes of a state, stored so that a ray needs no walk |
+//! | `tree`, `cover`, `runs` | boxes around runs of boxes, which a ray passes over |
+//! | `look`, `motion`, `numbers` | what a ray sees of a node |
+//! | `sensors`, `local` | the sensors of a hit, and its point in their coordinates |
+//! | `track`, `paths`, `track_motion` | where a ray meets the plane of a drag |
+//! | `laws`, `tree_laws`, `track_laws` | laws |
 #![tactic(auto)]
 
 mod cache;

@@ -73,7 +73,7 @@ fn with_header(header: Header, content: Result<Content, ExpandFault>) -> Result<
 /// prototype's body, with nodes of its own (ISO/IEC 19775-1, 4.4.4). Err is the first fault of the
 /// text, with its line. It is `TooLarge`, without a line, if before that fault, or in the whole
 /// text, there are more than 65,536 nodes or fields of a node, 8,388,608 instances or items of
-/// values, or 134,217,728 things counted (nodes, instances, fields, ROUTEs and USEs); or if a text
+/// values, or 4,194,304 things counted (nodes, instances, fields, ROUTEs and USEs); or if a text
 /// without a fault has more than 65,536 routes. It is `Memory` if memory runs out.
 pub fn expand(alloc: Global, document: Document) -> Result<Flat, ExpandFault>
     ensures { Gives memory (λ f. f) result (flat document) }

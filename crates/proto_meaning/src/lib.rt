@@ -1,4 +1,12 @@
-//! What a Classic document with prototypes stands for: definitions, and laws about them.
+//! What a Classic document with prototypes stands for (ISO/IEC 19775-1, 4.4.4): definitions, and
+//! laws about them. `specs/Flat.antt` is the definition.
+//!
+//! | Modules | Content |
+//! |---|---|
+//! | `laws` | laws of what documents stand for |
+//! | `size_laws` | the sizes of instances: alike instances of one prototype take the same room |
+//! | `nodes`, `search` | whether a body has a node, and the search for a node type in a declaration |
+//! | `tree`, `tree_laws` | a text whose words are resolved, and what it stands for |
 #![tactic(auto)]
 
 mod laws;

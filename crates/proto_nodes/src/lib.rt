@@ -1,4 +1,6 @@
-//! Adds the nodes of a resolved text, by number (ISO/IEC 19775-1, 4.4.4, prototypes).
+//! Adds the nodes of a resolved text, by number (ISO/IEC 19775-1, 4.4.4, prototypes). `nodes` has
+//! the walk, whose frames are on the heap. `walker` has its state; `steps` and `giving` have the
+//! steps that add no nodes.
 #![tactic(auto)]
 
 mod bodies;

@@ -1,4 +1,14 @@
-//! Limits of flat documents, checked as things are counted, and what a part of a text then gives.
+//! The parts that a walk over a text with prototypes is made of, each without the walk.
+//!
+//! | Modules | Content |
+//! |---|---|
+//! | `room`, `limit_laws` | how much more may be counted, and the laws of limits |
+//! | `names`, `scope` | the names of a scope, and each step that changes it |
+//! | `interface`, `fields`, `named` | the interface of a prototype, and its fields by name |
+//! | `given`, `inside`, `values`, `closing` | what fields are given between braces |
+//! | `put` | the nodes that were added |
+//! | `ends`, `wires`, `routes`, `kept` | ROUTEs, put together without copying them |
+//! | `joined`, `joins`, `sides`, `join_laws` | what ISs join |
 #![tactic(auto)]
 
 mod closing;

@@ -20,7 +20,7 @@ pub struct Room {
 
 impl Room {
     /// Returns the room before anything is counted: 65,536 nodes, 8,388,608 instances, 8,388,608
-    /// items and 2^27 things in all.
+    /// items and 4,194,304 things in all.
     pub fn new() -> Room
         ensures { result ≡ full }
     {

@@ -1,4 +1,6 @@
-//! The host and the viewers of a shared world.
+//! The host and the viewers of a shared world, without a network: `host` numbers `inputs`; a
+//! `viewer` applies them `ahead` in order, has offers `waiting`, makes the `pieces` of its
+//! snapshot, and is `gathering` those of another.
 #![tactic(auto)]
 
 mod ahead;

@@ -1,4 +1,13 @@
 //! Turns of the host and the viewers of a shared world over a port.
+//!
+//! | Modules | Content |
+//! |---|---|
+//! | `port`, `traffic`, `fake`, `udp` | a port, what passed through it, one in memory, one of UDP |
+//! | `host`, `viewer`, `most` | one turn |
+//! | `runs`, `view`, `rounds` | turns one after another: a host, a viewer, all of them together |
+//! | `gather`, `give` | a viewer that joins by pieces of a snapshot, and one that gives them |
+//! | `heard`, `ends` | what each viewer has asked for, and when a host drops inputs or is done |
+//! | `fault` | why a turn ends early |
 #![tactic(auto)]
 
 mod ends;

@@ -1,5 +1,5 @@
-//! Tests of hosts, viewers, their turns and their snapshots, through their public calls. The crate
-//! has nothing else.
+//! Tests of hosts, viewers, their turns, and snapshots that earlier versions stored, through their
+//! public calls. The crate has nothing else.
 #![tactic(auto)]
 
 #[cfg(test)]
