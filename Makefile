@@ -3,7 +3,8 @@ SHELL := bash
 .SHELLFLAGS := -eu -o pipefail -c
 .PHONY: run try quick picture room test-room test-room-quick room-library \
         share soak fuzz test cases prefixes refusals check definitions calls \
-        bench growth format install library library-unproved bindings fuzz-library
+        bench growth format install library library-unproved bindings fuzz-library \
+        dist test-dist abi site
 
 JOB ?= examples/two-clocks.job
 ROOM ?= examples/rooms/door.job
@@ -17,9 +18,10 @@ export RT_JOBS ?= $(shell nproc | awk '{ print ($$1 < 4 ? $$1 : 4) }')
 # The kit's rt, by which a workspace of many crates needn't be walked again for each of them.
 RT := "$(CURDIR)/scripts/rt"
 
-# Whether a library stands, and no source is newer.
-fresh = { [ -e $(1) ] && [ -z "$$(find crates -path '*/out' -prune -o \
-  \( -name '*.rt' -o -name '*.antt' \) -newer $(1) -print -quit)" ]; }
+# Whether a program or a library stands, and no source is newer.
+fresh = { [ -e $(1) ] && [ -z "$$(find crates include/x3d.h bindings/c/version.c packaging/version -path '*/out' -prune -o \
+  \( -name '*.rt' -o -name '*.antt' -o -path 'include/*' -o -path 'bindings/*' -o -path 'packaging/*' \) \
+  -newer $(1) -print -quit)" ]; }
 
 # Proves and builds the program, and runs a job: its trace, and then its scene.
 run:
@@ -95,8 +97,9 @@ fuzz:
 # and jobs from C, Rust and Python, by the library of `make library`, or where it isn't built or is older than a
 # source by one that is built of the same sources without a proof.
 test: definitions
-	@log=$$(mktemp); trap 'rm -f "$$log"' EXIT; \
-	$(RT) ci 2>&1 | tee "$$log"; \
+	@mkdir -p out; log=out/gate.part; rm -f out/gate.log; \
+	{ git describe --always --dirty --abbrev=40 --exclude='*' 2> /dev/null || echo unknown; } > "$$log"; \
+	$(RT) ci 2>&1 | tee -a "$$log"; \
 	scripts/cases; \
 	scripts/prefixes; \
 	scripts/refusals; \
@@ -110,7 +113,7 @@ test: definitions
 	else $(call fresh,out/quick/libx3d.so) || scripts/unproved_library out/quick; \
 	  echo "bindings: by a library that is built without a proof of the sources that the gate has proved"; \
 	  scripts/bindings --quick out/quick; fi; \
-	tail -n 1 "$$log"
+	mv "$$log" out/gate.log; tail -n 1 out/gate.log
 
 # Proves and builds the program, and runs it on the cases of cases/ and the examples.
 cases:
@@ -141,6 +144,7 @@ definitions:
 	@scripts/calls
 	@scripts/snapshots
 	@scripts/sums
+	@scripts/abi
 
 # Which public functions no other crate, no test and not the program calls.
 calls:
@@ -168,14 +172,33 @@ bindings: library
 fuzz-library: library
 	@scripts/fuzz_library --tries $(or $(TRIES),10000)
 
-# Puts the proved program on the path, and the library with its header and its pkg-config file beside it.
+# Puts the proved program on the path with its man page and completions, and the library with its header and the files of
+# pkg-config and CMake.
 install: library
 	@cd crates/x3d_share && $(RT) run -- --version
-	@install -D crates/x3d_share/out/x3d_share $(DESTDIR)$(PREFIX)/bin/x3d_share
-	@install -D -m 644 include/x3d.h $(DESTDIR)$(PREFIX)/include/x3d.h
-	@install -D -m 644 out/libx3d.a $(DESTDIR)$(PREFIX)/lib/libx3d.a
-	@install -D out/libx3d.so $(DESTDIR)$(PREFIX)/lib/libx3d.so
-	@install -D -m 644 out/x3d.pc $(DESTDIR)$(PREFIX)/lib/pkgconfig/x3d.pc
+	@packaging/install "$(DESTDIR)" "$(PREFIX)"
+
+# Makes the packages of a release in out/dist/: of the proved program and library where they are built, else of some
+# that are built without a proof, in minutes; these are named so.
+dist:
+	@program=crates/x3d_share/out/x3d_share; $(call fresh,"$$program") || { program=out/quick/x3d_share; \
+	  $(call fresh,"$$program") || scripts/unproved "$$program"; }; \
+	library=out; $(call fresh,out/libx3d.so) || { library=out/quick; \
+	  $(call fresh,out/quick/libx3d.so) || scripts/unproved_library out/quick; }; \
+	scripts/abi "$$library/libx3d.so"; scripts/dist "$$program" "$$library" out/dist
+
+# Installs the packages of out/dist/ in a chroot of Debian 12 without the kit, and uses them there. Wants root,
+# debootstrap, and Debian's archive.
+test-dist:
+	@scripts/test_dist out/dist
+
+# Whether the library's binary interface is the last release's, or its number is another.
+abi:
+	@scripts/abi
+
+# The pages as a site in out/site/, its links checked. Wants pandoc.
+site:
+	@scripts/site out/site
 
 # Measures the proved program beside C kernels of the same work; wants a C compiler.
 bench:

@@ -156,6 +156,21 @@ enum x3d_kind {
 /* The most bytes that a datagram has: a buffer of this size always has room for one. */
 #define X3D_PACKET 256
 
+/* The number of this binary interface, the last part of the library's SONAME. It rises with each
+ * change after which a compiled program has to be compiled again. */
+#define X3D_ABI 0
+
+/* ---- the library itself. Each text is a constant of the library; do not free it. */
+
+/* Returns the library's version, such as `0.2.0`, or `0.2.0-unproved` if it was built without a
+ * proof. */
+const char *x3d_version(void);
+/* Returns the X3D_ABI that the library was built with. */
+uint32_t x3d_abi(void);
+/* Returns what a status means: the words beside it in x3d_status. Any other number has the text
+ * `unknown status`. */
+const char *x3d_status_text(uint8_t status);
+
 /* ---- a world */
 
 /* Opens the world of a scene's text (Classic encoding), in place of the one that the handle had. On

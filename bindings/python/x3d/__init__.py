@@ -15,13 +15,14 @@ or a shared world, whose datagrams the program carries between them:
         viewer.take(packet)
 
 Coordinates are whole millionths of a unit, times whole microseconds. The shared object is the one
-that the variable X3D_SO names, or libx3d.so beside this file, or in out/ of the checkout, or on the
-system's path of libraries.
+that the variable X3D_SO names, or libx3d.so beside this file, or in out/ of the checkout, or the
+system's libx3d.so.0.
 """
 
 from ._faults import Fault, Refusal
+from ._library import version
 from ._nodes import Host, Reply, Taken, Viewer
 from ._reading import Aim, Change, Meeting
 from ._world import Saved, Work, World
 
-__all__ = ["Aim", "Change", "Fault", "Host", "Meeting", "Refusal", "Reply", "Saved", "Taken", "Viewer", "Work", "World"]
+__all__ = ["Aim", "Change", "Fault", "Host", "Meeting", "Refusal", "Reply", "Saved", "Taken", "Viewer", "Work", "World", "version"]

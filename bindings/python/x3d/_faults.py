@@ -2,6 +2,8 @@
 
 from typing import Dict
 
+from ._library import status_text
+
 
 class Refusal(Exception):
     """Why a scene's text is no world: the line that the program prints, such as
@@ -9,7 +11,8 @@ class Refusal(Exception):
 
 
 class Fault(Exception):
-    """Why a call on a world is refused: its `name` and its `status`.
+    """Why a call on a world is refused: its `name` and its `status`. A status of a later library
+    that this module has no name for is named `Status` and its number.
 
     Nothing has then changed, but that after `Memory` at an input, or while a snapshot is loaded,
     the world is spoiled: only a snapshot brings one back."""
@@ -53,5 +56,10 @@ class Fault(Exception):
 
     def __init__(self, status: int) -> None:
         self.status = status
-        self.name = self.NAMES[status]
+        self.name = self.NAMES.get(status, f"Status{status}")
         super().__init__(self.name)
+
+    @property
+    def text(self) -> str:
+        """What the status means, in a few words of the library."""
+        return status_text(self.status)

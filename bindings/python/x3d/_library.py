@@ -1,7 +1,6 @@
 """The calls as C sees them: include/x3d.h declares them."""
 
 import ctypes
-import ctypes.util
 import os
 from ctypes import POINTER, Structure, c_bool, c_char_p, c_int64, c_size_t, c_uint8, c_uint16, c_uint32, c_uint64, c_void_p
 from pathlib import Path
@@ -111,7 +110,14 @@ CALLS = {
     "x3d_viewer_list_children": [_VIEWER, c_uint32],
     "x3d_viewer_list_value": [_VIEWER, c_uint32, c_uint16],
     "x3d_viewer_copy_numbers": [_VIEWER, POINTER(c_int64), c_size_t, _SIZE],
+    "x3d_version": [],
+    "x3d_abi": [],
+    "x3d_status_text": [c_uint8],
 }
+# What those calls answer that answer something else.
+_ANSWERS = {"x3d_version": c_char_p, "x3d_abi": c_uint32, "x3d_status_text": c_char_p}
+# The number of the binary interface that the declarations above are of.
+ABI = 0
 
 
 def _path() -> str:
@@ -122,9 +128,18 @@ def _path() -> str:
     for path in (here / "libx3d.so", here.parents[2] / "out/libx3d.so"):
         if path.exists():
             return str(path)
-    found = ctypes.util.find_library("x3d")
-    if not found:
-        raise ImportError("there is no libx3d.so: X3D_SO names one, and `make library` builds it")
+    return f"libx3d.so.{ABI}"
+
+
+def _loaded(path: str) -> Any:
+    """The library, if it is there and has the binary interface of this module."""
+    try:
+        found = ctypes.CDLL(path)
+    except OSError as missing:
+        raise ImportError(f"no libx3d: {missing}; X3D_SO names one, and `make library` builds it") from missing
+    abi = found.x3d_abi() if hasattr(found, "x3d_abi") else "unknown"
+    if abi != ABI:
+        raise ImportError(f"{path} has the binary interface {abi}, and this module is for {ABI}")
     return found
 
 
@@ -149,17 +164,29 @@ _SHORT = {
     "x3d_viewer_node_count",
     "x3d_viewer_field_count",
 }
-library = ctypes.CDLL(_path())
+library = _loaded(_path())
 _alone = ctypes.PyDLL(_path())
+
+
+def _call(name: str) -> Callable[..., Any]:
+    """The call of this name, with the types that it is passed and answers."""
+    call: Callable[..., Any] = getattr(_alone if name in _SHORT else library, name)
+    call.argtypes = CALLS[name]  # type: ignore[attr-defined]
+    call.restype = None if name.endswith("_close") else _ANSWERS.get(name, c_uint8)  # type: ignore[attr-defined]
+    return call
 
 
 def calls_of(kind: str) -> Dict[str, Callable[..., Any]]:
     """The calls on a world, a host or a viewer, by what their names have behind `x3d_KIND_`."""
-    found, before = {}, f"x3d_{kind}_"
-    for name, passed in CALLS.items():
-        if name.startswith(before):
-            call = getattr(_alone if name in _SHORT else library, name)
-            call.argtypes = passed
-            call.restype = None if name.endswith("_close") else c_uint8
-            found[name[len(before) :]] = call
-    return found
+    before = f"x3d_{kind}_"
+    return {name[len(before) :]: _call(name) for name in CALLS if name.startswith(before)}
+
+
+def version() -> str:
+    """The library's version, as `0.2.0`; `0.2.0-unproved` if it was built without a proof."""
+    return str(_call("x3d_version")().decode())
+
+
+def status_text(status: int) -> str:
+    """What a status means, in a few words."""
+    return str(_call("x3d_status_text")(status).decode())

@@ -1,5 +1,6 @@
 //! Why a call is refused.
 
+use crate::library;
 use std::error::Error;
 use std::fmt;
 
@@ -23,6 +24,7 @@ impl Error for Refusal {}
 /// Why a call is refused. Nothing has then changed, but that after `Memory` at an input, or while a
 /// snapshot is loaded, the world is spoiled: only a snapshot brings one back.
 #[derive(Clone, Copy, Debug, PartialEq, Eq)]
+#[non_exhaustive]
 pub enum Fault {
     /// Memory was refused.
     Memory,
@@ -88,6 +90,8 @@ pub enum Fault {
     NotPiece,
     /// Pieces of the snapshot are missing.
     NotWhole,
+    /// A status that this crate has no name for, such as one of a later library.
+    Other(u8),
 }
 
 impl Fault {
@@ -127,7 +131,7 @@ impl Fault {
             53 => Fault::OffersSpent,
             54 => Fault::NotPiece,
             55 => Fault::NotWhole,
-            _ => unreachable!("status {status} of an open handle"),
+            other => Fault::Other(other),
         })
     }
 }
@@ -135,6 +139,7 @@ impl Fault {
 impl fmt::Display for Fault {
     fn fmt(&self, f: &mut fmt::Formatter<'_>) -> fmt::Result {
         f.write_str(match self {
+            Fault::Other(status) => library::status_text(*status),
             Fault::Memory => "memory was refused",
             Fault::Range => "a number is out of its range",
             Fault::Spoiled => "memory was refused at an earlier input",
@@ -174,3 +179,21 @@ impl fmt::Display for Fault {
 }
 
 impl Error for Fault {}
+
+#[cfg(test)]
+mod tests {
+    use super::Fault;
+
+    #[test]
+    fn an_unknown_status_is_kept() {
+        let fault = Fault::told(200).unwrap_err();
+        assert_eq!(fault, Fault::Other(200));
+        assert_eq!(fault.to_string(), "unknown status");
+    }
+
+    #[test]
+    fn a_status_without_a_name_here_has_the_text_of_the_library() {
+        let fault = Fault::told(10).unwrap_err();
+        assert_eq!(fault.to_string(), "the handle holds nothing");
+    }
+}

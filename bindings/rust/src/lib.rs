@@ -36,6 +36,7 @@
 mod changes;
 mod fault;
 mod host;
+mod library;
 mod packet;
 mod raw;
 mod reading;
@@ -45,6 +46,7 @@ mod world;
 pub use changes::{Change, Changes};
 pub use fault::{Fault, Refusal};
 pub use host::{Host, Reply};
+pub use library::{is_compatible, version};
 pub use packet::Packet;
 pub use reading::{Aim, Meeting};
 pub use viewer::{Gathered, Taken, Viewer};

@@ -1,7 +1,10 @@
 //! The calls as C sees them. scripts/header compares include/x3d.h with the library, and
 //! `scripts/bindings` this file with the header.
 
-use std::ffi::c_void;
+use std::ffi::{c_char, c_void};
+
+/// The number of the binary interface that the declarations below are of.
+pub const ABI: u32 = 0;
 
 #[repr(C)]
 pub struct RawWorld {
@@ -263,4 +266,7 @@ unsafe extern "C" {
         wanted: *mut usize,
     ) -> u8;
     pub fn x3d_viewer_meet(viewer: *mut RawViewer, aim: *const RawAim, met: *mut RawMet) -> u8;
+    pub fn x3d_version() -> *const c_char;
+    pub fn x3d_abi() -> u32;
+    pub fn x3d_status_text(status: u8) -> *const c_char;
 }
