@@ -178,18 +178,21 @@ install: library
 	@cd crates/x3d_share && $(RT) run -- --version
 	@packaging/install "$(DESTDIR)" "$(PREFIX)"
 
-# Makes the packages of a release in out/dist/: of the proved program and library where they are built, else of some
-# that are built without a proof, in minutes; these are named so.
-dist:
-	@program=crates/x3d_share/out/x3d_share; $(call fresh,"$$program") || { program=out/quick/x3d_share; \
-	  $(call fresh,"$$program") || scripts/unproved "$$program"; }; \
-	library=out; $(call fresh,out/libx3d.so) || { library=out/quick; \
-	  $(call fresh,out/quick/libx3d.so) || scripts/unproved_library out/quick; }; \
-	scripts/abi "$$library/libx3d.so"; scripts/dist "$$program" "$$library" out/dist
+# The program and the folder of the library that a release has: the proved ones where they stand, else some that are
+# built without a proof, in minutes.
+released = program=crates/x3d_share/out/x3d_share; $(call fresh,"$$program") || { program=out/quick/x3d_share; \
+  $(call fresh,"$$program") || scripts/unproved "$$program"; }; \
+  library=out; $(call fresh,out/libx3d.so) || { library=out/quick; \
+  $(call fresh,out/quick/libx3d.so) || scripts/unproved_library out/quick; }
 
-# Installs the packages of out/dist/ in a chroot of Debian 12 without the kit, and uses them there. Wants root,
-# debootstrap, and Debian's archive.
-test-dist:
+# Makes the packages of a release in out/dist/. What holds unproved code is named so.
+dist:
+	@$(released); scripts/abi "$$library/libx3d.so"; scripts/dist "$$program" "$$library" out/dist
+
+# Makes them twice and compares them; installs those of out/dist/ in a chroot of Debian 12 without the kit, and uses them
+# there. Wants root, debootstrap, and Debian's archive.
+test-dist: dist
+	@$(released); scripts/test_dist --twice "$$program" "$$library"
 	@scripts/test_dist out/dist
 
 # Whether the library's binary interface is the last release's, or its number is another.

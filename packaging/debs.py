@@ -11,7 +11,8 @@ from stage import stage_development, stage_program, stage_shared
 
 LIBRARIES = "lib/x86_64-linux-gnu"
 MAINTAINER = "The x3d_share authors <maintainers@users.noreply.kerzubna.example>"
-ROOM = ("room.py", "server.py", "scene.py", "channel.py", "room.js", "page.html")
+# What of room/ no package has: its tests and measurements.
+ROOM_TESTS = ("test_room.py", "measure.py", "browser.py")
 DRAWING = ("picture", "case_files.py", "scene_faces.py", "scene_text.py", "scene_view.py", "trace_lanes.py", "wire.py")
 C_EXAMPLES = ("door.c", "fields.c", "jobs.c", "share.c")
 UNPROVED = " (unproved)"
@@ -34,17 +35,21 @@ class Release(NamedTuple):
         return VERSION if proved else VERSION + mark
 
 
-def copy_folder(source, target, names=None):
-    """Copies the files of a folder that git knows, or those that are named."""
-    listed = told("git", "-C", source, "ls-files").decode().split()
-    for name in names or listed:
+def files_of(folder):
+    """The files of a folder that git knows."""
+    return told("git", "-C", folder, "ls-files").decode().split()
+
+
+def copy(source, target, names):
+    """Copies the files of a folder that are named."""
+    for name in names:
         put(source / name, target / name, 0o755 if os.access(source / name, os.X_OK) else 0o644)
 
 
 def tree_of_program(places, release):
     version = release.version(release.is_program_proved, "-unproved")
     stage_program(places, release.program, version, release.date, "share/zsh/vendor-completions")
-    copy_folder(TOP / "examples", places.below("share/doc/x3d-share/examples"))
+    copy(TOP / "examples", places.below("share/doc/x3d-share/examples"), files_of(TOP / "examples"))
     write(release.gate, places.below("share/doc/x3d-share/gate.txt"))
 
 
@@ -57,20 +62,22 @@ def tree_of_shared(places, release):
 
 def tree_of_development(places, release):
     stage_development(places, release.library)
-    copy_folder(TOP / "bindings/c", places.below("share/doc/libx3d-dev/examples"), C_EXAMPLES)
+    copy(TOP / "bindings/c", places.below("share/doc/libx3d-dev/examples"), C_EXAMPLES)
     put(TOP / "docs/EMBEDDING.md", places.below("share/doc/libx3d-dev/EMBEDDING.md"))
 
 
 def tree_of_python(places, release):
-    copy_folder(TOP / "bindings/python/x3d", places.below("lib/python3/dist-packages/x3d"))
+    module = TOP / "bindings/python/x3d"
+    copy(module, places.below("lib/python3/dist-packages/x3d"), files_of(module))
     for script in ("postinst", "prerm"):
         put(HERE / f"debian/python3-x3d.{script}", places.tree / "DEBIAN" / script, 0o755)
 
 
 def tree_of_room(places, release):
-    copy_folder(TOP / "room", places.below("share/x3d-room/room"), ROOM)
-    copy_folder(TOP / "scripts", places.below("share/x3d-room/scripts"), DRAWING)
-    copy_folder(TOP / "examples/rooms", places.below("share/x3d-room/examples/rooms"))
+    rooms = TOP / "examples/rooms"
+    copy(TOP / "room", places.below("share/x3d-room/room"), set(files_of(TOP / "room")) - set(ROOM_TESTS))
+    copy(TOP / "scripts", places.below("share/x3d-room/scripts"), DRAWING)
+    copy(rooms, places.below("share/x3d-room/examples/rooms"), files_of(rooms))
     for command in ("x3d-room", "x3d-picture"):
         put(HERE / f"debian/{command}.sh", places.below(f"bin/{command}"), 0o755)
 

@@ -1,0 +1,51 @@
+"""What scripts/test_dist compiles and runs over the installed packages."""
+
+DEVELOPMENT = "gcc libc6-dev make pkg-config cmake man-db bash-completion zsh python3-venv"
+CMAKE = b"""cmake_minimum_required(VERSION 3.16)
+project(door C)
+find_package(x3d 0.2 REQUIRED)
+add_executable(shared door.c)
+target_link_libraries(shared x3d::x3d)
+add_executable(static door.c)
+target_link_libraries(static x3d::x3d_static)
+"""
+SCENE = "#X3D V3.0 utf8\\nDEF Knob TouchSensor {}\\nShape { geometry Box {} }\\n"
+PYTHON = f"""import x3d
+with x3d.World("{SCENE}") as world:
+    world.point(1, 1, 0, True, x3d.Aim((0, 0, 10_000_000), (0, 0, -1_000_000)))
+    print(x3d.version(), world.trace())
+fault = x3d.Fault(200)
+assert (fault.name, fault.text) == ("Status200", "unknown status")
+assert x3d.Fault(10).text == "the handle holds nothing"
+print(*{{line.split()[-1] for line in open("/proc/self/maps") if "libx3d" in line}})
+""".encode()
+MAIN_RS = f"""fn main() -> Result<(), Box<dyn std::error::Error>> {{
+    assert!(x3d::is_compatible());
+    let mut world = x3d::World::open(b"{SCENE}")?;
+    world.point(1, 1, 0, true, &x3d::Aim::new([0, 0, 10_000_000], [0, 0, -1_000_000]))?;
+    println!("{{}} {{}}", x3d::version(), world.trace(0)?);
+    Ok(())
+}}
+""".encode()
+# Asks the completion of zsh for its words, as the key Tab does.
+ZSH = b"""zmodload zsh/zpty
+zpty try zsh -f -i
+zpty -w try 'PS1=; autoload -U compinit; compinit -u; print read"y"'
+zpty -r try line '*ready*'
+zpty -n -w try $'x3d_share view --exa\t'
+sleep 2
+zpty -r -t try line && print -r -- $line
+"""
+ROOM = b"""import json, urllib.request
+base = "http://127.0.0.1:8041/"
+get = lambda path: urllib.request.urlopen(base + path, timeout=20).read()
+assert b"<canvas" in get("") or b"room.js" in get("")
+assert len(get("room.js")) > 1000
+assert b"THREE" in get("three.js")
+ask = urllib.request.Request(base + "join", b"{}", {"Content-Type": "application/json"})
+seat = json.load(urllib.request.urlopen(ask, timeout=20))
+events = urllib.request.urlopen(f"http://127.0.0.1:{seat['port']}/events?token={seat['token']}", timeout=20)
+kinds = [line.split()[1] for line in (events.readline() for _ in range(200)) if line.startswith(b"event:")]
+assert kinds[0] == b"scene" and len(kinds) > 20, kinds
+print("page room.js three.js scene goes on")
+"""
