@@ -2,6 +2,7 @@
 import shutil
 import subprocess
 import sys
+import tempfile
 from pathlib import Path
 
 MIRROR = "http://deb.debian.org/debian"
@@ -47,9 +48,9 @@ class Chroot:
 
     def start(self, *words, given=b""):
         """Starts a command in it."""
-        pipes = {"stdin": subprocess.PIPE, "stdout": subprocess.PIPE, "stderr": subprocess.PIPE}
-        process = subprocess.Popen(["chroot", self.folder, *words], env=ENVIRONMENT, **pipes)
-        self.started.append(process)
-        process.stdin.write(given)
-        process.stdin.close()
-        return process
+        with tempfile.TemporaryFile() as file:
+            file.write(given)
+            file.seek(0)
+            pipes = {"stdin": file, "stdout": subprocess.PIPE, "stderr": subprocess.PIPE}
+            self.started.append(subprocess.Popen(["chroot", self.folder, *words], env=ENVIRONMENT, **pipes))
+        return self.started[-1]
