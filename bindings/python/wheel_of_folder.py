@@ -9,7 +9,7 @@ import zipfile
 from pathlib import Path
 
 HERE = Path(__file__).resolve().parent
-NAME, VERSION = "x3d", "0.1.0"
+NAME, VERSION = "x3d", "0.2.0"
 INFO = f"{NAME}-{VERSION}.dist-info"
 
 
