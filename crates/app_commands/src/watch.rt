@@ -53,7 +53,7 @@ impl Refusal {
 
     fn words(self) -> &'static str {
         match self {
-            Refusal::Foreign => "no datagram of a shared world",
+            Refusal::Foreign => "not a datagram of a shared world",
             Refusal::WrongScene => "another scene",
             Refusal::BadViewer => "no such viewer",
             Refusal::OldBoot => "an old boot",
