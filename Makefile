@@ -140,6 +140,7 @@ check: definitions
 definitions:
 	@scripts/definitions
 	@scripts/imports
+	@scripts/groups
 	@scripts/pages
 	@scripts/calls
 	@scripts/snapshots

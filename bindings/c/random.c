@@ -1,17 +1,9 @@
 /* Calls the library at random: 100,000 calls in any order on four handles, open or closed, with
  * random numbers and bytes. Ends with 0; a sanitizer or valgrind tells what else went wrong. */
-#include "x3d.h"
-#include <stdio.h>
-#include <stdlib.h>
-#include <string.h>
+#include "dice.h"
 
 static const char *scenes[] = {
-    "#X3D V3.0 utf8\nDEF Motor TimeSensor { cycleInterval 2 loop TRUE }\nDEF Slide "
-    "PositionInterpolator { key [ 0, 1 ] keyValue [ 0 0 0, 1 "
-    "0 0 ] }\nDEF Door Transform { children [ DEF Knob TouchSensor {} Shape { geometry Box { size "
-    "1 2 0.1 } } ] }\nROUTE Knob.touchTime TO "
-    "Motor.startTime\nROUTE Motor.fraction_changed TO Slide.set_fraction\nROUTE "
-    "Slide.value_changed TO Door.translation\n",
+    DOOR,
     "#X3D V3.0 utf8\nGroup { children [ Shape { geometry Box {} } Switch { whichChoice 0 children "
     "[ TouchSensor {} ] } ] }\n",
     "#X3D V3.0 utf8\n",
@@ -20,24 +12,6 @@ static const char *scenes[] = {
 };
 
 static const char *names[] = {"translation", "children", "set_fraction", "\xc3\xa9\xff", ""};
-
-static uint64_t state = 88172645463325252u;
-
-static uint64_t any(void) {
-  state ^= state << 13;
-  state ^= state >> 7;
-  state ^= state << 17;
-  return state;
-}
-
-static uint64_t below(uint64_t limit) { return any() % limit; }
-
-/* Mostly small, and sometimes any number. */
-static uint64_t number(void) { return below(4) ? below(12) : any(); }
-
-static int64_t coordinate(void) {
-  return below(8) ? (int64_t)below(4000001) - 2000000 : (int64_t)any();
-}
 
 int main(int count, char **words) {
   struct x3d_world worlds[4] = {X3D_NONE, X3D_NONE, X3D_NONE, X3D_NONE};

@@ -150,7 +150,7 @@ impl fmt::Display for Fault {
                 "the node has no field of that number or name, or it holds no value"
             }
             Fault::Short => "the snapshot is not whole",
-            Fault::BadMagic => "this is no snapshot",
+            Fault::BadMagic => "this is not a snapshot",
             Fault::BadVersion => "the version is none that is read",
             Fault::WrongScene => "this is of another scene",
             Fault::BadDigest => "the snapshot was altered",

@@ -1,6 +1,6 @@
 //! A short form of what a datagram says.
 
-use share_wire::{Ack, Ask, Body, Offer, decode};
+use share_wire::{Ack, Ask, Body, Floor, Offer, decode};
 use x3d_values::Stamped;
 
 /// The part of a datagram that a port needs to know to pass it on.
@@ -14,7 +14,9 @@ pub(crate) enum Brief {
     Ack { who: u8, boot: u32, count: u32 },
     /// The input of this number.
     Input { number: u32 },
-    /// A floor, or a piece of a snapshot.
+    /// The host dropped the inputs below this number.
+    Floor { number: u32 },
+    /// A piece of a snapshot.
     Other,
 }
 
@@ -47,13 +49,20 @@ fn of_input(input: Stamped) -> Brief {
     }
 }
 
+fn of_floor(floor: Floor) -> Brief {
+    Brief::Floor {
+        number: floor.number(),
+    }
+}
+
 fn of_body(body: Body) -> Brief {
     match body {
         Body::Ask(ask) => of_ask(ask),
         Body::Offer(offer) => of_offer(offer),
         Body::Ack(ack) => of_ack(ack),
         Body::Input(input) => of_input(input),
-        Body::Floor(_) | Body::Piece(_) => Brief::Other,
+        Body::Floor(floor) => of_floor(floor),
+        Body::Piece(_) => Brief::Other,
     }
 }
 

@@ -71,6 +71,15 @@ impl<P, C> PatientPort<P, C> {
     }
 }
 
+impl<P, C: Drop> PatientPort<P, C> {
+    /// Returns the inner port, which holds nothing back.
+    pub fn into_port(self) -> P
+        ensures { result ≡ self.port }
+    {
+        self.port
+    }
+}
+
 /// Returns the length of the next rest, after one of `rest` milliseconds.
 fn next_rest(rest: u32, is_new: bool) -> u32
     ensures { result ≡ next_rest rest is_new }

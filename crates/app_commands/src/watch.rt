@@ -53,7 +53,7 @@ impl Refusal {
 
     fn words(self) -> &'static str {
         match self {
-            Refusal::Foreign => "no datagram of a shared world",
+            Refusal::Foreign => "not a datagram of a shared world",
             Refusal::WrongScene => "another scene",
             Refusal::BadViewer => "no such viewer",
             Refusal::OldBoot => "an old boot",
@@ -70,6 +70,8 @@ pub enum Note {
     Dropped(Refusal, u16),
     /// Nothing has come to a viewer yet.
     NoAnswer,
+    /// The host dropped the inputs below this number, and a viewer lacks some of them.
+    Behind(u32),
 }
 
 impl fmt::Display for Note {
@@ -78,6 +80,9 @@ impl fmt::Display for Note {
             Note::Viewer(who, peer) => write!(f, "viewer {who} at port {peer}"),
             Note::Dropped(why, peer) => write!(f, "dropped from port {peer}: {}", why.words()),
             Note::NoAnswer => write!(f, "no answer yet"),
+            Note::Behind(floor) => {
+                write!(f, "the host dropped the inputs below {floor}: use --join")
+            }
         }
     }
 }
@@ -101,6 +106,9 @@ pub struct Watch {
     /// was sent to each viewer.
     boots: [u32; PLACES],
     acked: [(u32, u32); PLACES],
+    /// The number that a viewer last asked from, and whether the note of a floor above it was made.
+    asked: u32,
+    is_behind: bool,
     told: [bool; 4],
     counts: Counts,
 }
@@ -114,6 +122,8 @@ impl Watch {
             heard: [false; PLACES],
             boots: [0; PLACES],
             acked: [(0, 0); PLACES],
+            asked: 1,
+            is_behind: false,
             told: [false; 4],
             counts: Counts {
                 turns: 0,
@@ -195,12 +205,29 @@ impl Watch {
         Some(Note::Viewer(who, peer))
     }
 
+    /// Returns the note of a floor that is above what a viewer asks from, if it is the first one.
+    fn floor_above(&mut self, floor: u32) -> Option<Note> {
+        if self.is_behind || floor <= self.asked {
+            return None;
+        }
+        self.is_behind = true;
+        Some(Note::Behind(floor))
+    }
+
+    /// Returns the note that a datagram causes which isn't dropped.
+    fn heard_from(&mut self, peer: u16, bytes: &[u8]) -> Option<Note> {
+        match (self.peer, brief_of(bytes)) {
+            (Peer::Viewer(_), Brief::Floor { number }) => self.floor_above(number),
+            _ => self.first_heard(bytes, peer),
+        }
+    }
+
     /// Records a datagram from a peer, and returns the note that it causes.
     pub fn comes(&mut self, peer: u16, bytes: &[u8]) -> Option<Note> {
         self.counts.received = self.counts.received.saturating_add(1);
         match self.refusal(bytes) {
             Some(why) => self.dropped(why, peer),
-            None => self.first_heard(bytes, peer),
+            None => self.heard_from(peer, bytes),
         }
     }
 
@@ -219,8 +246,10 @@ impl Watch {
     /// Records a datagram that is sent.
     pub fn goes(&mut self, bytes: &[u8]) {
         self.counts.sent = self.counts.sent.saturating_add(1);
-        if let Brief::Ack { who, boot, count } = brief_of(bytes) {
-            self.acks(who, boot, count);
+        match brief_of(bytes) {
+            Brief::Ack { who, boot, count } => self.acks(who, boot, count),
+            Brief::Ask { next, .. } => self.asked = next,
+            _ => {}
         }
     }
 

@@ -19,7 +19,7 @@ use thiserror::Error;
 pub enum JobFault {
     #[error("the input or the output failed, or the input had no end")]
     Device,
-    #[error("line {0} is no step")]
+    #[error("line {0} is not a step")]
     BadJob(u32),
     #[error(transparent)]
     Read(ReadFault),

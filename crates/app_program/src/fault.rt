@@ -11,7 +11,7 @@ pub enum ShareFault {
     TurnsUsedUp,
     #[error("the boot is not above that of the snapshot")]
     BootNotNew,
-    #[error("what was gathered is no snapshot of the scene")]
+    #[error("what was gathered is not a snapshot of the scene")]
     BadSnapshot,
     #[error("memory was refused before")]
     Spoiled,

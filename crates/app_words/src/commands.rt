@@ -31,7 +31,7 @@ Status:
   2  the words or the job are refused
   3  all turns were used up
   4  a device failed
-  5  memory was refused";
+  5  memory ran out";
 
 const RUN_HELP: &str = "A job is lines of steps, a line `scene`, and then the scene. Steps are
 `clock T` and `point V D ox oy oz dx dy dz`.
@@ -44,7 +44,7 @@ Status:
   1  the scene is refused
   2  the words or the job are refused
   4  a device failed
-  5  memory was refused";
+  5  memory ran out";
 
 const FORMAT_HELP: &str = "A scene is read from standard input.
 
@@ -56,7 +56,7 @@ Status:
   1  the scene is refused
   2  the words are refused
   4  a device failed
-  5  memory was refused";
+  5  memory ran out";
 
 const CHECK_HELP: &str = "A scene is read from standard input.
 
@@ -68,23 +68,24 @@ Status:
   1  the scene is refused
   2  the words are refused
   4  a device failed
-  5  memory was refused";
+  5  memory ran out";
 
 const REHEARSE_HELP: &str =
     "A schedule is read from standard input: lines of steps, a line `scene`, and then the scene.
-Steps are `clock T`, `packet N`, `ack V`, `give P host`, `give P V`, `offer V D ox oy oz dx dy dz`,
-`resend V I`, `ask V`, `save V` and `rewind V S B`. Packets and snapshots are numbered from 0
-as they are made.
+Steps of the host are `clock T`, `packet N`, `ack V`, `give P host`, `floor N` and `notice`; those
+of viewer V are `give P V`, `offer V D ox oy oz dx dy dz`, `resend V I`, `ask V`, `save V`,
+`rewind V S B`, `gather P V`, `join V B` and `forget V`. `piece S I` makes packet I of snapshot S.
+Packets and snapshots are numbered from 0, in the order in which they are made.
 
 Example:
   x3d_share rehearse --viewers 2 < examples/rehearsal.schedule
 
 Status:
-  0  the answer of each step, and what each viewer is left with, are printed
+  0  the answer of each step, and the texts of each viewer at the end, are printed
   1  the scene is refused
   2  the words or the schedule are refused
   4  a device failed
-  5  memory was refused";
+  5  memory ran out";
 
 const AGREE_HELP: &str = "A job is read from standard input, as by `run`; its points are those of
 viewers below K.
@@ -98,16 +99,16 @@ Status:
   2  the words or the job are refused
   3  all turns were used up
   4  a device failed
-  5  memory was refused";
+  5  memory ran out";
 
 const HOST_HELP: &str = "A job of clocks is read from standard input; nothing is printed.
 
-With --until N the host ends once N inputs are numbered and each viewer that it has heard of, one
-at least, has asked for what is behind the last; else it takes all its turns. With --keep N it lets
-go of inputs that all those viewers have, but for the last N of them: a viewer that comes later
-joins by the snapshot of another one (`view --join`), or waits in vain.
-A turn takes up to 64 datagrams. While nothing comes the host rests between turns, 1 to 50
-milliseconds: 1000000 turns then last up to 14 hours.
+With --until N the host ends once N inputs are numbered, at least one viewer was heard, and each
+viewer that was heard has asked for the input after the last. Without it the host takes all its
+turns. With --keep N it drops the inputs that all those viewers have, except the last N. A viewer
+that comes later joins by the snapshot of another viewer (`view --join`), or never catches up.
+A turn takes up to 64 datagrams. If nothing comes, the host rests between turns for 1 to 50
+milliseconds, so 1000000 turns last up to 14 hours.
 
 Example:
   x3d_share host --port 4000 --until 2 < examples/two-clocks.job
@@ -118,30 +119,31 @@ Status:
   2  the words or the job are refused
   3  with --until N, all turns were used up
   4  a device failed
-  5  memory was refused";
+  5  memory ran out";
 
 const VIEW_HELP: &str = "A job of this viewer's points is read from standard input.
 
-One of --until and --exactly is needed. With --until N the viewer ends at the first moment with at
-least N inputs applied; by then it may have up to 126 more, so that two viewers' texts may differ.
-With --exactly N it passes over all inputs beyond N, and two viewers print the same bytes.
-A viewer that comes late needn't ask for all inputs. With --join --at Q it begins with a snapshot
-that another viewer sends to port Q in pieces, and asks for those behind it; its --boot has to be
-above the other's. With --give Q a viewer that has applied its N inputs sends its snapshot to
-port Q, a piece of 192 bytes a turn, round and round, in all turns that are left.
-A turn takes up to 64 datagrams. While nothing comes it waits 50 milliseconds, and up to 50 more
-pass before the next: 1000000 turns then last up to 28 hours.
+One of --until and --exactly is required. With --until N the viewer ends once at least N inputs are
+applied. It may have applied up to 126 more by then, so two viewers may print different texts. With
+--exactly N it ignores later inputs, and two viewers print the same bytes.
+A viewer that comes late needn't ask for all inputs. With --join --at Q it starts from a snapshot
+that another viewer sends to port Q in pieces, and asks for the inputs after it. Its --boot must be
+above the other viewer's. With --give Q a viewer that has applied its N inputs sends its snapshot
+to port Q repeatedly, a piece of 192 bytes a turn, in all remaining turns.
+A turn takes up to 64 datagrams. If nothing comes, a turn waits 50 milliseconds, and up to 50 more
+pass before the next, so 1000000 turns last up to 28 hours.
+A viewer that is stopped by a signal prints nothing.
 
 Example:
   x3d_share view --port 4000 --who 0 --boot 1 --until 2 < examples/view.job
 
 Status:
   0  the trace and the scene are printed
-  1  the scene is refused, or with --join, what was gathered is no snapshot of it
+  1  the scene is refused, or with --join, what was gathered is not a snapshot of it
   2  the words or the job are refused, or with --join, the boot is
   3  all turns were used up
   4  a device failed
-  5  memory was refused";
+  5  memory ran out";
 
 /// What help says of a command, and the options of the command.
 struct CommandWords {
@@ -169,7 +171,7 @@ static COMMANDS: [CommandWords; 7] = [
     },
     CommandWords {
         name: "check",
-        about: "Say how many nodes and routes a scene has",
+        about: "Print how many nodes and routes a scene has",
         after_help: CHECK_HELP,
         options: &[],
         flags: &[],
@@ -219,7 +221,8 @@ fn command<'a>(alloc: Global, words: &CommandWords) -> Result<Command<'a>, Alloc
 {
     let mut command = Command::new(alloc, words.name)
         .about(words.about)
-        .after_help(words.after_help);
+        .after_help(words.after_help)
+        .display_name("x3d_share")?;
     for option in words.options {
         command = command.arg(number_arg(alloc, option))?;
     }
@@ -236,7 +239,7 @@ fn bare_command<'a>(alloc: Global) -> Result<Command<'a>, AllocError>
     ensures local { IfOk result (λ c. (fields_of c).has_globals ≡ false) }
 {
     Command::new(alloc, "x3d_share")
-        .version("0.1.0")
+        .version("0.2.0")
         .propagate_version(true)
         .subcommand_required(true)
         .disable_help_subcommand(true)

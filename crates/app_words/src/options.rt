@@ -91,7 +91,7 @@ pub const HOST_UNTIL: NumberOption = NumberOption {
     high: MAX_INPUTS,
     unless: Unless::Nothing,
     value: "N",
-    help: "Ends once N inputs are numbered, and each viewer has all, 0 to 1048576",
+    help: "Ends once N inputs are numbered and each viewer has them, 0 to 1048576",
 };
 
 pub const WHO: NumberOption = NumberOption {
@@ -109,7 +109,7 @@ pub const BOOT: NumberOption = NumberOption {
     high: u32::MAX,
     unless: Unless::Refused,
     value: "B",
-    help: "How often this viewer has been started, this time too, 1 to 4294967295",
+    help: "How often this viewer was started, counting this time, 1 to 4294967295",
 };
 
 /// The option `--until` of `view`.
@@ -128,7 +128,7 @@ pub const EXACTLY: NumberOption = NumberOption {
     high: MAX_INPUTS,
     unless: Unless::Nothing,
     value: "N",
-    help: "Ends once N inputs are applied, and passes over others, 0 to 1048576",
+    help: "Ends once N inputs are applied, and ignores later ones, 0 to 1048576",
 };
 
 pub const AT: NumberOption = NumberOption {
@@ -146,19 +146,19 @@ pub const GIVE: NumberOption = NumberOption {
     high: 65535,
     unless: Unless::Nothing,
     value: "Q",
-    help: "Sends its snapshot to port Q, once its inputs are applied, 1 to 65535",
+    help: "Sends its snapshot to port Q once its inputs are applied, 1 to 65535",
 };
 
 pub const JOIN: FlagOption = FlagOption {
     name: "join",
     letter: None,
-    help: "Begins with the snapshot that another viewer gives to its port",
+    help: "Starts from the snapshot that another viewer sends to its port",
 };
 
 pub const VERBOSE: FlagOption = FlagOption {
     name: "verbose",
     letter: Some('v'),
-    help: "Tells on standard error what comes to pass",
+    help: "Reports events on standard error",
 };
 
 /// Returns the parser for the range of the option.

@@ -85,7 +85,7 @@ pub enum Request {
 /// Why words ask for nothing.
 #[derive(Clone, Copy, Debug, PartialEq, Eq, Error)]
 pub enum OrderFault {
-    #[error("the words are no command")]
+    #[error("the words are not a command")]
     Words,
     #[error("memory was refused")]
     Memory,

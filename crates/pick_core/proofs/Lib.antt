@@ -4,7 +4,7 @@ pub mod Few
 pub mod Moves
 pub mod Order
 pub mod Passing
-pub mod Passed
+pub mod Passes
 pub mod Picking
 pub mod Renewed
 pub mod Rows

@@ -45,7 +45,7 @@ fn reached(origin: i64, dir: i64, n: u64, m: u64) -> i64
     clamped(origin as i128 + way(dir, n, m))
 }
 
-#[tactic(auto, using(crate::proofs::Passed::passed), unfolding(crate::specs::Local::point_along))]
+#[tactic(auto, using(crate::proofs::Passes::passed), unfolding(crate::specs::Local::point_along))]
 fn point_along(ray: Ray, n: u64, m: u64) -> Vec3
     requires { 0 < m }
     ensures { result ≡ spec.point_along ray n m }
@@ -94,7 +94,7 @@ fn back_along(translation: i64, scale: i64, center: i64, at: i64) -> i64
 
 /// Converts a point from the coordinates around a Transform to those inside it, in millionths.
 /// Quotients are rounded down, and results are clamped to the coordinate limit.
-#[tactic(auto, using(crate::proofs::Passed::passed), unfolding(crate::specs::Local::moved_back))]
+#[tactic(auto, using(crate::proofs::Passes::passed), unfolding(crate::specs::Local::moved_back))]
 pub fn moved_back(motion: Motion, at: Vec3) -> Vec3
     ensures { result ≡ spec.moved_back motion at }
 {

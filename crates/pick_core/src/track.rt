@@ -33,7 +33,7 @@ fn met_on(origin: i64, dir: i64, from: i64, along: i64, height: i64) -> i64
 }
 
 /// Returns the point where a ray reaches a height.
-#[tactic(auto, using(crate::proofs::Passed::passed))]
+#[tactic(auto, using(crate::proofs::Passes::passed))]
 fn met_at(origin: Vec3, dir: Vec3, height: i64) -> Vec3
     ensures { result ≡ spec.met_at origin dir height }
 {
@@ -45,7 +45,7 @@ fn met_at(origin: Vec3, dir: Vec3, height: i64) -> Vec3
 }
 
 /// Returns the point where a ray reaches a height, or `None` if the ray doesn't reach it.
-#[tactic(auto, using(crate::proofs::Passed::passed), unfolding(crate::specs::Track::met))]
+#[tactic(auto, using(crate::proofs::Passes::passed), unfolding(crate::specs::Track::met))]
 fn met(ray: Ray, height: i64) -> Option<Vec3>
     ensures { result ≡ spec.met ray height }
 {

@@ -75,7 +75,7 @@ fn shown_child(which: i32, children: &[u32]) -> Option<Place>
 }
 
 /// Returns the child that the Switch of that number shows.
-#[tactic(auto, using(crate::proofs::Passed::passed))]
+#[tactic(auto, using(crate::proofs::Passes::passed))]
 fn shown_place(scene: &Scene, state: &[Fields], node: u32) -> Option<Place>
     ensures { result
         ≡ shown_child_of (listed_in scene.now node) (which_of (slice_get state.now node)) }

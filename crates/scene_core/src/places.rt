@@ -2,7 +2,7 @@
 
 ghost use Rattle.std.specs.Prelude.{◌≡◌, ℕ, codes, ◌+◌, ◌<◌, ◌≤◌, ◌==◌, true, false, min, map, length, IfOk, nat_lt, slice_index_or};
 ghost use Rattle.std.specs.List.{list_any, sum_by};
-ghost use Rattle.x3d_values.specs.Ranges.{max_depth, max_sensors};
+ghost use Rattle.x3d_values.specs.Ranges.{max_depth, max_places, max_sensors};
 ghost use Rattle.x3d_values.specs.Tables.{row_named, rows};
 ghost use Rattle.scene_core.specs.Deep.{too_deep};
 ghost use Rattle.scene_core.specs.Places as spec;
@@ -49,7 +49,7 @@ pub(crate) fn has_too_many_places(
 ) -> Result<bool, AllocError>
     requires { too_deep nodes.now ≡ false }
     ensures { IfOk result
-        (λ many. many ≡ nat_lt spec.max_places (spec.places max_depth nodes.now roots.now)) }
+        (λ many. many ≡ nat_lt max_places (spec.places max_depth nodes.now roots.now)) }
 {
     let counts = counts_of(alloc, nodes)?;
     Ok(MAX_PLACES < together(counts.as_slice(), roots))
@@ -161,7 +161,7 @@ fn add_sensor(nodes: &[SceneNode], sensors: &mut ArrayVec<u32, MAX_SENSORS>, n: 
     ensures fits { result ≡ true → sensors.new.items
         ≡ spec.with_sensor nodes.now sensors.old.items n }
     ensures full { result ≡ false
-        → spec.max_sensors < length (spec.with_sensor nodes.now sensors.old.items n) }
+        → max_sensors < length (spec.with_sensor nodes.now sensors.old.items n) }
 {
     if !is_sensor(nodes, n) {
         return true;

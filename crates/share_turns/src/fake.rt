@@ -47,6 +47,9 @@ impl FakePort {
             (λ _. self.new.inbox.items ≡ self.old.inbox.items ++ datagram ∷ []) }
         ensures err { OnErr result (self.new.inbox.items ≡ self.old.inbox.items) }
         ensures passed { self.new.passed ≡ self.old.passed }
+        ensures failed { self.new.failed ≡ self.old.failed }
+        ensures calls { self.new.calls ≡ self.old.calls }
+        ensures fails_at { self.new.fails_at ≡ self.old.fails_at }
     {
         self.inbox.push_back(datagram)?;
         Ok(())

@@ -21,7 +21,7 @@ pub enum SaveFault {
 pub enum SnapFault {
     #[error("the snapshot is not whole")]
     Short,
-    #[error("this is no snapshot")]
+    #[error("this is not a snapshot")]
     BadMagic,
     #[error("the version of the snapshot is neither 1 nor 2")]
     BadVersion,

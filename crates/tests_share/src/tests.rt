@@ -2,14 +2,6 @@
 //! and over one that fails, with one of them run by its command; hosts, viewers and their snapshots
 //! alone; damaged bytes; and memory that is refused.
 
-mod agreeing;
-mod cable;
-mod given;
-mod pacing;
-mod turning;
-mod viewers;
-mod watching;
-
 use std::alloc::{AllocError, Global};
 use std::process::Abort;
 
@@ -26,4 +18,12 @@ fn all_hold<R: Row>(rt: &impl Abort, alloc: Global, rows: &[R]) {
     }
 }
 
+mod agreeing;
+mod cable;
+mod given;
+mod loading;
+mod pacing;
 mod stored;
+mod turning;
+mod viewers;
+mod watching;

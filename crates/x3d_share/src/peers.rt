@@ -14,10 +14,14 @@ use app_commands::{
 use app_jobs::JobFault;
 use app_program::{Failure, RunFault, ShareFault, read_whole, write_whole};
 use app_words::{HostOrder, Order, ViewEnd, ViewOrder};
-use share_turns::{HostPlan, ViewPlan};
+use share_turns::{HostPlan, Port, ViewPlan};
 use std::io::{self, Eprint};
 use std::net::Net;
 use std::time::Clock;
+
+/// How often a viewer that is done repeats its last ask. With 30 % of the datagrams lost, all of
+/// them are lost once in 50,000 times.
+const LAST_ASKS: u32 = 8;
 
 /// Reads the job of a command in which several peers take part.
 fn read_shared<R: AllocGlobal + Input>(rt: &R, order: &Order) -> Result<SharedJob, JobFault> {
@@ -190,6 +194,16 @@ fn own_port(asked: &ViewOrder) -> u16 {
     }
 }
 
+/// Repeats a viewer's last ask, so that a host which waits for it ends even if some are lost.
+fn repeat_ask<P: Port>(seat: &Seat, host: u16, port: &mut P) {
+    for _ask in 0..LAST_ASKS {
+        if port.send(host, seat.viewer.ask().as_slice()).is_err() {
+            return;
+        }
+        port.wait(1);
+    }
+}
+
 /// Runs a viewer, which offers its points to a host, and returns its trace and its scene.
 fn viewed<R: AllocGlobal + Net + Eprint + Clock>(
     rt: &R,
@@ -203,7 +217,11 @@ fn viewed<R: AllocGlobal + Net + Eprint + Clock>(
     let mut port = PatientPort::new(ExactPort::new(telling, last_input(asked)), rt);
     let plan = view_plan(asked);
     let done = view_job(rt.alloc(), seat, asked.port, &plan, &mut port);
-    let counts = port.port().port().counts();
+    let mut port = port.into_port();
+    if done.is_ok() {
+        repeat_ask(seat, asked.port, &mut port);
+    }
+    let counts = port.port().counts();
     tell_view_end(rt, asked.verbose, seat.viewer.applied(), counts);
     done
 }

@@ -34,7 +34,7 @@ static TOLD: [Told; 12] = [
         Failure::Job(JobFault::BadJob(7)),
         2,
         "refused BadJob line 7",
-        "line 7 is no step",
+        "line 7 is not a step",
     ),
     Told(
         Failure::Job(JobFault::Read(ReadFault {

@@ -7,7 +7,7 @@ use Rattle.app_words.proofs.commands.command.Goals as goal
 pub loop-option-preserved : goal.loop-option-preserved
 loop-option-preserved c =
     let kept = c.loop-option.invariant in
-    let added = c.in_ok-command.ensures in
+    let added = c.in_ok-command-2.ensures in
     let option = c.number_arg.ensures in
     let shape = added.shape option.local ∙ ap (with_rule (app_of c.loop-option.command)) option.rule in (
       one_more with_option _ _ _ _ _ _ c.loop-option-test.true kept.0 shape,
@@ -17,7 +17,7 @@ loop-option-preserved c =
 pub loop-flag-preserved : goal.loop-flag-preserved
 loop-flag-preserved c =
     let kept = c.loop-flag.invariant in
-    let added = c.in_ok-command-2.ensures in
+    let added = c.in_ok-command-3.ensures in
     let flag = c.flag_arg.ensures in
     let shape = added.shape flag.local ∙ ap (with_rule (app_of c.loop-flag.command)) flag.rule in (
       one_more with_flag _ _ _ _ _ _ c.loop-flag-test.true kept.0 shape,

@@ -1,31 +1,7 @@
 /* A host and two viewers run a door, once for each call of malloc and realloc: that one fails.
  * Every answer is then done, refused memory or spoiled; a host goes on where it was, a viewer comes
  * back by a snapshot, and closing frees all. */
-#include "x3d.h"
-#include <stdio.h>
-#include <stdlib.h>
-#include <string.h>
-
-extern void *__libc_malloc(size_t), *__libc_realloc(void *, size_t);
-static long fail_at = -1, calls;
-
-void *malloc(size_t n) { return ++calls == fail_at ? NULL : __libc_malloc(n); }
-void *realloc(void *p, size_t n) { return ++calls == fail_at ? NULL : __libc_realloc(p, n); }
-
-static const char scene[] = "#X3D V3.0 utf8\nDEF Motor TimeSensor { cycleInterval 2 }\nDEF Slide "
-                            "PositionInterpolator { key [ 0, 1 ] keyValue [ 0 0 0, 1 0 0 ] }\n"
-                            "DEF Door Transform { children [ DEF Knob TouchSensor {} Shape { "
-                            "geometry Box { size 1 2 0.1 } } ] }\nROUTE Knob.touchTime TO "
-                            "Motor.startTime\nROUTE Motor.fraction_changed TO "
-                            "Slide.set_fraction\nROUTE Slide.value_changed TO Door.translation\n";
-
-static int refused;
-
-/* Whether this may be answered where memory may be refused. */
-static int told(int status) {
-  if (status == X3D_MEMORY || status == X3D_SPOILED) refused = 1;
-  return status == X3D_DONE || status == X3D_MEMORY || status == X3D_SPOILED;
-}
+#include "refusing.h"
 
 /* A viewer gets what it lacks, as long as it takes it. */
 static int exchange(struct x3d_host *host, struct x3d_viewer *viewer) {
@@ -56,7 +32,6 @@ static int run(void) {
   static uint8_t shot[8192];
   size_t wanted, length = 0;
   uint32_t number, count, before, gathered, applied;
-  refused = 0;
   int wrong = 0, status = x3d_host_open(&host, (const uint8_t *)scene, sizeof scene - 1, 2);
   if (!told(status)) return 20;
   if (status != X3D_DONE) return host.at ? 21 : 0;
@@ -116,20 +91,4 @@ static int run(void) {
   return wrong;
 }
 
-int main(void) {
-  for (long n = 1; n < 100000; n++) {
-    calls = 0;
-    fail_at = n;
-    int wrong = run();
-    fail_at = -1;
-    if (wrong) {
-      printf("growth %ld refused: wrong at %d\n", n, wrong);
-      return 1;
-    }
-    if (!refused) {
-      printf("%ld growths refused, each in turn\n", n - 1);
-      return n < 20;
-    }
-  }
-  return 2;
-}
+int main(void) { return refuse_each(run); }
