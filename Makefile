@@ -146,6 +146,7 @@ definitions:
 	@scripts/snapshots
 	@scripts/sums
 	@scripts/abi
+	@scripts/test_abi
 
 # Which public functions no other crate, no test and not the program calls.
 calls:
@@ -199,6 +200,7 @@ test-dist: dist
 # Whether the library's binary interface is the last release's, or its number is another.
 abi:
 	@scripts/abi
+	@scripts/test_abi
 
 # The pages as a site in out/site/, its links checked. Wants pandoc.
 site:
