@@ -29,7 +29,7 @@ def write_crate(release, folder):
     version = release.version(release.is_library_proved, "-unproved")
     top = TOP / "bindings/rust"
     names = told("git", "-C", top, "ls-files").decode().split()
-    files = {name: (top / name).read_bytes() for name in names if name not in (".gitignore", "Cargo.lock")}
+    files = {name: (top / name).read_bytes() for name in names if name != ".gitignore"}
     manifest = files["Cargo.toml"].decode()
     files["Cargo.toml"] = manifest.replace(f'version = "{VERSION}"', f'version = "{version}"', 1).encode()
     files |= {name: (TOP / name).read_bytes() for name in ("LICENSE-MIT", "LICENSE-APACHE")}
