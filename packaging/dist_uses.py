@@ -1,6 +1,14 @@
 """What scripts/test_dist compiles and runs over the installed packages."""
 
 DEVELOPMENT = "gcc libc6-dev make pkg-config cmake man-db bash-completion zsh python3-venv"
+DOOR = "/usr/share/doc/libx3d-dev/examples/door.c"
+C_BY_PKG_CONFIG = f"mkdir /c && cc -Wall -Werror {DOOR} $(pkg-config --cflags --libs x3d) -o /c/door && /c/door"
+C_BY_CMAKE = f"""cp {DOOR} /c && cat > /c/CMakeLists.txt
+cmake -S /c -B /c/out > /dev/null && cmake --build /c/out > /dev/null && /c/out/shared && /c/out/static"""
+C_BY_ARCHIVE = f"""mkdir /t && tar xzf /dist/libx3d-*.tar.gz -C /t --strip-components=1 || exit 1
+export PKG_CONFIG_PATH=/t/lib/pkgconfig
+cc {DOOR} $(pkg-config --cflags --libs x3d) -Wl,-rpath,/t/lib -o /t/door && /t/door && ldd /t/door"""
+CARGO = "cd /r && rm -rf target && export PATH=/rust/bin:$PATH && cargo run -q --offline"
 CMAKE = b"""cmake_minimum_required(VERSION 3.16)
 project(door C)
 find_package(x3d 0.2 REQUIRED)
@@ -27,6 +35,12 @@ MAIN_RS = f"""fn main() -> Result<(), Box<dyn std::error::Error>> {{
     Ok(())
 }}
 """.encode()
+MANIFEST = b"""[package]
+name = "r"
+edition = "2024"
+[dependencies]
+x3d = { path = "x3d" }
+"""
 # Asks the completion of zsh for its words, as the key Tab does.
 ZSH = b"""zmodload zsh/zpty
 zpty try zsh -f -i
@@ -36,10 +50,10 @@ zpty -n -w try $'x3d_share view --exa\t'
 sleep 2
 zpty -r -t try line && print -r -- $line
 """
-ROOM = b"""import json, urllib.request
-base = "http://127.0.0.1:8041/"
+ROOM = b"""import json, sys, urllib.request
+base = f"http://127.0.0.1:{sys.argv[1]}/"
 get = lambda path: urllib.request.urlopen(base + path, timeout=20).read()
-assert b"<canvas" in get("") or b"room.js" in get("")
+assert b"room.js" in get("")
 assert len(get("room.js")) > 1000
 assert b"THREE" in get("three.js")
 ask = urllib.request.Request(base + "join", b"{}", {"Content-Type": "application/json"})
