@@ -9,7 +9,7 @@ pub mod Texts
 pub mod Stack
 pub mod Resting
 pub mod Scripts
-pub mod CourseView
+pub mod Course
 pub mod Settles
 pub mod ScriptLaws
 pub mod Installing

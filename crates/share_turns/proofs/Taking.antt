@@ -1,6 +1,6 @@
 -- What a viewer takes in a turn, datagram by datagram.
 use Rattle.std.proofs.Common.{◌≡◌, ℕ, ◌+◌, ◌≤◌, List, [], ◌∷◌, ◌++◌, length, length-append, refl, ap, sym, ◌∙◌, arith, append-nil, subst, inl, inr}
-use Rattle.std.specs.Prelude.{Bool, true, false, Option, Result, Err, IfOk, is_ok}
+use Rattle.std.specs.Prelude.{Bool, true, false, Option, Result, Ok, Err, IfOk, is_ok, replicate}
 use Rattle.x3d_values.specs.declared.pointing.Point.{Point}
 use Rattle.std.proofs.lemmas.Bool.{false≢true}
 use Rattle.std.proofs.lemmas.List.{map-append}
@@ -16,7 +16,7 @@ use Rattle.share_turns.specs.declared.fault.TurnFault.{TurnFault}
 use Rattle.share_turns.specs.declared.fault.TurnFault.TheVariants as turn_fault
 use Rattle.share_turns.specs.Exchanges.{AreSent, IsEnd, sent_to}
 use Rattle.share_turns.specs.HostTurn.{failures_after}
-use Rattle.share_turns.specs.ViewerTurn.{AreTaken, IsOffered, IsTaking, IsViewerTurn, Takes, Taking, received, refusals_of, requests}
+use Rattle.share_turns.specs.ViewerTurn.{AreTaken, IsCutByMemory, IsOffered, IsTaking, IsViewerTurn, Takes, Taking, received, refusals_of, requests}
 use Rattle.share_turns.specs.Refusals.{IsAnswerAfter}
 use Rattle.share_turns.proofs.Answering.{answer_kept, answered_at_once, answered_then, went_on}
 use Rattle.share_turns.proofs.Sending.{grows_none, grows_then}
@@ -78,6 +78,19 @@ takes_more v x result a b c d refused new n same t grows took answers =
 
 -- ---- a whole turn
 
+-- whatever cut the turn, nothing was sent
+cut_kept : (fault : TurnFault) (rest : List Traffic) (sent : List (List ℕ)) → rest ≡ [] → sent ≡ [] → IsCutByMemory (Err fault) rest sent
+cut_kept turn_fault.Port rest sent a b = tt
+cut_kept turn_fault.Spoiled rest sent a b = tt
+cut_kept turn_fault.Memory rest sent a b = (a, b)
+
+-- a turn whose calls all had memory isn't cut by it
+never_cut : (result : Result Bool TurnFault) (rest : List Traffic) (sent : List (List ℕ)) → IsAnswerAfter [] result → IsCutByMemory result rest sent
+never_cut (Ok offered) rest sent a = tt
+never_cut (Err turn_fault.Port) rest sent a = tt
+never_cut (Err turn_fault.Spoiled) rest sent a = tt
+never_cut (Err turn_fault.Memory) rest sent a = absurd (omega (arith, ap length a.1, length-append (replicate a.0 false) (true ∷ [])))
+
 -- it ended early, before anything was sent
 pub turn_stopped : (v begun : ViewerView) (host : ℕ) (point : Option Point) (offered : Bool) (a b : Option (List Traffic)) (fault : TurnFault) (new : ViewerState Scripted)
     → begun ≡ with_state v begun.state → IsOffered v.state point offered begun.state → Takes (machine_of begun) begun.mark begun.who (Err fault) a b begun.state new
@@ -96,6 +109,7 @@ turn_stopped v begun host point offered a b fault new same offers takes =
       rest = t.rest;
       sent = [];
       ended = inr (t.ended, refl);
+      cut = cut_kept fault t.rest [] t.ended refl;
       of_wanted = (requests (machine_of v) v.mark v.who new, refl);
       told = rw (append-nil (received t.takings ++ t.rest)) t.told;
     }
@@ -122,6 +136,7 @@ turn_sent v begun taken host point offered a b c result same offers then takes s
       rest = t.rest;
       sent = s.sent;
       ended = inl t.ended;
+      cut = never_cut result t.rest s.sent quiet;
       of_wanted = s.of_wanted;
       told = grows_then a b c (received t.takings ++ t.rest) (sent_to host s.sent) t.told s.told;
     }

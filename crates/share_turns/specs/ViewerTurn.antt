@@ -1,6 +1,6 @@
 -- A turn of a viewer: it offers a point, takes the datagrams that arrive, and then sends to its
 -- host.
-use Rattle.std.specs.Prelude.{◌≡◌, ◌⊎◌, ℕ, ◌≤◌, Bool, true, false, is_ok, List, [], ◌∷◌, ◌++◌, map, length}
+use Rattle.std.specs.Prelude.{◌≡◌, ◌⊎◌, ⊤, ℕ, ◌≤◌, Bool, true, false, is_ok, List, [], ◌∷◌, ◌++◌, map, length}
 use Rattle.std.specs.Prelude.{Option, Some, None, Result, Ok, Err, IfOk}
 use Rattle.x3d_values.specs.declared.pointing.Point.{Point}
 use Rattle.share_wire.specs.Decoding.{decoded}
@@ -17,6 +17,7 @@ use Rattle.share_turns.specs.declared.traffic.Traffic.{Traffic}
 use Rattle.share_turns.specs.declared.traffic.Traffic.TheVariants.{Received}
 use Rattle.share_turns.specs.Told.{Grows}
 use Rattle.share_turns.specs.declared.fault.TurnFault.{TurnFault}
+use Rattle.share_turns.specs.declared.fault.TurnFault.TheVariants.{Memory}
 use Rattle.share_turns.specs.Exchanges.{IsEnd, IsSentOf, most_taken, sent_to}
 use Rattle.share_turns.specs.HostTurn.{datagrams_of, listed}
 use Rattle.share_turns.specs.Refusals.{IsAnswerAfter}
@@ -79,6 +80,12 @@ abbrev pub IsCut : Result Bool TurnFault → (rest : List Traffic) → (sent : L
 IsCut (Ok offered) rest sent = ⊥
 IsCut (Err fault) rest sent = (rest ≡ []) × (sent ≡ [])
 
+-- memory that is refused to an input cuts the turn: nothing is sent, whichever datagram it was
+abbrev pub IsCutByMemory : Result Bool TurnFault → (rest : List Traffic)
+    → (sent : List (List ℕ)) → Type 0
+IsCutByMemory (Err Memory) rest sent = (rest ≡ []) × (sent ≡ [])
+IsCutByMemory result rest sent = ⊤
+
 -- a turn of a viewer; if it ends early, perhaps not everything is sent
 pub record IsViewerTurn {W : Type 0} (m : Machine W) (mark : List ℕ) (who host : ℕ)
     (point : Option Point) (told_before told_after : Option (List Traffic))
@@ -94,5 +101,6 @@ pub record IsViewerTurn {W : Type 0} (m : Machine W) (mark : List ℕ) (who host
   pub rest : List Traffic
   pub sent : List (List ℕ)
   pub ended : IsEnd true (length takings) rest ⊎ IsCut result rest sent
+  pub cut : IsCutByMemory result rest sent
   pub of_wanted : IsSentOf (is_ok result) sent (requests m mark who new)
   pub told : Grows told_before told_after ((received takings ++ rest) ++ sent_to host sent)
