@@ -139,6 +139,7 @@ check: definitions
 # there, the test of the stored snapshots has their bytes, and scripts/rt has the sums of the kit's rt.
 definitions:
 	@scripts/definitions
+	@scripts/tables --check
 	@scripts/imports
 	@scripts/groups
 	@scripts/pages
