@@ -18,14 +18,23 @@ class Chroot:
     def __enter__(self):
         if self.folder.exists():
             sys.exit(f"test_dist: {self.folder} exists already")
-        make = ["debootstrap", "--variant=minbase", "bookworm", self.folder, MIRROR]
-        made = subprocess.run(make, capture_output=True, text=True)
-        if made.returncode:
+        try:
+            self.make()
+        except BaseException:
             self.__exit__()
+            raise
+        return self
+
+    def make(self):
+        words = ["debootstrap", "--variant=minbase", "bookworm", self.folder, MIRROR]
+        made = subprocess.run(words, capture_output=True, text=True)
+        if made.returncode:
             sys.exit(f"test_dist: debootstrap failed: {made.stdout[-500:]}")
         shutil.copy("/etc/resolv.conf", self.folder / "etc/resolv.conf")
         self.mount("-t", "proc", "proc", at="proc")
-        return self
+        self.mount("-t", "devpts", "-o", "newinstance,ptmxmode=0666", "devpts", at="dev/pts")
+        (self.folder / "dev/ptmx").unlink(missing_ok=True)
+        (self.folder / "dev/ptmx").symlink_to("pts/ptmx")
 
     def __exit__(self, *_):
         for process in self.started:

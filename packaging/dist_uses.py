@@ -41,14 +41,16 @@ edition = "2024"
 [dependencies]
 x3d = { path = "x3d" }
 """
-# Asks the completion of zsh for its words, as the key Tab does.
-ZSH = b"""zmodload zsh/zpty
+# Types words and the key Tab in a zsh, and then a key that writes what stands there to a file.
+ZSH = b"""export TERM=vt100
+zmodload zsh/zpty
 zpty try zsh -f -i
-zpty -w try 'PS1=; autoload -U compinit; compinit -u; print read"y"'
+zpty -w try 'autoload -U compinit; compinit -u; show() { print -r -- "$BUFFER" > /typed; }; zle -N show; bindkey ^X show'
+zpty -w try 'print read"y"'
 zpty -r try line '*ready*'
-zpty -n -w try $'x3d_share view --exa\t'
-sleep 2
-zpty -r -t try line && print -r -- $line
+zpty -n -w try $'x3d_share view --exa\t\x18'
+repeat 600; do [[ -s /typed ]] && break; sleep 0.1; done
+cat /typed
 """
 ROOM = b"""import json, sys, urllib.request
 base = f"http://127.0.0.1:{sys.argv[1]}/"
