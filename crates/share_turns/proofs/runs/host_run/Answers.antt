@@ -5,14 +5,14 @@ use Rattle.share_turns.specs.Runs.{HostTurnsEnd, hosting}
 use Rattle.share_turns.proofs.Running.{hosted_all, hosted_in_vain, hosted_more, hosted_over, none_failed}
 use Rattle.share_turns.proofs.runs.host_run.Goals as goal
 
-pub loop-datagram-preserved : goal.loop-datagram-preserved
-loop-datagram-preserved g c =
+pub loop-turn-preserved : goal.loop-turn-preserved
+loop-turn-preserved g c =
     let going = sym c.is_over.ensures ∙ c.if-is_over.false in
-    let turn = rw (c.loop-datagram.invariant.1, c.item_at.ensures) at c.in_ok-kept_turn.ensures.done in (
-      hosted_more c.args.host.now.mark c.args.clocks.now c.args.plan.now c.loop-datagram.turn (g.P.Port.told c.args.port.now) (g.P.Port.told c.loop-datagram.port) (g.P.Port.told c.kept_turn.new.port)
-          c.args.host.now.part (hosting c.loop-datagram.host.part c.loop-datagram.heard) (hosting c.kept_turn.new.host.part c.kept_turn.new.heard) c.loop-datagram.invariant.0 going turn,
-      c.in_ok-kept_turn.ensures.mark ∙ c.loop-datagram.invariant.1,
-      c.in_ok-kept_turn.ensures.failures ∙ c.loop-datagram.invariant.2,
+    let turn = rw (c.loop-turn.invariant.1, c.item_at.ensures) at c.in_ok-kept_turn.ensures.done in (
+      hosted_more c.args.host.now.mark c.args.clocks.now c.args.plan.now c.loop-turn.turn (g.P.Port.told c.args.port.now) (g.P.Port.told c.loop-turn.port) (g.P.Port.told c.kept_turn.new.port)
+          c.args.host.now.part (hosting c.loop-turn.host.part c.loop-turn.heard) (hosting c.kept_turn.new.host.part c.kept_turn.new.heard) c.loop-turn.invariant.0 going turn,
+      c.in_ok-kept_turn.ensures.mark ∙ c.loop-turn.invariant.1,
+      c.in_ok-kept_turn.ensures.failures ∙ c.loop-turn.invariant.2,
     )
 
 pub returns-in_err-kept_turn-clause-ended : goal.returns-in_err-kept_turn-clause-ended
@@ -22,39 +22,39 @@ returns-in_err-kept_turn-clause-ended g c =
     let end : HostTurnsEnd c.args.host.now.mark c.args.clocks.now c.args.plan.now c.args.turns (g.P.Port.told c.args.port.now)
     (g.P.Port.told c.kept_turn.new.port) c.args.host.now.part fault c.kept_turn.new.host.part =
     record {
-      done = c.loop-datagram.turn;
-      fewer = omega (arith, c.loop-datagram-test.true);
-      between = g.P.Port.told c.loop-datagram.port;
-      mid = hosting c.loop-datagram.host.part c.loop-datagram.heard;
-      before = c.loop-datagram.invariant.0;
+      done = c.loop-turn.turn;
+      fewer = omega (arith, c.loop-turn-test.true);
+      between = g.P.Port.told c.loop-turn.port;
+      mid = hosting c.loop-turn.host.part c.loop-turn.heard;
+      before = c.loop-turn.invariant.0;
       going = sym c.is_over.ensures ∙ c.if-is_over.false;
       heard = c.kept_turn.new.heard;
-      last = rw (c.loop-datagram.invariant.1, c.item_at.ensures) at c.in_err-kept_turn.ensures.ended;
+      last = rw (c.loop-turn.invariant.1, c.item_at.ensures) at c.in_err-kept_turn.ensures.ended;
     } in
     rw failed end
 
 pub returns-then-is_over-clause-done : goal.returns-then-is_over-clause-done
 returns-then-is_over-clause-done g c =
-    hosted_over c.args.host.now.mark c.args.clocks.now c.args.plan.now c.loop-datagram.turn c.args.turns (g.P.Port.told c.args.port.now) (g.P.Port.told c.loop-datagram.port)
-    c.args.host.now.part c.loop-datagram.host.part c.loop-datagram.heard (omega (arith, c.loop-datagram-test.true)) c.loop-datagram.invariant.0 (sym c.is_over.ensures ∙ c.if-is_over.true)
+    hosted_over c.args.host.now.mark c.args.clocks.now c.args.plan.now c.loop-turn.turn c.args.turns (g.P.Port.told c.args.port.now) (g.P.Port.told c.loop-turn.port)
+    c.args.host.now.part c.loop-turn.host.part c.loop-turn.heard (omega (arith, c.loop-turn-test.true)) c.loop-turn.invariant.0 (sym c.is_over.ensures ∙ c.if-is_over.true)
 
 pub returns-then-is_over-2-clause-done : goal.returns-then-is_over-2-clause-done
 returns-then-is_over-2-clause-done g c =
-    hosted_over c.args.host.now.mark c.args.clocks.now c.args.plan.now c.loop-datagram.turn c.args.turns (g.P.Port.told c.args.port.now) (g.P.Port.told c.loop-datagram.port)
-    c.args.host.now.part c.loop-datagram.host.part c.loop-datagram.heard (omega (arith, c.loop-datagram-test.false)) c.loop-datagram.invariant.0 (sym c.is_over-2.ensures ∙ c.if-is_over-2.true)
+    hosted_over c.args.host.now.mark c.args.clocks.now c.args.plan.now c.loop-turn.turn c.args.turns (g.P.Port.told c.args.port.now) (g.P.Port.told c.loop-turn.port)
+    c.args.host.now.part c.loop-turn.host.part c.loop-turn.heard (omega (arith, c.loop-turn-test.false)) c.loop-turn.invariant.0 (sym c.is_over-2.ensures ∙ c.if-is_over-2.true)
 
 pub returns-clause-done : goal.returns-clause-done
 returns-clause-done g c =
-    let all : c.loop-datagram.turn ≡ c.args.turns = omega (arith, c.loop-datagram-test.false) in
-    hosted_all c.used_up.result c.args.host.now.mark c.args.clocks.now c.args.plan.now c.loop-datagram.turn c.args.turns (g.P.Port.told c.args.port.now) (g.P.Port.told c.loop-datagram.port)
-    c.args.host.now.part c.loop-datagram.host.part c.loop-datagram.heard all c.loop-datagram.invariant.0 c.used_up.ensures.ok
+    let all : c.loop-turn.turn ≡ c.args.turns = omega (arith, c.loop-turn-test.false) in
+    hosted_all c.used_up.result c.args.host.now.mark c.args.clocks.now c.args.plan.now c.loop-turn.turn c.args.turns (g.P.Port.told c.args.port.now) (g.P.Port.told c.loop-turn.port)
+    c.args.host.now.part c.loop-turn.host.part c.loop-turn.heard all c.loop-turn.invariant.0 c.used_up.ensures.ok
 
 pub returns-clause-ended : goal.returns-clause-ended
 returns-clause-ended g c =
-    let all : c.loop-datagram.turn ≡ c.args.turns = omega (arith, c.loop-datagram-test.false) in
-    hosted_in_vain c.used_up.result c.args.host.now.mark c.args.clocks.now c.args.plan.now c.loop-datagram.turn c.args.turns (g.P.Port.told c.args.port.now) (g.P.Port.told c.loop-datagram.port)
-    c.args.host.now.part c.loop-datagram.host.part c.loop-datagram.heard all c.loop-datagram.invariant.0 (sym c.is_over-2.ensures ∙ c.if-is_over-2.false) c.used_up.ensures.err
+    let all : c.loop-turn.turn ≡ c.args.turns = omega (arith, c.loop-turn-test.false) in
+    hosted_in_vain c.used_up.result c.args.host.now.mark c.args.clocks.now c.args.plan.now c.loop-turn.turn c.args.turns (g.P.Port.told c.args.port.now) (g.P.Port.told c.loop-turn.port)
+    c.args.host.now.part c.loop-turn.host.part c.loop-turn.heard all c.loop-turn.invariant.0 (sym c.is_over-2.ensures ∙ c.if-is_over-2.false) c.used_up.ensures.err
 
 pub returns-clause-failures : goal.returns-clause-failures
 returns-clause-failures g c =
-    none_failed c.used_up.result c.args.plan.now (g.P.Port.failure_count c.args.port.now) (g.P.Port.failure_count c.loop-datagram.port) c.used_up.ensures.err c.loop-datagram.invariant.2
+    none_failed c.used_up.result c.args.plan.now (g.P.Port.failure_count c.args.port.now) (g.P.Port.failure_count c.loop-turn.port) c.used_up.ensures.err c.loop-turn.invariant.2

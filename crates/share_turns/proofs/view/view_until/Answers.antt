@@ -7,18 +7,18 @@ use Rattle.share_turns.specs.Views.{ViewerTurns, applied_by}
 use Rattle.share_turns.proofs.Viewing.{viewed_more}
 use Rattle.share_turns.proofs.view.view_until.Goals as goal
 
-pub loop-datagram-preserved : goal.loop-datagram-preserved
-loop-datagram-preserved g c =
+pub loop-turn-preserved : goal.loop-turn-preserved
+loop-turn-preserved g c =
     let v = c.args.viewer.now in
-    let x = c.loop-datagram.viewer in
+    let x = c.loop-turn.viewer in
     let y = c.viewer_turn.new.viewer in
-    let i = c.loop-datagram.invariant in
+    let i = c.loop-turn.invariant in
     let did = c.in_ok-viewer_turn.field-0 in
     let few : applied_by v x.state < c.args.until = search rules in
-    let turn = subst (λ (p : Option Point). IfRunning x.state.view (λ w. IsViewerTurn (machine_of x) x.mark x.who c.args.host p (g.P.Port.told c.loop-datagram.port) (g.P.Port.told c.viewer_turn.new.port) x.state (Ok did) y.state)) c.item_at-point.ensures c.in_ok-viewer_turn.ensures.turn in
-    let more = viewed_more v x y c.args.host c.args.points.now c.args.until c.loop-datagram.turn (g.P.Port.told c.args.port.now) (g.P.Port.told c.loop-datagram.port) (g.P.Port.told c.viewer_turn.new.port) c.loop-datagram.offered did
+    let turn = subst (λ (p : Option Point). IfRunning x.state.view (λ w. IsViewerTurn (machine_of x) x.mark x.who c.args.host p (g.P.Port.told c.loop-turn.port) (g.P.Port.told c.viewer_turn.new.port) x.state (Ok did) y.state)) c.item_at-point.ensures c.in_ok-viewer_turn.ensures.turn in
+    let more = viewed_more v x y c.args.host c.args.points.now c.args.until c.loop-turn.turn (g.P.Port.told c.args.port.now) (g.P.Port.told c.loop-turn.port) (g.P.Port.told c.viewer_turn.new.port) c.loop-turn.offered did
     i.0 i.1 few c.in_ok-viewer_turn.ensures.spoiled turn in (
-      rw (c.rest.ensures.told) (subst (λ k. ViewerTurns v c.args.host c.args.points.now c.args.until (c.loop-datagram.turn + 1) (g.P.Port.told c.args.port.now) (g.P.Port.told c.viewer_turn.new.port) k y.state) (sym c.one_more_if-offered.ensures.value) more),
+      rw (c.rest.ensures.told) (subst (λ k. ViewerTurns v c.args.host c.args.points.now c.args.until (c.loop-turn.turn + 1) (g.P.Port.told c.args.port.now) (g.P.Port.told c.viewer_turn.new.port) k y.state) (sym c.one_more_if-offered.ensures.value) more),
       c.in_ok-viewer_turn.ensures.others ∙ ap (λ z. with_state z y.state) i.1,
       c.rest.ensures.count ∙ c.in_ok-viewer_turn.ensures.failures ∙ i.2,
       omega (arith, c.one_more_if-offered.ensures.most, i.3),
