@@ -3,7 +3,7 @@ SHELL := bash
 .SHELLFLAGS := -eu -o pipefail -c
 .PHONY: run try quick picture room test-room test-room-quick room-library \
         share soak fuzz test cases prefixes refusals check definitions calls \
-        bench growth format install library library-unproved bindings fuzz-library
+        bench growth format install library library-unproved bindings fuzz-library wasm
 
 JOB ?= examples/two-clocks.job
 ROOM ?= examples/rooms/door.job
@@ -168,6 +168,11 @@ bindings: library
 # libFuzzer.
 fuzz-library: library
 	@scripts/fuzz_library --tries $(or $(TRIES),10000)
+
+# Builds the library for pages and for node in out/wasm/, without a proof, in some four minutes: docs/WASM.md. Wants
+# Debian's package binaryen. `scripts/wasm --test` tests it, which wants node.
+wasm:
+	@scripts/wasm
 
 # Puts the proved program on the path, and the library with its header and its pkg-config file beside it.
 install: library
