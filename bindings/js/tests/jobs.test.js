@@ -8,8 +8,8 @@ import { runJob } from "./running.js";
 const FEWEST = 40;
 const SMALL = 4096;
 const bytes = (text) => Buffer.from(text, "base64");
-const jobs = JSON.parse(readFileSync(`${FOLDER}/tests/jobs.json`)).map(({ name, job, output, ...wanted }) => {
-  return { name, job: bytes(job), wanted: { ...wanted, output: bytes(output) } };
+const jobs = JSON.parse(readFileSync(`${FOLDER}/tests/jobs.json`)).map(({ name, job, status, output, error }) => {
+  return { name, job: bytes(job), wanted: { status, error, output: bytes(output) } };
 });
 
 function same(library, { name, job, wanted }, again) {
