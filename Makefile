@@ -3,7 +3,7 @@ SHELL := bash
 .SHELLFLAGS := -eu -o pipefail -c
 .PHONY: run try quick picture room test-room test-room-quick room-library \
         share soak fuzz test cases prefixes refusals check definitions calls \
-        bench growth format install library library-unproved bindings fuzz-library \
+        bench growth format install library library-unproved bindings fuzz-library wasm \
         dist test-dist abi site
 
 JOB ?= examples/two-clocks.job
@@ -174,6 +174,11 @@ bindings: library
 # libFuzzer.
 fuzz-library: library
 	@scripts/fuzz_library --tries $(or $(TRIES),10000)
+
+# Builds the library for pages and for node in out/wasm/, without a proof, in some four minutes: docs/WASM.md. Wants
+# Debian's package binaryen. `scripts/wasm --test` tests it, which wants node.
+wasm:
+	@scripts/wasm
 
 # Puts the proved program on the path with its man page and completions, and the library with its header and the files of
 # pkg-config and CMake.

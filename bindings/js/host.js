@@ -1,0 +1,75 @@
+// The host of a shared world, which numbers inputs.
+import { Fault, NO_PACKET } from "./faults.js";
+import { fits, signed } from "./numbers.js";
+import { bytesOf, Held } from "./reading.js";
+
+const REPLIES = ["Asked", "Numbered", "Repeat", "Ahead", "OldBoot", "Below", "NothingToDo"];
+
+/** What `copy` copies, or null if there is no such datagram. */
+export function packetOrNull(copy) {
+  try {
+    return copy();
+  } catch (error) {
+    if (error instanceof Fault && error.status === NO_PACKET) return null;
+    throw error;
+  }
+}
+
+export class Host extends Held {
+  constructor(library, scene, viewers) {
+    super(library, "host");
+    try {
+      library.lend(bytesOf(scene), (...text) => this._call("open", ...text, fits(viewers, 8)));
+    } catch (error) {
+      this.close();
+      throw error;
+    }
+  }
+
+  clock(time) {
+    return this._number("clock", signed(time));
+  }
+
+  take(datagram) {
+    return this._library.lend(datagram, (...bytes) => {
+      this._call("take", ...bytes, this._library.out);
+      const [kind, number, count] = [0, 1, 2].map((place) => this._library.told(place));
+      return { kind: REPLIES[kind], number, count };
+    });
+  }
+
+  packet(number) {
+    return packetOrNull(() => this._packet("packet", fits(number, 32)));
+  }
+
+  packets(reply) {
+    if (reply.kind === "Below") return [this.floorPacket()];
+    if (reply.kind !== "Asked") return [];
+    const found = Array.from({ length: reply.count }, (_, k) => this.packet(reply.number + k));
+    return found.filter((packet) => packet !== null);
+  }
+
+  ack(who) {
+    return this._packet("ack", fits(who, 8));
+  }
+
+  floor() {
+    return this._number("floor");
+  }
+
+  floorPacket() {
+    return this._packet("floor_packet");
+  }
+
+  dropBelow(number) {
+    this._call("drop_below", fits(number, 32));
+  }
+
+  count() {
+    return this._number("count");
+  }
+
+  viewers() {
+    return this._number("viewers");
+  }
+}

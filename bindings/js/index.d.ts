@@ -1,0 +1,231 @@
+// A shared X3D world in a page or in node.
+//
+// Times are whole microseconds up to 10^18, which a number cannot hold exactly: what is returned is a bigint, and a
+// bigint or a number that is a safe integer is taken. Coordinates are whole millionths of a unit, up to 10^15 in size.
+// Numbers of inputs, nodes, fields, viewers and boots are numbers.
+//
+// A call that is refused throws a Fault. Nothing has changed then, except that after `Memory` at an input, or while a
+// snapshot is loaded, the world is spoiled: every call that reads its state throws `Spoiled` until a snapshot brings it
+// back.
+
+/** What `load` gives: the compiled library with its memory. Objects of one library share the memory. */
+export interface Library {
+  readonly calls: unknown;
+}
+
+/** Where x3d.wasm is: a response for it, its bytes, or the module compiled from them. */
+export type Source = Response | BufferSource | WebAssembly.Module;
+
+/** Loads the library: `await load(fetch("x3d.wasm"))` in a page, `await load(readFile("x3d.wasm"))` in node. */
+export function load(source: Source | Promise<Source>): Promise<Library>;
+
+/** A scene's text in the Classic encoding, or its bytes. */
+export type Scene = string | Uint8Array;
+
+/** A whole number of up to 64 bits: a bigint, or a number that is a safe integer. */
+export type Whole = number | bigint;
+
+/** What a viewer points with, in millionths of a unit: of at most 10^15 in size, the direction not 0 0 0. */
+export interface Aim {
+  origin: readonly [Whole, Whole, Whole];
+  direction: readonly [Whole, Whole, Whole];
+}
+
+/** What a ray would hit: where it enters, at `entry[0] / entry[1]` of the way along its direction, and the sensors that
+ * the hit concerns. */
+export interface Meeting {
+  entry: [bigint, bigint];
+  sensors: number[];
+}
+
+/** An event that was sent: what a field of a node became, at which input, at which time in microseconds. */
+export interface Change {
+  input: number;
+  time: bigint;
+  node: number;
+  field: number;
+  value: string;
+}
+
+/** What an input led to: the number of outputs that sent, of routes that were followed, and of scripts that settled. */
+export interface Work {
+  sends: number;
+  deliveries: number;
+  settles: number;
+}
+
+/** The boot that a snapshot was taken as, and the number of inputs that its world had applied. */
+export interface Saved {
+  boot: number;
+  applied: number;
+}
+
+/** What a host did with a datagram:
+ * - `Asked`: a viewer asked for `count` inputs from `number` on; `Host.packets` has them;
+ * - `Numbered`: the offer is now input `number`;
+ * - `Repeat`: the offer has been numbered before;
+ * - `Ahead`: an earlier offer of that viewer has not come yet;
+ * - `OldBoot`: the offer is of an earlier boot of that viewer;
+ * - `Below`: a viewer asked for inputs below the floor `number`;
+ * - `NothingToDo`. */
+export interface Reply {
+  kind: "Asked" | "Numbered" | "Repeat" | "Ahead" | "OldBoot" | "Below" | "NothingToDo";
+  number: number;
+  count: number;
+}
+
+/** What a viewer did with a datagram:
+ * - `Applied`: `count` inputs were applied;
+ * - `Kept`: the input is kept until the ones before it have come;
+ * - `Old`: the input has been applied before;
+ * - `Beyond`: the input is more than 64 ahead and is not kept;
+ * - `Noted`: a report on the viewer's offers, or the host's floor, was noted;
+ * - `Behind`: the host no longer has the next input: only a snapshot helps (`Viewer.gather` and `Viewer.join`). */
+export interface Taken {
+  kind: "Applied" | "Kept" | "Old" | "Beyond" | "Noted" | "Behind";
+  count: number;
+}
+
+/** Why a scene's text is no world: the message is the line that the program prints, such as
+ * `refused UnknownNode line 3`. */
+export class Refusal extends Error {
+  readonly status: 1;
+}
+
+/** Why a call is refused: the status of include/x3d.h, and its name, such as `NotNext`. */
+export class Fault extends Error {
+  constructor(status: number);
+  readonly status: number;
+  readonly reason: string;
+}
+
+/** What the library's memory holds, until `close`. (What is dropped without it is freed some time later, or never.) */
+declare abstract class Held {
+  /** Frees it. Closing twice is allowed; every other call on it then throws `Closed`. */
+  close(): void;
+}
+
+/** What is read of a world, of a World and of a Viewer. */
+declare abstract class Readable extends Held {
+  /** The number of inputs that were applied. The next input has that number plus 1. */
+  applied(): number;
+  /** What a ray would hit; the world is unchanged. */
+  meet(aim: Aim): Meeting | null;
+  /** The lines of the trace of inputs from number `first` on: `<input> <seconds> <label>.<field> <value>`. From 0 on it
+   * is the whole trace. */
+  trace(first?: number): string;
+  /** The same lines with the numbers of nodes and fields. */
+  changes(first?: number): Change[];
+  /** The current scene, in the Classic encoding. */
+  scene(): string;
+  /** The number of nodes, which are numbered from 0. */
+  nodeCount(): number;
+  /** The roots of the scene. */
+  roots(): number[];
+  /** The nodes in the field `children` of a node; none if it has no such field. */
+  children(node: number): number[];
+  /** The word for a node's type, such as `Transform`. */
+  nodeType(node: number): string;
+  /** The label of a node, which no other node has: its DEF name if that is unique, or else `N` and its number. */
+  label(node: number): string;
+  /** The number of fields of a node, which are numbered from 0; 0 if there is no such node. */
+  fieldCount(node: number): number;
+  /** The name of a field, such as `translation`. */
+  fieldName(node: number, field: number): string;
+  /** The number of the field with this name: a field of the node's type, or one that a Script declares. */
+  fieldNamed(node: number, name: string): number;
+  /** The text of the current value of a field, such as `0 1.5 0`; that of a node is empty. */
+  value(node: number, field: number): string;
+  /** The numbers of that value: truths as 1 and 0, integers, millionths and microseconds unchanged, vectors and colors
+   * part by part, nodes as their numbers; a text has none. */
+  numbers(node: number, field: number): BigInt64Array;
+}
+
+/** The world of a scene's text, before any input. Throws a Refusal if the text is refused. */
+export class World extends Readable {
+  constructor(library: Library, scene: Scene);
+  /** Applies a clock: `number` is 1 to 2^20 and the next one, `time` is 1 to 10^18 microseconds and above the last. */
+  clock(number: number, time: Whole): Work;
+  /** Applies the pointer of viewer `viewer`, 0 to 63, whose button is down or not. */
+  point(number: number, time: Whole, viewer: number, down: boolean, aim: Aim): Work;
+  /** The snapshot of the world, taken as boot `boot`. */
+  snapshot(boot: number): Uint8Array;
+  /** Replaces the world, even a spoiled one, with that of a snapshot of this scene, of a boot below `boot`. */
+  load(boot: number, snapshot: Uint8Array): Saved;
+  /** The number of scripts that the scene runs. */
+  scriptCount(): number;
+  /** Replaces a script, numbered from 0, with a new one of its kind, which goes on in its state. Faults: `Range`,
+   * `NoSuchScript`, `KindDiffers`, `Memory`. */
+  replaceScript(script: number, kind: "counter" | "gate" | "adder" | "batch" | "mover" | "meter"): void;
+}
+
+/** The host of a scene for 1 to 64 viewers, numbered from 0: it numbers what happens, and gives it to the viewers. It
+ * keeps only the mark of the text, and does not look at the scene.
+ *
+ * Its life is: `take` each datagram that comes, send back `packets(reply)` and, for the viewer that offered or asked,
+ * `ack(who)`; and number a `clock` as often as the world should move on. A datagram has at most 256 bytes. */
+export class Host extends Held {
+  constructor(library: Library, scene: Scene, viewers: number);
+  /** Numbers a clock at a time of 1 to 10^18 microseconds, above that of the last input, and returns its number.
+   * Faults: `WorldFull`, `TimeNotLater`, `TimeRange`, `Memory`. */
+  clock(time: Whole): number;
+  /** Takes a datagram of a viewer: an offer is numbered 1 microsecond after the last input. Faults: `BadPacket`,
+   * `BadVersion`, `BadTag`, `BadRange`, `ZeroRay` (the bytes are not a datagram), `WrongScene`, `BadViewer`, and for an
+   * offer those of `clock`. */
+  take(datagram: Uint8Array): Reply;
+  /** The datagram of input `number`; null below the floor, or if that input is not numbered yet. */
+  packet(number: number): Uint8Array | null;
+  /** What a reply asks to be sent: the inputs that were asked for, at most 64, or the floor if they are below it. */
+  packets(reply: Reply): Uint8Array[];
+  /** The datagram that says how many offers of viewer `who` are numbered. */
+  ack(who: number): Uint8Array;
+  /** The floor: inputs below it have no datagrams. It is 1 at first. */
+  floor(): number;
+  /** The datagram that says the floor. */
+  floorPacket(): Uint8Array;
+  /** Drops the inputs below `number`, which becomes the floor. Faults: `FloorBack`, `FloorAhead`. */
+  dropBelow(number: number): void;
+  /** The number of inputs that are numbered: at most 2^20. */
+  count(): number;
+  /** The number of viewers. */
+  viewers(): number;
+}
+
+/** A viewer of a scene, as boot `boot` (1 to 2^32 - 1) of viewer `who` (0 to 63): it holds the world, offers what it
+ * points at, and applies the host's inputs in order. Throws a Refusal if the text is refused.
+ *
+ * Its life is: `offer` what is pointed at; send `resend()` and `ask()` to the host again and again, since datagrams may
+ * be lost; `take` each datagram that comes. */
+export class Viewer extends Readable {
+  constructor(library: Library, scene: Scene, who: number, boot: number);
+  /** The viewer's boot. */
+  boot(): number;
+  /** Takes a datagram of the host. Faults: `Spoiled`; `BadPacket`, `BadVersion`, `BadTag`, `BadRange`, `ZeroRay` (the
+   * bytes are not a datagram); `WrongScene`; `NotForMe`; `TimeNotLater`: the input is dropped; `Memory`: the viewer is
+   * spoiled. */
+  take(datagram: Uint8Array): Taken;
+  /** Offers what the viewer points at, with the button down or not, and returns the offer's number in this boot, from 1.
+   * Faults: `Spoiled`, `ZeroRay`, `PointRange`, `OfferFull` (64 wait), `OffersSpent`. */
+  offer(down: boolean, aim: Aim): number;
+  /** The number of offers that wait: at most 64. */
+  waiting(): number;
+  /** The datagrams of all offers that wait, in order. */
+  resend(): Uint8Array[];
+  /** The datagram that asks for the inputs from the first that the viewer lacks. */
+  ask(): Uint8Array;
+  /** The snapshot of the viewer's world, taken as its boot. */
+  snapshot(): Uint8Array;
+  /** Begins again in the world of a snapshot, as a boot above its own and the snapshot's, and returns the number of
+   * inputs that the world has had. Then no offer waits, and offers are numbered from 1. */
+  rewind(snapshot: Uint8Array, boot: number): number;
+  /** The datagrams of a snapshot, or of its own as it is now, for another viewer that is `Behind`; none if the bytes do
+   * not begin as a snapshot, or are more than 2^26. */
+  pieces(snapshot?: Uint8Array): Uint8Array[];
+  /** Gathers a piece of a snapshot: `New`; `Again`: it had come before; `Whole`: none is missing now, so `join`;
+   * `Other`: it is of another snapshot than the one that was begun, which `forget` drops. */
+  gather(datagram: Uint8Array): "New" | "Again" | "Whole" | "Other";
+  /** Begins again in the snapshot that was gathered, as `rewind` does. Faults: `NotWhole`, then as `rewind`. */
+  join(boot: number): number;
+  /** Drops what was gathered. */
+  forget(): void;
+}

@@ -1,0 +1,181 @@
+// What an object of the library holds, and what is read of a world.
+import { changesOf } from "./changes.js";
+import { CLOSED, DONE, Fault, Refusal, SCENE } from "./faults.js";
+import { Library } from "./library.js";
+import { fits, signed } from "./numbers.js";
+
+const HANDLE = 8;
+const LINE = 64;
+const encoder = new TextEncoder();
+const decoder = new TextDecoder("utf-8", { fatal: true, ignoreBOM: true });
+
+/** Closes what a page has dropped without closing it. */
+const dropped = new FinalizationRegistry((close) => close());
+
+/** The bytes of a scene that is given as a text or as bytes. */
+export function bytesOf(scene) {
+  return typeof scene === "string" ? encoder.encode(scene) : scene;
+}
+
+/** What a handle holds: a world, a host or a viewer. */
+export class Held {
+  constructor(library, kind) {
+    if (!(library instanceof Library)) throw new TypeError("the library is wanted that `load` gives");
+    const handle = library.allocate(HANDLE);
+    library.data.setBigUint64(handle, 0n, true);
+    this._library = library;
+    this._calls = library.calls[kind];
+    this._handle = BigInt(handle);
+    this._free = () => {
+      library.calls[kind].close(BigInt(handle));
+      library.free(handle);
+    };
+    dropped.register(this, this._free, this);
+  }
+
+  close() {
+    if (this._handle === null) return;
+    this._handle = null;
+    dropped.unregister(this);
+    this._free();
+  }
+
+  /** The status of a call. */
+  _status(name, ...passed) {
+    if (this._handle === null) throw new Fault(CLOSED);
+    return this._calls[name](this._handle, ...passed);
+  }
+
+  _call(name, ...passed) {
+    const status = this._status(name, ...passed);
+    if (status !== DONE) throw new Fault(status);
+  }
+
+  /** What a call that writes one 32-bit number writes. */
+  _number(name, ...passed) {
+    this._call(name, ...passed, this._library.out);
+    return this._library.told();
+  }
+
+  /** Opens what a scene's text and numbers give; closed again if it is refused. */
+  _open(scene, ...numbers) {
+    try {
+      this._library.lend(bytesOf(scene), (...text) => this._opened(text, numbers));
+    } catch (error) {
+      this.close();
+      throw error;
+    }
+  }
+
+  _opened(text, numbers) {
+    const { short, wanted } = this._library;
+    const status = this._status("open", ...text, ...numbers, short, BigInt(LINE), wanted);
+    if (status === SCENE) throw new Refusal(decoder.decode(this._library.copy(short, this._library.toldSize())));
+    if (status !== DONE) throw new Fault(status);
+  }
+
+  /** A datagram that a call copies. */
+  _packet(name, ...passed) {
+    return this._library.copied((...out) => this._status(name, ...passed, ...out));
+  }
+
+  /** The place of a ray in memory. */
+  _aim({ origin, direction }) {
+    const numbers = [...origin, ...direction].map(signed);
+    if (numbers.length !== 6) throw new TypeError("an origin and a direction have three numbers each");
+    const { aim, data } = this._library;
+    numbers.forEach((number, place) => data.setBigInt64(Number(aim) + 8 * place, number, true));
+    return aim;
+  }
+}
+
+/** What is read of a world, of a World and of a Viewer. */
+export class Readable extends Held {
+  /** The bytes that were made last. */
+  _bytes() {
+    return this._packet("copy_text");
+  }
+
+  _text(name, ...passed) {
+    this._call(name, ...passed);
+    return decoder.decode(this._bytes());
+  }
+
+  /** The numbers that were listed last. */
+  _numbers() {
+    const bytes = this._library.copied((...out) => this._status("copy_numbers", ...out), 8);
+    return new BigInt64Array(bytes.buffer);
+  }
+
+  _listed(name, ...passed) {
+    this._call(name, ...passed);
+    return Array.from(this._numbers(), Number);
+  }
+
+  applied() {
+    return this._number("applied");
+  }
+
+  meet(aim) {
+    this._call("meet", this._aim(aim), this._library.out);
+    const entry = [this._library.toldWide(0), this._library.toldWide(1)];
+    return entry[1] === 0n ? null : { entry, sensors: Array.from(this._numbers(), Number) };
+  }
+
+  trace(first = 0) {
+    return this._text("make_trace", fits(first, 32));
+  }
+
+  changes(first = 0) {
+    return changesOf(this._text("make_changes", fits(first, 32)));
+  }
+
+  scene() {
+    return this._text("make_scene");
+  }
+
+  nodeCount() {
+    this._call("node_count", this._library.out);
+    return Number(this._library.toldWide());
+  }
+
+  roots() {
+    return this._listed("list_roots");
+  }
+
+  children(node) {
+    return this._listed("list_children", fits(node, 32));
+  }
+
+  nodeType(node) {
+    return this._text("make_type", fits(node, 32));
+  }
+
+  label(node) {
+    return this._text("make_label", fits(node, 32));
+  }
+
+  fieldCount(node) {
+    return this._number("field_count", fits(node, 32));
+  }
+
+  fieldName(node, field) {
+    return this._text("make_field_name", fits(node, 32), fits(field, 16));
+  }
+
+  fieldNamed(node, name) {
+    return this._library.lend(encoder.encode(name), (...text) => {
+      this._call("field_named", fits(node, 32), ...text, this._library.out);
+      return this._library.told() & 0xffff;
+    });
+  }
+
+  value(node, field) {
+    return this._text("make_value", fits(node, 32), fits(field, 16));
+  }
+
+  numbers(node, field) {
+    this._call("list_value", fits(node, 32), fits(field, 16));
+    return this._numbers();
+  }
+}

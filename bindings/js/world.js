@@ -1,0 +1,53 @@
+// A world.
+import { Fault, RANGE } from "./faults.js";
+import { fits, signed, truth } from "./numbers.js";
+import { Readable } from "./reading.js";
+
+const KINDS = ["counter", "gate", "adder", "batch", "mover", "meter"];
+
+export class World extends Readable {
+  constructor(library, scene) {
+    super(library, "world");
+    this._open(scene);
+  }
+
+  /** What the input led to. */
+  _work() {
+    const [sends, deliveries, settles] = [0, 1, 2].map((place) => Number(this._library.toldWide(place)));
+    return { sends, deliveries, settles };
+  }
+
+  clock(number, time) {
+    this._call("clock", fits(number, 32), signed(time), this._library.out);
+    return this._work();
+  }
+
+  point(number, time, viewer, down, aim) {
+    const numbers = [fits(number, 32), signed(time), fits(viewer, 8), truth(down)];
+    this._call("point", ...numbers, this._aim(aim), this._library.out);
+    return this._work();
+  }
+
+  snapshot(boot) {
+    this._call("make_snapshot", fits(boot, 32));
+    return this._bytes();
+  }
+
+  load(boot, snapshot) {
+    return this._library.lend(snapshot, (...bytes) => {
+      this._call("load", fits(boot, 32), ...bytes, this._library.out);
+      return { boot: this._library.told(0), applied: this._library.told(1) };
+    });
+  }
+
+  scriptCount() {
+    this._call("script_count", this._library.out);
+    return Number(this._library.toldWide());
+  }
+
+  replaceScript(script, kind) {
+    const number = KINDS.indexOf(kind);
+    if (number < 0) throw new Fault(RANGE);
+    this._call("replace_script", BigInt(fits(script, 32)), number);
+  }
+}
