@@ -1,7 +1,7 @@
 # `make run` shows the program at work, `make test` is the gate.
 SHELL := bash
 .SHELLFLAGS := -eu -o pipefail -c
-.PHONY: run try quick picture room test-room test-room-quick room-library \
+.PHONY: run try unproved quick picture room test-room test-room-quick room-library \
         share soak fuzz test cases prefixes refusals check definitions calls \
         bench growth format install library library-unproved bindings fuzz-library wasm \
         dist test-dist abi site
@@ -27,15 +27,17 @@ fresh = { [ -e $(1) ] && [ -z "$$(find crates include/x3d.h bindings/c/version.c
 run:
 	@job=$$(realpath $(JOB)); cd crates/x3d_share && $(RT) run -- run < "$$job"
 
-# The same without a proof, in a minute or two.
-try:
-	@job=$$(realpath $(JOB)); cd crates/x3d_share && rt try -- run < "$$job"
+# The same by a program that is built without a proof, in some three minutes where a source is newer than it.
+try: unproved
+	@out/quick/x3d_share run < $(JOB)
+
+unproved:
+	@$(call fresh,out/quick/x3d_share) || scripts/unproved out/quick/x3d_share >&2
 
 # Between an edit and the gate: cases and examples, by a program that is built without a proof and with checks at
-# run time, in some two minutes. Such a program is slow at large scenes: a dozen cases of limits are left out.
-quick:
-	@scripts/unproved out/quick/x3d_share
-	@PROGRAM=$$(realpath out/quick/x3d_share) scripts/cases --leave 10
+# run time, in some four minutes.
+quick: unproved
+	@PROGRAM=$(CURDIR)/out/quick/x3d_share scripts/cases
 
 # Proves and builds the program, and draws a job: out of examples/door.job comes door.svg, here.
 picture:
