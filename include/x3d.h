@@ -15,14 +15,14 @@ extern "C" {
  * - A handle begins as null: `struct x3d_world world = X3D_NONE;`. Do not read, write or copy its
  *   contents.
  * - Make one call at a time on a handle. (Calls on different handles share nothing.)
- * - Each pointer points to as much memory as its type or the length after it says. Memory that a
- *   call writes overlaps nothing else that the call is given. A pointer to no bytes is not null
- *   either.
- * - Close every handle that you open. Closing twice is allowed. Every other call on a closed handle
- *   returns X3D_CLOSED.
+ * - Each pointer points to at least as much memory as its type, or the length argument after it,
+ *   requires. Memory that a call writes overlaps nothing else that the call is given. A pointer
+ *   must not be null even if its length is 0.
+ * - Close every handle that you open. Closing twice is allowed, and so is opening again. Every
+ *   other call on a closed handle returns X3D_CLOSED, or X3D_RANGE, which some calls test first.
  */
 
-/* Handles: a world on the heap, the host of a shared world, and a viewer of it; or nothing. */
+/* Handles: each holds a heap object (a world, a host or a viewer), or nothing. */
 struct x3d_world { void *at; };
 struct x3d_host { void *at; };
 struct x3d_viewer { void *at; };
@@ -44,7 +44,7 @@ enum x3d_status {
   X3D_NO_SUCH_FIELD = 24,  /* the node has no field with that number or name, or it has no value */
   X3D_NO_PACKET = 25,      /* there is no such datagram: no such input, offer or piece */
   X3D_NO_SUCH_SCRIPT = 26, /* there is no script with that number */
-  X3D_KIND_DIFFERS = 27,   /* the script is of another kind */
+  X3D_KIND_DIFFERS = 27,   /* x3d_world_replace_script: the script is of another kind */
   X3D_SHORT = 30,          /* the snapshot has fewer than 85 bytes */
   X3D_BAD_MAGIC = 31,      /* not a snapshot */
   X3D_BAD_VERSION = 32,    /* a snapshot's version is not 1 or 2; a datagram's version is not 1 */
@@ -62,8 +62,8 @@ enum x3d_status {
   X3D_TIME_RANGE = 46,     /* the time is above 10^18 microseconds */
   X3D_FLOOR_BACK = 47,     /* the floor may not move back */
   X3D_FLOOR_AHEAD = 48,    /* the floor may not be above the number of the next input */
-  X3D_NOT_FOR_ME = 50,     /* the datagram is for another node */
-  X3D_POINT_RANGE = 51,    /* a coordinate is above 10^15 millionths in size */
+  X3D_NOT_FOR_ME = 50,     /* not for this viewer: an offer, an ask, a piece, another's ack */
+  X3D_POINT_RANGE = 51,    /* a coordinate is above 10^15 millionths in absolute value */
   X3D_OFFER_FULL = 52,     /* 64 offers wait already */
   X3D_OFFERS_SPENT = 53,   /* 2^32 - 1 offers were made in this boot */
   X3D_NOT_PIECE = 54,      /* the datagram is not a piece of a snapshot */
@@ -78,8 +78,8 @@ struct x3d_work {
   size_t settles;
 };
 
-/* The ray that a viewer points with, in millionths of a unit: coordinates and direction of at most
- * 10^15 in size, the direction not 0 0 0. */
+/* The ray that a viewer points with, in millionths of a unit: each coordinate of origin and
+ * direction is at most 10^15 in absolute value, and the direction is not 0 0 0. */
 struct x3d_aim {
   int64_t origin_x;
   int64_t origin_y;
@@ -96,14 +96,15 @@ struct x3d_met {
   uint64_t m;
 };
 
-/* The boot that a snapshot was taken as, and the number of inputs that its world had applied. */
+/* The boot number stored in a snapshot, and the number of inputs that its world had applied. A boot
+ * is a number that rises with each start of a viewer. */
 struct x3d_saved {
   uint32_t boot;
   uint32_t applied;
 };
 
-/* What a host did with a datagram. At X3D_REPLY_ASKED send the datagrams of the `count` inputs from
- * `number` on, at most 64. At X3D_REPLY_BELOW send the datagram of the floor. */
+/* What a host did with a datagram. On X3D_REPLY_ASKED, send the datagrams of the `count` inputs
+ * from `number` on, at most 64. On X3D_REPLY_BELOW, send the datagram of the floor. */
 enum x3d_replied {
   X3D_REPLY_ASKED = 0,        /* a viewer asked for `count` inputs from `number` on */
   X3D_REPLY_NUMBERED = 1,     /* the offer is now input `number` */
@@ -125,7 +126,7 @@ enum x3d_took {
   X3D_TOOK_BEYOND = 1,  /* the input is more than 64 ahead and is not kept */
   X3D_TOOK_KEPT = 2,    /* the input is kept until the ones before it have come */
   X3D_TOOK_APPLIED = 3, /* `count` inputs were applied */
-  X3D_TOOK_NOTED = 4,   /* a report on the viewer's offers, or the host's floor, was noted */
+  X3D_TOOK_NOTED = 4,   /* an ack of the viewer's offers, or the host's floor, was noted */
   X3D_TOOK_BEHIND = 5   /* the host no longer has the next input: only a snapshot helps */
 };
 struct x3d_taken {
@@ -173,9 +174,10 @@ const char *x3d_status_text(uint8_t status);
 
 /* ---- a world */
 
-/* Opens the world of a scene's text (Classic encoding), in place of the one that the handle had. On
- * X3D_SCENE and X3D_MEMORY the handle is empty, and the line `refused NAME line N`, of at most 64
- * bytes, is copied to `refusal` if `room` bytes are enough. Its length is written to `wanted`. */
+/* Opens the world of a scene's text (Classic encoding). It replaces the one that the handle had.
+ * May return: X3D_SCENE or X3D_MEMORY. Then the handle is empty, and the line `refused NAME line
+ * N`, of at most 64 bytes, is copied to `refusal` if `room` bytes are enough. Its length is written
+ * to `wanted`. */
 uint8_t x3d_world_open(struct x3d_world *world, const uint8_t *text, size_t length,
                        uint8_t *refusal, size_t room, size_t *wanted);
 /* Frees the world. Does nothing if the handle holds none. */
@@ -185,9 +187,9 @@ uint8_t x3d_world_applied(struct x3d_world *world, uint32_t *count);
 
 /* ---- inputs, numbered from 1 to 2^20, at times of 1 to 10^18 microseconds, each above the last
  *
- * A call that applies an input returns X3D_RANGE if the number, the time or the pointer is out of
- * its range; X3D_SPOILED; X3D_NOT_NEXT; X3D_TIME_NOT_LATER; or X3D_MEMORY, which spoils the
- * world. */
+ * A call that applies an input may return, in this order: X3D_RANGE if the number, the time or the
+ * pointer is out of its range, X3D_SPOILED, X3D_NOT_NEXT, X3D_TIME_NOT_LATER, or X3D_MEMORY, which
+ * spoils the world. */
 
 /* Applies a clock at `time` microseconds, and writes what it led to. */
 uint8_t x3d_world_clock(struct x3d_world *world, uint32_t number, int64_t time,
@@ -196,16 +198,18 @@ uint8_t x3d_world_clock(struct x3d_world *world, uint32_t number, int64_t time,
  * microseconds, and writes what it led to. */
 uint8_t x3d_world_point(struct x3d_world *world, uint32_t number, int64_t time, uint8_t viewer,
                         bool down, const struct x3d_aim *aim, struct x3d_work *work);
-/* Writes where a ray would enter what it hits first, and lists the sensors that the hit concerns:
- * the enabled pointing sensors in the lowest list along the hit's path that has one. The world is
- * unchanged. X3D_RANGE if the ray is out of its range, X3D_SPOILED, or X3D_MEMORY. */
+/* Writes where a ray would enter what it hits first, and lists the sensors that the hit concerns.
+ * Going up from the Box that is hit, take the first list with an enabled pointing sensor: a list is
+ * a `children` field, but not a Switch's, and last the roots. All enabled pointing sensors in it
+ * are listed. The world is unchanged. May return, in this order: X3D_RANGE if the ray is out of its
+ * range, X3D_SPOILED, or X3D_MEMORY. */
 uint8_t x3d_world_meet(struct x3d_world *world, const struct x3d_aim *aim, struct x3d_met *met);
 
 /* ---- texts: a call makes a text, then x3d_world_copy_text copies it
  *
  * A call that makes a text drops the one before. If it fails, the text is empty and the world is
- * unchanged. X3D_MEMORY if memory ran out. X3D_SPOILED for the calls that read the world's state:
- * all but x3d_world_make_type, x3d_world_make_label and x3d_world_make_field_name. */
+ * unchanged. Each may return X3D_MEMORY. The calls that read the world's state may return
+ * X3D_SPOILED: all but x3d_world_make_type, x3d_world_make_label and x3d_world_make_field_name. */
 
 /* Makes the lines of the trace of inputs from number `first` on: `<input> <seconds> <label>.<field>
  * <value>`. From 0 on it is the whole trace. */
@@ -214,57 +218,59 @@ uint8_t x3d_world_make_trace(struct x3d_world *world, uint32_t first);
 uint8_t x3d_world_make_changes(struct x3d_world *world, uint32_t first);
 /* Makes the current scene, in the Classic encoding. */
 uint8_t x3d_world_make_scene(struct x3d_world *world);
-/* Makes the word for a node's type, such as `Transform`. X3D_NO_SUCH_NODE if there is no such
- * node. */
+/* Makes the word for a node's type, such as `Transform`. May return: X3D_NO_SUCH_NODE. */
 uint8_t x3d_world_make_type(struct x3d_world *world, uint32_t node);
 /* Makes the label of a node, which no other node has: its DEF name if that is unique, or else `N`
- * and its number. X3D_NO_SUCH_NODE if there is no such node. */
+ * and its number. A DEF name of the form `N` and digits does not count. May return:
+ * X3D_NO_SUCH_NODE. */
 uint8_t x3d_world_make_label(struct x3d_world *world, uint32_t node);
-/* Makes the name of a field of a node, such as `translation`. X3D_NO_SUCH_FIELD if there is no such
- * node or field. */
+/* Makes the name of a field of a node, such as `translation`. May return: X3D_NO_SUCH_FIELD if
+ * there is no such node or field. */
 uint8_t x3d_world_make_field_name(struct x3d_world *world, uint32_t node, uint16_t field);
 /* Makes the text of the current value of a field, such as `0 1.5 0`. The text of a node is empty.
- * X3D_NO_SUCH_FIELD if there is no such field, or it holds no value. */
+ * May return: X3D_NO_SUCH_FIELD if there is no such field, or it holds no value. */
 uint8_t x3d_world_make_value(struct x3d_world *world, uint32_t node, uint16_t field);
-/* Makes the snapshot of the world, taken as boot `boot`. */
+/* Makes the snapshot of the world, with `boot` as the boot number stored in it. */
 uint8_t x3d_world_make_snapshot(struct x3d_world *world, uint32_t boot);
 /* Copies the text or the snapshot that was made last, and writes its number of bytes to `wanted`.
- * X3D_ROOM if `room` bytes are not enough; nothing is copied then. */
+ * May return: X3D_ROOM if `room` bytes are not enough; nothing is copied then. */
 uint8_t x3d_world_copy_text(struct x3d_world *world, uint8_t *out, size_t room, size_t *wanted);
 
 /* ---- numbers: a call lists them, then x3d_world_copy_numbers copies them
  *
  * A call that lists numbers drops the ones before. If it fails, the list is empty and the world is
- * unchanged. X3D_MEMORY if memory ran out. */
+ * unchanged. Each may return X3D_MEMORY. */
 
 /* Writes the number of nodes in the scene. They are numbered from 0. */
 uint8_t x3d_world_node_count(struct x3d_world *world, size_t *count);
 /* Writes the number of fields of a node. They are numbered from 0. 0 if there is no such node. */
 uint8_t x3d_world_field_count(struct x3d_world *world, uint32_t node, uint32_t *count);
 /* Writes the number of the field of a node with this name, such as `translation`: a field of its
- * type, or one that a Script declares. Other calls take a field by this number. X3D_NO_SUCH_FIELD
- * if there is no such node or field. */
+ * type, or one that a Script declares. Other calls take a field by this number. May return:
+ * X3D_NO_SUCH_FIELD if there is no such node or field. */
 uint8_t x3d_world_field_named(struct x3d_world *world, uint32_t node, const uint8_t *name,
                               size_t length, uint16_t *field);
 /* Lists the roots of the scene by their numbers. */
 uint8_t x3d_world_list_roots(struct x3d_world *world);
-/* Lists the nodes in the field `children` of a node, none if it has no such field.
- * X3D_NO_SUCH_NODE if there is no such node. */
+/* Lists the nodes in the field `children` of a node, none if it has no such field. May return:
+ * X3D_NO_SUCH_NODE. */
 uint8_t x3d_world_list_children(struct x3d_world *world, uint32_t node);
-/* Lists the numbers of the current value of a field: truths as 1 and 0, integers, millionths and
- * microseconds unchanged, vectors and colors part by part, nodes as their numbers. A text has none.
- * X3D_SPOILED, or X3D_NO_SUCH_FIELD if there is no such field, or it holds no value. */
+/* Lists the numbers of the current value of a field: booleans as 1 and 0, integers, millionths and
+ * microseconds unchanged, vectors and colors part by part, nodes as their numbers. A string field
+ * has none. May return, in this order: X3D_SPOILED, or X3D_NO_SUCH_FIELD if there is no such field,
+ * or it holds no value. */
 uint8_t x3d_world_list_value(struct x3d_world *world, uint32_t node, uint16_t field);
-/* Copies the numbers that were listed last, and writes how many there are to `wanted`. X3D_ROOM if
- * there is no room for `wanted` numbers; nothing is copied then. */
+/* Copies the numbers that were listed last, and writes how many there are to `wanted`. May return:
+ * X3D_ROOM if there is no room for `wanted` numbers; nothing is copied then. */
 uint8_t x3d_world_copy_numbers(struct x3d_world *world, int64_t *out, size_t room, size_t *wanted);
 
 /* ---- snapshots */
 
-/* Replaces the world, even a spoiled one, with that of a snapshot of this scene that was taken as a
- * boot below `boot`, and writes its boot and its number of applied inputs. On refusal, the first of
- * these that holds: X3D_SHORT, X3D_BAD_MAGIC, X3D_BAD_VERSION, X3D_WRONG_SCENE, X3D_BAD_DIGEST,
- * X3D_NOT_CANONICAL, X3D_BOOT_NOT_NEW, X3D_SCRIPT_STATE. X3D_MEMORY spoils the world. */
+/* Replaces the world, even a spoiled one, with that of a snapshot of this scene whose boot number
+ * is below `boot`, and writes the snapshot's boot and its number of applied inputs. May return, in
+ * this order: X3D_SHORT, X3D_BAD_MAGIC, X3D_BAD_VERSION, X3D_WRONG_SCENE, X3D_BAD_DIGEST,
+ * X3D_NOT_CANONICAL, X3D_BOOT_NOT_NEW, or X3D_SCRIPT_STATE. It may also return X3D_MEMORY, which
+ * spoils the world. */
 uint8_t x3d_world_load(struct x3d_world *world, uint32_t boot, const uint8_t *bytes, size_t length,
                        struct x3d_saved *saved);
 
@@ -272,46 +278,48 @@ uint8_t x3d_world_load(struct x3d_world *world, uint32_t boot, const uint8_t *by
 
 /* Writes the number of scripts that the scene runs. They are numbered from 0. */
 uint8_t x3d_world_script_count(struct x3d_world *world, size_t *count);
-/* Replaces the k-th script with a new box of kind `kind` (an x3d_kind), which goes on in its state.
- * The world is unchanged whatever is returned. X3D_RANGE for an unknown kind, X3D_SPOILED,
- * X3D_NO_SUCH_SCRIPT, X3D_KIND_DIFFERS, or X3D_MEMORY. */
+/* Replaces the object that runs the k-th script by a new one of kind `kind` (an x3d_kind). It takes
+ * over the script's state. The world is unchanged whatever is returned. May return: X3D_RANGE for
+ * an unknown kind, X3D_SPOILED, X3D_NO_SUCH_SCRIPT, X3D_KIND_DIFFERS, or X3D_MEMORY. */
 uint8_t x3d_world_replace_script(struct x3d_world *world, size_t k, uint8_t kind);
 
 /* ---- the host of a shared world: it numbers what happens, and gives it to the viewers. A host and
  * its viewers exchange datagrams of at most 256 bytes, which the program carries. They may be lost,
- * repeated and come in any order, but must arrive unaltered, and only those of this run. A call
- * that copies a datagram writes its length to `wanted`. It returns X3D_NO_PACKET if there is no
- * such datagram, and X3D_ROOM if `room` bytes are not enough. */
+ * repeated and come in any order, but must arrive unaltered, and no datagram of another run may
+ * arrive. A call that copies a datagram writes its length to `wanted`. It may return: X3D_NO_PACKET
+ * if there is no such datagram, or X3D_ROOM if `room` bytes are not enough. */
 
-/* Opens the host of a scene's text for 1 to 64 viewers, numbered from 0, in place of the one that
- * the handle had. The host keeps only the mark of the text, and does not look at the scene.
- * X3D_RANGE for another number of viewers. On X3D_MEMORY the handle is empty. */
+/* Opens the host of a scene's text for 1 to 64 viewers, numbered from 0. It replaces the one that
+ * the handle had. The host keeps only the text's SHA-256 (its mark), and does not look at the
+ * scene. May return: X3D_RANGE for another number of viewers, or X3D_MEMORY, which leaves the
+ * handle empty. */
 uint8_t x3d_host_open(struct x3d_host *host, const uint8_t *text, size_t length, uint8_t viewers);
 /* Frees the host. Does nothing if the handle holds none. */
 void x3d_host_close(struct x3d_host *host);
 /* Numbers a clock at a time of 1 to 10^18 microseconds, above that of the last input, and writes
- * its number. X3D_WORLD_FULL, X3D_TIME_NOT_LATER, X3D_TIME_RANGE, or X3D_MEMORY. */
+ * its number. May return, in this order: X3D_WORLD_FULL, X3D_TIME_NOT_LATER, X3D_TIME_RANGE, or
+ * X3D_MEMORY. */
 uint8_t x3d_host_clock(struct x3d_host *host, int64_t time, uint32_t *number);
-/* Takes a datagram of a viewer, and writes what the host did with it. If the bytes are not a
- * datagram: X3D_BAD_PACKET, X3D_BAD_VERSION, X3D_BAD_TAG, X3D_BAD_RANGE or X3D_ZERO_RAY.
- * X3D_WRONG_SCENE. X3D_BAD_VIEWER if there is no such viewer. If an offer cannot be numbered: the
- * statuses of x3d_host_clock. */
+/* Takes a datagram of a viewer, and writes what the host did with it. May return, in this order:
+ * one of X3D_BAD_PACKET, X3D_BAD_VERSION, X3D_BAD_TAG, X3D_BAD_RANGE and X3D_ZERO_RAY if the bytes
+ * are not a datagram, X3D_WRONG_SCENE, X3D_BAD_VIEWER if there is no such viewer, or a status of
+ * x3d_host_clock if an offer cannot be numbered. */
 uint8_t x3d_host_take(struct x3d_host *host, const uint8_t *bytes, size_t length,
                       struct x3d_reply *reply);
-/* Copies the datagram of input `number`. X3D_NO_PACKET below the floor, or if that input is not
- * numbered yet. */
+/* Copies the datagram of input `number`. There is none (X3D_NO_PACKET) below the floor, or if that
+ * input is not numbered yet. */
 uint8_t x3d_host_packet(struct x3d_host *host, uint32_t number, uint8_t *out, size_t room,
                         size_t *wanted);
-/* Copies the datagram that says how many offers of viewer `who` are numbered. X3D_RANGE if there is
- * no such viewer. */
+/* Copies the ack of viewer `who`: the datagram that says how many of its offers are numbered. May
+ * return: X3D_RANGE if there is no such viewer. */
 uint8_t x3d_host_ack(struct x3d_host *host, uint8_t who, uint8_t *out, size_t room, size_t *wanted);
 /* Writes the floor: inputs below it have no datagrams. It is 1 at first. */
 uint8_t x3d_host_floor(struct x3d_host *host, uint32_t *number);
-/* Copies the datagram that says the floor. */
+/* Copies the datagram that reports the floor. */
 uint8_t x3d_host_floor_packet(struct x3d_host *host, uint8_t *out, size_t room, size_t *wanted);
 /* Drops the inputs below `number`, which becomes the floor; their memory is used again or freed.
- * X3D_FLOOR_BACK if `number` is below the floor, X3D_FLOOR_AHEAD if it is above the number of the
- * next input. */
+ * May return: X3D_FLOOR_BACK if `number` is below the floor, or X3D_FLOOR_AHEAD if it is above the
+ * number of the next input. */
 uint8_t x3d_host_drop_below(struct x3d_host *host, uint32_t number);
 /* Writes the number of inputs that are numbered. */
 uint8_t x3d_host_count(struct x3d_host *host, uint32_t *count);
@@ -319,47 +327,47 @@ uint8_t x3d_host_count(struct x3d_host *host, uint32_t *count);
 uint8_t x3d_host_viewers(struct x3d_host *host, uint32_t *count);
 
 /* ---- a viewer of a shared world: it holds the world, offers what it points at, and applies the
- * host's inputs in order. Calls that copy a datagram return as those of a host. */
+ * host's inputs in order. Calls that copy a datagram return the same statuses as a host's. */
 
-/* Opens the viewer of a scene's text as boot `boot`, 1 to 2^32 - 1, of viewer `who`, 0 to 63, in
- * place of the one that the handle had. On X3D_SCENE and X3D_MEMORY the handle is empty, and the
- * line `refused NAME line N`, of at most 64 bytes, is copied to `refusal` if `room` bytes are
- * enough. Its length is written to `wanted`. X3D_RANGE for another `who` or `boot`: the handle
- * keeps what it had. */
+/* Opens viewer `who`, 0 to 63, of a scene's text, with boot number `boot`, 1 to 2^32 - 1. It
+ * replaces the one that the handle had. May return: X3D_RANGE for another `who` or `boot`; the
+ * handle keeps what it had. Or X3D_SCENE or X3D_MEMORY: then the handle is empty, and the line
+ * `refused NAME line N`, of at most 64 bytes, is copied to `refusal` if `room` bytes are enough.
+ * Its length is written to `wanted`. */
 uint8_t x3d_viewer_open(struct x3d_viewer *viewer, const uint8_t *text, size_t length, uint8_t who,
                         uint32_t boot, uint8_t *refusal, size_t room, size_t *wanted);
 /* Frees the viewer. Does nothing if the handle holds none. */
 void x3d_viewer_close(struct x3d_viewer *viewer);
-/* Writes the number of inputs that were applied, or that had been when memory ran out. */
+/* Writes the number of applied inputs; of a spoiled viewer, those applied before memory ran out. */
 uint8_t x3d_viewer_applied(struct x3d_viewer *viewer, uint32_t *count);
 /* Writes the viewer's boot. */
 uint8_t x3d_viewer_boot(struct x3d_viewer *viewer, uint32_t *boot);
 /* Writes the number of offers that wait: at most 64. */
 uint8_t x3d_viewer_waiting(struct x3d_viewer *viewer, uint32_t *count);
-/* Takes a datagram of the host, and writes what the viewer did with it. X3D_SPOILED. If the bytes
- * are not a datagram: as for x3d_host_take. X3D_WRONG_SCENE. X3D_NOT_FOR_ME for an offer, an ask, a
- * piece, or a report for another viewer. X3D_TIME_NOT_LATER: the input is dropped; inputs before it
- * stay applied. X3D_MEMORY: the viewer is spoiled, and only x3d_viewer_rewind and x3d_viewer_join
- * bring it back. */
+/* Takes a datagram of the host, and writes what the viewer did with it. May return, in this order:
+ * X3D_SPOILED, the statuses of x3d_host_take if the bytes are not a datagram, X3D_WRONG_SCENE,
+ * X3D_NOT_FOR_ME for an offer, an ask, a piece or another viewer's ack, X3D_TIME_NOT_LATER (the
+ * input is dropped; inputs before it stay applied), or X3D_MEMORY (the viewer is spoiled, and only
+ * x3d_viewer_rewind and x3d_viewer_join bring it back). */
 uint8_t x3d_viewer_take(struct x3d_viewer *viewer, const uint8_t *bytes, size_t length,
                         struct x3d_taken *taken);
 /* Offers what the viewer points at, with the button down or not, and writes the offer's number in
- * this boot, from 1. X3D_SPOILED, X3D_ZERO_RAY, X3D_POINT_RANGE, X3D_OFFER_FULL, or
- * X3D_OFFERS_SPENT. */
+ * this boot, from 1. May return, in this order: X3D_SPOILED, X3D_ZERO_RAY, X3D_POINT_RANGE,
+ * X3D_OFFER_FULL, or X3D_OFFERS_SPENT. */
 uint8_t x3d_viewer_offer(struct x3d_viewer *viewer, bool down, const struct x3d_aim *aim,
                          uint32_t *number);
-/* Copies the datagram of the offer that waits at place `place`, from 0. */
+/* Copies the datagram of waiting offer number `place`, where 0 is the oldest. */
 uint8_t x3d_viewer_resend(struct x3d_viewer *viewer, uint32_t place, uint8_t *out, size_t room,
                           size_t *wanted);
-/* Copies the datagram that asks for the inputs from the first that the viewer lacks. */
+/* Copies the datagram that asks for the inputs from the first one that the viewer lacks on. */
 uint8_t x3d_viewer_ask(struct x3d_viewer *viewer, uint8_t *out, size_t room, size_t *wanted);
-/* Makes the snapshot of the viewer's world, taken as its boot. x3d_viewer_copy_text copies it.
- * X3D_SPOILED or X3D_MEMORY. */
+/* Makes the snapshot of the viewer's world, with the viewer's boot number in it.
+ * x3d_viewer_copy_text copies it. May return: X3D_SPOILED or X3D_MEMORY. */
 uint8_t x3d_viewer_make_snapshot(struct x3d_viewer *viewer);
-/* Begins again in the world of a snapshot, as another boot, even if the viewer is spoiled, and
+/* Restarts the viewer from a snapshot, under a new boot number, even if the viewer is spoiled, and
  * writes the number of inputs that the world has had. Then no offer waits, and offers are numbered
- * from 1. X3D_BOOT_NOT_NEW if `boot` is not above the viewer's; then the statuses of
- * x3d_world_load. X3D_MEMORY spoils the viewer. */
+ * from 1. May return, in this order: X3D_BOOT_NOT_NEW if `boot` is not above the viewer's, or the
+ * statuses of x3d_world_load. X3D_MEMORY spoils the viewer. */
 uint8_t x3d_viewer_rewind(struct x3d_viewer *viewer, uint32_t boot, const uint8_t *bytes,
                           size_t length, uint32_t *applied);
 /* Writes the number of pieces that the bytes of a snapshot have: 0 if they do not begin as a
@@ -370,13 +378,13 @@ uint8_t x3d_viewer_piece_count(struct x3d_viewer *viewer, const uint8_t *bytes, 
 uint8_t x3d_viewer_piece(struct x3d_viewer *viewer, const uint8_t *bytes, size_t length,
                          uint32_t index, uint8_t *out, size_t room, size_t *wanted);
 /* Gathers a datagram that is a piece, even if the viewer is spoiled, and writes what was done with
- * it (an x3d_gathered). If the bytes are not a datagram: as for x3d_host_take. X3D_WRONG_SCENE,
- * X3D_NOT_PIECE, or X3D_MEMORY (at the first piece only). */
+ * it (an x3d_gathered). May return, in this order: the statuses of x3d_host_take if the bytes are
+ * not a datagram, X3D_WRONG_SCENE, X3D_NOT_PIECE, or X3D_MEMORY (at the first piece only). */
 uint8_t x3d_viewer_gather(struct x3d_viewer *viewer, const uint8_t *bytes, size_t length,
                           uint32_t *gathered);
-/* Begins again in the world of the snapshot that was gathered, as x3d_viewer_rewind does. Then no
- * piece is kept. X3D_NOT_WHOLE if pieces are missing; then as x3d_viewer_rewind. On a refusal the
- * gathered pieces are kept. */
+/* Restarts the viewer from the snapshot that was gathered, under a new boot number, as
+ * x3d_viewer_rewind does. Then no piece is kept. May return, in this order: X3D_NOT_WHOLE if pieces
+ * are missing, or the statuses of x3d_viewer_rewind. Then the gathered pieces are kept. */
 uint8_t x3d_viewer_join(struct x3d_viewer *viewer, uint32_t boot, uint32_t *applied);
 /* Drops what was gathered. */
 uint8_t x3d_viewer_forget(struct x3d_viewer *viewer);
