@@ -2,6 +2,7 @@
 """Shows shared worlds in browser windows, each with a viewer of its own."""
 import argparse
 import asyncio
+import logging
 import re
 import secrets
 import signal
@@ -12,6 +13,7 @@ from pathlib import Path
 sys.dont_write_bytecode = True
 try:
     from aiohttp import web
+    from aiohttp.http_exceptions import HttpProcessingError
 except ImportError:
     sys.exit("room: there is no aiohttp: Debian's package python3-aiohttp has it")
 try:
@@ -77,6 +79,11 @@ def reached_at(given, addresses):
     return f"[{first}]" if ":" in first else first
 
 
+def is_no_request(record):
+    """Whether a line of the log says that a client sent what is no HTTP: that is no fault of the server."""
+    return bool(record.exc_info) and isinstance(record.exc_info[1], HttpProcessingError)
+
+
 async def serve(given):
     services, addresses = services_of(given), given.address or ["127.0.0.1"]
     site = Site(services, given, given.three)
@@ -110,6 +117,7 @@ def main():
         words.error("a FILE, or --replay FILE")
     if not given.three.exists():
         sys.exit(f"room: there is no {given.three}: Debian's package libjs-three has it")
+    logging.getLogger("aiohttp.server").addFilter(lambda record: not is_no_request(record))
     try:
         asyncio.run(serve(given))
     except Unshown as unshown:

@@ -8,6 +8,7 @@ import sys
 import time
 
 import browser
+from guard import PATIENCE
 from served import AT_BUTTON, DOOR, PANEL, TRAINER, Client, Served, scene, scene_file
 
 HOSTILE = int(os.environ.get("HOSTILE", "500" if "--quick" in sys.argv else "10000"))
@@ -167,6 +168,8 @@ def test_slow_and_greedy_connections_shut_nothing():
             link.bind(("127.0.0.9", 0))
             link.settimeout(60)
             link.connect(("127.0.0.1", served.port))
+            with contextlib.suppress(OSError):
+                link.sendall(b"GET /door/ HTTP/1.1\r\nHost: localhost\r\nX-Slow: ")
             slow.append(link)
         begun = time.monotonic()
         served.address = f"http://127.0.0.1:{served.port}/door/"
@@ -177,7 +180,7 @@ def test_slow_and_greedy_connections_shut_nothing():
             time.sleep(1)
         took = time.monotonic() - begun
         print(f"120 slow connections are gone after {took:.0f} s", end=", ")
-        assert gone == len(slow) and took < 25 * browser.busy(), (gone, took)
+        assert gone == len(slow) and PATIENCE - 2 < took < (PATIENCE + 10) * browser.busy(), (gone, took)
 
 
 def drips(link):
