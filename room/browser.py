@@ -9,6 +9,7 @@ import struct
 import subprocess
 import tempfile
 import time
+import urllib.parse
 import urllib.request
 import zlib
 from pathlib import Path
@@ -227,7 +228,8 @@ class Browser:
         self.port = int(port.read_text().split()[0])
 
     def open(self, address):
-        new = f"http://127.0.0.1:{self.port}/json/new?{address}"
+        # What stands after a # would stay here.
+        new = f"http://127.0.0.1:{self.port}/json/new?{urllib.parse.quote(address, safe=':/?')}"
         ask = urllib.request.Request(new, method="PUT")
         with urllib.request.urlopen(ask, timeout=SECONDS) as answer:
             page = Page(json.load(answer)["webSocketDebuggerUrl"])

@@ -275,6 +275,12 @@ def test_a_changed_file_is_a_new_run_and_a_faulty_one_is_said():
         assert client.status("point", **POINT) == 200
 
 
+def has_started(told):
+    """Whether a scene has a motor that was started."""
+    nodes = told.get("nodes", [])
+    return any(node["label"] == "Motor" and node["fields"]["startTime"] != "0" for node in nodes)
+
+
 def test_a_restarted_server_goes_on():
     with scene_file(scene(), "door.x3dv") as file:
         more = ("--each", "8", "--keep", str(file.parent / "kept"))
@@ -287,16 +293,14 @@ def test_a_restarted_server_goes_on():
                 pass
             time.sleep(1.5)
             job = served.ask("GET", "/door/job", **{"X-Room-Token": client.seat["token"]})
-            assert job[0] == 200 and b"\nscene\n#X3D" in job[1] and b"point 0 1 -1 1.2 5 0 0 -1\n" in job[1]
+            assert job[0] == 200 and b"\nscene\n#X3D" in job[1] and b"point 0 1 -1 1.200000 5 0 0 -1\n" in job[1], job[0]
         with Served(file, more=more) as served:
             client = served.client()
             log = client.until("log")["log"]
             assert [(each["name"], each["text"]) for each in log] == [("Ana", said)], log
-            # A late viewer first shows the opening, and then joins.
-            while (told := client.until("scene"))["n"] < 30:
-                pass
-            motor = next(node for node in told["nodes"] if node["label"] == "Motor")
-            assert motor["fields"]["startTime"] != "0", motor["fields"]
+            # A new viewer has the press too: in the scene that it is told first, or in what comes then.
+            while not any("Motor.startTime" in told.get("trace", "") or has_started(told) for told in client.events):
+                client.until("scene", "news")
         with Served(None, more=("--replay", str(file.parent / "kept/door"))) as served:
             client = served.client()
             assert client.seat["who"] is None and client.until("log")["log"][0]["text"] == said
