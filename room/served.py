@@ -84,6 +84,7 @@ class Client:
 
     def __init__(self, served, more=(), **given):
         self.socket = browser.Socket(f"ws://127.0.0.1:{served.port}/{served.room}/socket", more)
+        self.socket.link.settimeout(40)
         self.number, self.events = 0, []
         self.socket.send(json.dumps({"do": "enter", **given}))
         self.seat = self.until("you", "refused")
@@ -109,7 +110,8 @@ class Client:
 
     def close(self):
         """Goes as a page does that is closed."""
-        self.socket.send((1001).to_bytes(2, "big"), 8)
+        with contextlib.suppress(OSError):
+            self.socket.send((1001).to_bytes(2, "big"), 8)
         self.socket.close()
 
 

@@ -5,7 +5,7 @@ from served import ASSEMBLY, DRILL, LATER, PANEL, QUIZ, Windows, spot, wait_equa
 def shows(page, text):
     """Whether the picture shows a Text of this one line: it stands below no Switch that hides it."""
     return page.value(
-        "room.drawn.content && (() => { let found = false; room.drawn.content.traverseVisible((thing) => {"
+        "Boolean(room.drawn.content) && (() => { let found = false; room.drawn.content.traverseVisible((thing) => {"
         "const node = room.state.nodes[thing.userData.node];"
         "const form = node && node.kind === 'Shape' && room.state.nodes[node.fields.geometry[0]];"
         f"found = found || Boolean(form && form.kind === 'Text' && String(form.fields.string) === '{text}'); }});"
@@ -15,7 +15,7 @@ def shows(page, text):
 
 def wait_shown(pages, text):
     for page in pages:
-        page.wait("room.drawn.stale.size === 0 && room.drawn.content", LATER)
+        page.wait("Boolean(room.drawn.content) && room.drawn.stale.size === 0", LATER)
         for _ in range(int(10 * LATER)):
             if shows(page, text):
                 break

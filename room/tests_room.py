@@ -225,7 +225,7 @@ def test_a_record_has_what_happened():
     record, viewer = run.record, run.viewer(0)
     assert record.world.trace() == viewer.trace() and len(record.inputs) == 93
     # 30 clocks, the clock of the turn, and the pointer with its button up come before it.
-    assert [(entry.name, entry.text, entry.n) for entry in record.log] == [("Ana", "pressed open the door", 33)]
+    assert [(entry.name, entry.text, entry.n) for entry in record.log] == [("Ana", "pressed the door's button", 33)]
 
 
 def test_a_record_is_a_job_that_makes_the_same_world():

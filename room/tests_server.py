@@ -288,7 +288,7 @@ def test_a_restarted_server_goes_on():
             client = served.client(name="Ana")
             for down in (False, True, False):
                 assert client.status("point", down=down, aim=AT_BUTTON) == 200
-            said = "pressed open the door"
+            said = "pressed the door's button"
             while not any(each["text"] == said for each in client.until("log")["log"]):
                 pass
             time.sleep(1.5)
@@ -305,5 +305,5 @@ def test_a_restarted_server_goes_on():
             client = served.client()
             assert client.seat["who"] is None and client.until("log")["log"][0]["text"] == said
             whole = client.until("replay")["of"]
-            assert whole > 60 and client.ask("replay", n=whole)["n"] == whole
+            assert whole > 30 and client.ask("replay", n=whole)["n"] == whole
             assert client.status("point", **POINT) == 409

@@ -162,7 +162,7 @@ def test_a_hand_and_a_tooltip_show_what_can_be_pressed():
         page.wait("document.querySelectorAll('.hint').length === 1")
         tip = "document.getElementById('tip')"
         page.mouse("mouseMoved", spot(page, BUTTON))
-        page.wait(f"!{tip}.hidden && {tip}.textContent === 'open the door'")
+        page.wait(f"!{tip}.hidden && {tip}.textContent === `the door's button`")
         assert page.value("document.getElementById('view').style.cursor") == "pointer"
         # The lamp is a sphere, and a wall has no sensor.
         page.mouse("mouseMoved", spot(page, [1.4, 1.05, 0.1]))
@@ -315,6 +315,7 @@ def test_a_killed_viewer_comes_back():
         trainer.value("document.querySelectorAll('#viewers .kill')[1].click()")
         one.wait("!document.getElementById('stopped').hidden && document.body.classList.contains('grey')")
         assert trainer.value("document.getElementById('stopped').hidden")
+        trainer.value("document.getElementById('inside').open = false")
         trainer.click(spot(trainer, BUTTON))
         trainer.wait("room.placeOf('Door')[0] > 0.01", LATER)
         pressed = "room.value('Motor', 'startTime')"
@@ -353,7 +354,7 @@ def test_people_have_names_and_pointers():
         assert 5 < box[0] - x < 40 and 5 < box[1] - y < 40, (box, x, y)
         ana.click(spot(ana, BUTTON))
         said = "document.getElementById('said')"
-        ben.wait(f"!{said}.hidden && {said}.textContent === 'Ana pressed open the door'", LATER)
+        ben.wait(f"!{said}.hidden && {said}.textContent === `Ana pressed the door's button`", LATER)
         chloe.value("document.getElementById('hand').click()")
         ben.wait("document.querySelectorAll('.chip .hand').length === 1", LATER)
         ben.value("document.getElementById('your-name').value = 'Benno'; document.getElementById('naming').requestSubmit()")
