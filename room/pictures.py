@@ -6,6 +6,7 @@ One of them is a window of chromium; the others speak to the server as windows d
 import contextlib
 import random
 import sys
+import threading
 import time
 from pathlib import Path
 
@@ -42,7 +43,16 @@ def people(served, count, room, ends):
         for down in (False, True):
             found[0].ask("point", down=down, aim=aim(*held))
     found[1].ask("hand", up=True)
+    for client in found:
+        threading.Thread(target=listen, args=(client,), daemon=True).start()
     return found
+
+
+def listen(client):
+    """Reads what a client is told, as a window does: one that doesn't is cut off."""
+    with contextlib.suppress(OSError, ValueError):
+        while True:
+            client.socket.receive()
 
 
 def shape(page, size):

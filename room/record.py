@@ -1,4 +1,5 @@
 """Everything that happened in a run of a room: its inputs, its world as they make it, and who pressed what."""
+import re
 import time
 from array import array
 from typing import NamedTuple
@@ -14,6 +15,7 @@ EVERY, SNAPSHOTS = 600, 32
 # A record's own snapshots are of this boot: whoever begins in one has a later boot.
 BOOT = 1
 LOGGED = 2000
+UNNAMED = re.compile(r"N\d+")
 SENSORS = {"TouchSensor": {"TRUE": "pressed"}, "PlaneSensor": {"TRUE": "took", "FALSE": "let go of"}}
 
 
@@ -122,7 +124,8 @@ class Record:
         if not verb:
             return None
         given = self.names.text(self.world, node, "description")
-        return f"{verb} {given or label}"
+        # What has neither a description nor a name of its own isn't spoken of.
+        return None if not given and UNNAMED.fullmatch(label) else f"{verb} {given or label}"
 
     def say(self, who, name, color, text, number=None):
         """Logs what was done; of too much the oldest goes."""

@@ -22,6 +22,8 @@ STATUS, LOOK, WRITE, SAVE = 6, 15, 30, 1800
 # Seconds that a seat is kept for a window whose connection broke.
 AWAY = 20
 SPECTATORS = 64
+# How a connection ends whose window has come in by another one.
+ELSEWHERE = 4000
 # How much of the log a window is told when it comes in.
 SHOWN = 200
 
@@ -205,7 +207,7 @@ class Service:
         """The window of who comes in: the one that it had, or a new one with a seat, or one that only watches."""
         window = self.window_of(body.get("token"))
         if window:
-            window.outbox.close()
+            window.outbox.close(ELSEWHERE)
             window.outbox, window.gone, window.told = outbox, None, None
             if window.who is not None:
                 self.room.seats[window.who].told = None

@@ -33,7 +33,7 @@ class Outbox:
     """What a window is to be sent. Of what waits there is so much at most."""
 
     def __init__(self):
-        self.waiting = asyncio.Queue(WAITING)
+        self.waiting, self.code = asyncio.Queue(WAITING), WSCloseCode.GOING_AWAY
 
     def put(self, told):
         """Puts a message; false where too many wait."""
@@ -44,8 +44,9 @@ class Outbox:
             return False
         return True
 
-    def close(self):
+    def close(self, code=WSCloseCode.GOING_AWAY):
         """Nothing more is sent, and the connection ends."""
+        self.code = code
         while not self.waiting.empty():
             self.waiting.get_nowait()
         self.waiting.put_nowait(None)
@@ -53,7 +54,7 @@ class Outbox:
     async def send_to(self, connection):
         while (told := await self.waiting.get()) is not None:
             await connection.send_str(told)
-        await connection.close(code=WSCloseCode.GOING_AWAY)
+        await connection.close(code=self.code)
 
 
 class Site:

@@ -2,6 +2,8 @@
 import { pause, state } from "./core.js";
 
 const RETRY = 1500;
+/* How the server ends the connection of a window that came in by another one. */
+const ELSEWHERE = 4000;
 const works = new Map(), waiting = new Map();
 const given = new URLSearchParams(location.hash.slice(1));
 const KEY = `room ${location.pathname}`;
@@ -72,7 +74,8 @@ export function connect() {
     happen("open", {});
   };
   socket.onmessage = take;
-  socket.onclose = async () => {
+  socket.onclose = async ({ code }) => {
+    if (code === ELSEWHERE) happen("refused", { status: 409, why: "it is open in another window" });
     for (const resolve of waiting.values()) resolve({ status: 0 });
     waiting.clear();
     if (refused) return;

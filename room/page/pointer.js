@@ -3,7 +3,7 @@
 import { choose, orbit, pan, rayAt, viewpoints, zoom } from "./camera.js";
 import { byId, pause, state, within } from "./core.js";
 import { ask } from "./link.js";
-import { endHints, ring, sensorsAt, showTip } from "./pressing.js";
+import { endHints, namesOf, ring, sensorsAt, showTip } from "./pressing.js";
 import { drawn } from "./scene.js";
 import { fit, stage } from "./stage.js";
 
@@ -81,7 +81,7 @@ function follow(event) {
 
 function hover(event) {
   const sensors = event.pointerType === "touch" || state.who === null || state.replay ? [] : below();
-  view.style.cursor = sensors.length ? "pointer" : "";
+  view.style.cursor = namesOf(sensors) ? "pointer" : "";
   showTip(sensors, event.clientX, event.clientY);
 }
 

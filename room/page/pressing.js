@@ -33,8 +33,11 @@ export function sensorsAt(ray) {
   return hit ? sensorsOf(hit.object) : [];
 }
 
-export const namesOf = (sensors) => [...new Set(sensors.map((number) =>
-  field(state.nodes[number], "description", "") || state.nodes[number].label))].join(", ");
+/* What sensors are called. One with neither a description nor a name of its own isn't spoken of. */
+export const namesOf = (sensors) => [...new Set(sensors.map((number) => {
+  const { label } = state.nodes[number];
+  return field(state.nodes[number], "description", "") || (/^N\d+$/.test(label) ? "" : label);
+}))].filter((name) => name).join(", ");
 
 /* Shows what is below the pointer. */
 export function showTip(sensors, x, y) {
@@ -77,7 +80,7 @@ export function placeHints(box) {
   drawn.content.traverse((object) => {
     if (!object.userData.box || !isShown(object)) return;
     for (const sensor of sensorsOf(object).slice(0, 1)) {
-      if (!places.has(sensor)) places.set(sensor, new THREE.Vector3().setFromMatrixPosition(object.matrixWorld));
+      if (!places.has(sensor) && namesOf([sensor])) places.set(sensor, new THREE.Vector3().setFromMatrixPosition(object.matrixWorld));
     }
   });
   for (const [sensor, place] of places) {

@@ -14,6 +14,8 @@ on("log", ({ log, whole }) => {
 });
 on("replay", show);
 on("run", leave);
+// Where the room is a run that is over there is no now to go back to.
+on("status", (status) => { byId("now").hidden = Boolean(status.replay); });
 on("you", leave);
 
 function show(replay) {
