@@ -6,7 +6,7 @@ Of the WINDOWS (16) SHOWN (1) are chromium's, of 1280 by 720 pixels and with the
 others speak as a page does. It tells what the server took of a processor, how many
 frames a second each window of chromium had, and what a frame takes of a processor: in its page's
 own thread, in the process that stands for graphics hardware, and in all others. So once where
-frames are drawn anew as the world changes, and once where each is."""
+frames are drawn as the world changes, and once where each is."""
 import contextlib
 import math
 import os
@@ -112,7 +112,7 @@ class At(Served):
 
 
 def counts_of(page):
-    """How many frames a window had, and how many were drawn anew."""
+    """How many frames a window had, and how many were drawn."""
     return page.value("[window.counted, room.stage.draws]")
 
 
@@ -147,7 +147,7 @@ def spent(process):
 
 
 def measured(served, window, pages, others, seconds, windows):
-    """Counts for so many seconds, and tells of them."""
+    """Counts for some seconds, and prints the counts."""
     # Their line comes as a second ends: all is counted from there.
     first = int(others.stdout.readline())
     begun, before = time.monotonic(), used(served.process)
@@ -161,13 +161,13 @@ def measured(served, window, pages, others, seconds, windows):
     for page, then in zip(pages, counts):
         frames, draws = (now - past for now, past in zip(counts_of(page), then))
         badge, drawn = page.value("document.getElementById('badge').textContent"), drawn + draws
-        told = f"{frames / took:.1f} frames a second, {draws / took:.1f} of them drawn anew"
+        told = f"{frames / took:.1f} frames a second, {draws / took:.1f} of them drawn"
         print(f"window: {told}; {badge}")
     if pages:
         new = spent(window.process)
         each = {name: 1000 * (new[name] - old[name]) / max(drawn, 1) for name in new}
         told = ", ".join(f"{name} {part:.1f}" for name, part in each.items())
-        print(f"        ms of a processor for one drawn anew: {told}")
+        print(f"        ms of a processor for one that is drawn: {told}")
 
 
 def measure(served, window, pages, others, seconds, windows):
@@ -182,7 +182,7 @@ def measure(served, window, pages, others, seconds, windows):
     if pages:
         for page in pages:
             page.value("room.stage.always = room.drawn.dirty = true")
-        print(f"each frame drawn anew ({wants()}):")
+        print(f"each frame drawn ({wants()}):")
         measured(served, window, pages, others, seconds, windows)
 
 

@@ -13,7 +13,7 @@ PACE, COMMANDS = 40, 20
 
 
 class Bucket:
-    """So many a second, and as many at once."""
+    """Takes `rate` a second, and as many at once."""
 
     def __init__(self, rate):
         self.rate, self.left, self.paid = rate, rate, time.monotonic()

@@ -31,7 +31,7 @@ def aim(x, y):
 
 
 def people(served, count, room, ends):
-    """So many clients who point somewhere; the first of them holds what the room has to be held."""
+    """`count` clients who point somewhere; the first of them holds what the room has to be held."""
     (left, right, low, high), held = PLACES[room]
     chance, found = random.Random(8), []
     for name in NAMES[1 : count + 1]:
@@ -49,7 +49,7 @@ def people(served, count, room, ends):
 
 
 def listen(client):
-    """Reads what a client is told, as a window does: one that doesn't is cut off."""
+    """Reads the events of a client, as a window does: one that doesn't is cut off."""
     with contextlib.suppress(OSError, ValueError):
         while True:
             client.socket.receive()

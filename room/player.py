@@ -43,7 +43,7 @@ class Player:
         return each.time
 
     def turn(self, passed):
-        """So many microseconds pass; what the window is to be told, with its kind, if anything."""
+        """Microseconds pass; what the window is to be sent, with its kind, if anything."""
         inputs, count = self.record.inputs, len(self.record.inputs)
         if self.playing:
             self.due += passed * self.speed

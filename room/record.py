@@ -10,13 +10,13 @@ from seat import latest
 
 # What an array holds of an input: its time, 2 * viewer + button or -1 for a clock, and its ray.
 WIDTH = 8
-# A snapshot is kept every so many inputs; of too many every second goes.
+# A snapshot is kept every 600 inputs; of too many every second goes.
 EVERY, SNAPSHOTS = 600, 32
 # A record's own snapshots are of this boot: whoever begins in one has a later boot.
 BOOT = 1
 LOGGED = 2000
 UNNAMED = re.compile(r"N\d+")
-SENSORS = {"TouchSensor": {"TRUE": "pressed"}, "PlaneSensor": {"TRUE": "took", "FALSE": "let go of"}}
+SENSORS = {"TouchSensor": {"TRUE": "pressed"}, "PlaneSensor": {"TRUE": "took", "FALSE": "put down"}}
 
 
 class Inputs:

@@ -42,7 +42,7 @@ class Replayed(Service):
             if window.gone is None:
                 self.news(window)
             elif time.monotonic() - window.gone > AWAY:
-                self.let_go(window)
+                self.dismiss(window)
         if turn % STATUS == 0:
             self.tell_all("status", {"replay": True, "viewers": [], "run": self.runs})
 

@@ -10,11 +10,11 @@ from scene import Names
 from seat import Joining, Seat
 
 VIEWERS = 64
-# Viewers are saved, and their worlds compared, every so many turns: as many more for so many bytes.
+# Viewers are saved, and their worlds compared, every CHECK turns: as many more for each GROWTH bytes.
 CHECK, GROWTH = 90, 1 << 18
 # How many inputs the host keeps below those that a late window lacks.
 KEPT = 600
-# How many offers a viewer sends in a turn, and pieces, unless all would then take so many turns.
+# How many offers a viewer sends in a turn, and pieces, unless all would then take ROUND turns.
 OFFERS, PIECES, ROUND = 8, 64, 30
 # How often a viewer asks in a turn, at most, as long as what comes shows that something was lost.
 ASKS = 4
@@ -91,7 +91,7 @@ class Room:
         return [seat for seat in self.seats.values() if seat.viewer]
 
     def mark(self, seat):
-        """Saves a viewer. The host lets go of inputs that no one lacks who joins."""
+        """Saves a viewer. The host drops inputs that no one lacks who joins."""
         self.newest = max(self.newest, seat.mark(), key=lambda saved: saved[0])
         joining = [each.joins.number for each in self.running() if each.joins]
         floor = min([self.newest[0], *joining]) + 1 - KEPT
@@ -145,7 +145,7 @@ class Room:
                 self.kill(who)
 
     def to_host(self, seat, datagram):
-        """The host answers, with no input behind the next mark: so each viewer comes to it."""
+        """The host answers, with no input after the next mark: so each viewer stops there."""
         kind, first, count = self.host.take(datagram)
         if kind == "Asked":
             stop = next((mark + 1 for mark in self.marks if mark >= first), first + count)

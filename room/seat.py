@@ -31,7 +31,7 @@ class Seat:
         self.begin()
 
     def begin(self):
-        """The viewer has another world: `told`, which number the window was told of, is none."""
+        """The viewer has another world: it has sent the window none of it yet (`told`)."""
         self.digests, self.points, self.joins, self.told = {}, [], None, None
         # Whether an input came in this turn before one that is lacking.
         self.lacks = False

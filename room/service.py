@@ -24,7 +24,7 @@ AWAY = 20
 SPECTATORS = 64
 # How a connection ends whose window has come in by another one.
 ELSEWHERE = 4000
-# How much of the log a window is told when it comes in.
+# How much of the log a window is sent when it comes in.
 SHOWN = 200
 
 # Without blanks, since each event goes to each window.
@@ -77,7 +77,7 @@ class Service:
     # The clock.
 
     async def run(self):
-        """The clock goes by the time of day at the start, as X3D counts it, and never back. Where a turn fails the
+        """The clock begins at the time of day, as X3D counts it, and never back. Where a turn fails the
         server ends, so that windows say that it is gone."""
         begun = max(time.time(), self.last() / 1e6 + 1) - time.monotonic()
         due, turn = time.monotonic(), 0
@@ -97,7 +97,7 @@ class Service:
         for window in [*self.windows.values()]:
             if window.gone is not None:
                 if time.monotonic() - window.gone > AWAY:
-                    self.let_go(window)
+                    self.dismiss(window)
             elif news := self.news(window):
                 self.tell(window, *news)
         self.record.forget_points()
@@ -238,7 +238,7 @@ class Service:
         return min(COLORS, key=taken.count)
 
     def welcome(self, window):
-        """What a window is told first."""
+        """What a window is sent first."""
         window.told = None
         self.tell(window, "you", {
             "id": window.id, "who": window.who, "token": window.token, "name": window.name, "color": window.color,
@@ -255,10 +255,10 @@ class Service:
             return
         window.gone = time.monotonic()
         if left:
-            self.let_go(window)
+            self.dismiss(window)
         self.tell_people()
 
-    def let_go(self, window):
+    def dismiss(self, window):
         """Frees the seat of a window."""
         del self.windows[window.token]
         self.end_replay(window)

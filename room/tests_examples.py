@@ -30,7 +30,7 @@ def hold(page, place):
     page.mouse("mousePressed", spot(page, place), 1)
 
 
-def let_go(page, place):
+def release(page, place):
     page.mouse("mouseReleased", spot(page, place))
 
 
@@ -85,7 +85,7 @@ def put(page, start, end):
     hold(page, start)
     page.mouse("mouseMoved", spot(page, end), 1)
     page.value("new Promise((resolve) => setTimeout(resolve, 500))")
-    let_go(page, end)
+    release(page, end)
 
 
 def test_the_assemblys_parts_snap_into_their_places():
@@ -120,7 +120,7 @@ def test_the_drill_takes_two_people_in_order():
         ben.wait("room.value('Latch', 'isOpen') === true", LATER)
         ben.click(spot(ben, start))
         wait_shown(windows.pages, "OPEN THE VALVE")
-        let_go(ana, key)
+        release(ana, key)
         ben.click(spot(ben, valve))
         wait_shown(windows.pages, "REPORT")
         ana.click(spot(ana, report))
@@ -132,7 +132,7 @@ def test_the_drill_takes_two_people_in_order():
         assert 0 < taken < 60 and abs(hand - (-3 + taken / 10)) < 0.01, (taken, hand)
         wait_equal(windows.pages)
         windows.shoot("drill")
-        # Its replay comes to the same end.
+        # Its replay ends alike.
         ana.value("document.getElementById('past').click()")
         ana.wait("room.state.replay && room.state.replay.n === 0", LATER)
         wait_shown([ana], "ONE HOLDS THE KEY, ANOTHER STARTS")

@@ -211,7 +211,7 @@ class Recorded(Turned):
 
 
 def recorded(turns):
-    """A room in which Ana pressed the button early, after so many turns."""
+    """A room in which Ana pressed the button early, after `turns` more."""
     run = Recorded()
     run.room.join()
     run.turns(30)

@@ -298,7 +298,7 @@ def test_a_restarted_server_goes_on():
             client = served.client()
             log = client.until("log")["log"]
             assert [(each["name"], each["text"]) for each in log] == [("Ana", said)], log
-            # A new viewer has the press too: in the scene that it is told first, or in what comes then.
+            # A new viewer has the press too: in the scene that it is sent first, or in what comes then.
             while not any("Motor.startTime" in told.get("trace", "") or has_started(told) for told in client.events):
                 client.until("scene", "news")
         with Served(None, more=("--replay", str(file.parent / "kept/door"))) as served:

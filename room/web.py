@@ -222,7 +222,7 @@ class Site:
             raise Wrong(401, "wrong password" if given else "password")
 
     async def converse(self, service, window, outbox, connection):
-        """Answers what a window asks, and sends what it is told, until either ends."""
+        """Answers what a window asks, and sends its events, until either ends."""
         sending = asyncio.ensure_future(outbox.send_to(connection))
         try:
             async for received in connection:

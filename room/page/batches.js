@@ -1,7 +1,7 @@
 /* Solids of the same form and the same glow are a batch, which the renderer draws at once: its mesh has of each solid a
    place and a color. */
 
-/* What the renderer goes by, and rays: solids that batches draw are seen by rays alone. */
+/* Layers: the renderer draws the first, rays see both. Solids that batches draw are in the second. */
 const DRAWN_ITSELF = 0, IN_BATCH = 1;
 const batches = new Map();
 let home = null;
@@ -12,7 +12,7 @@ export function beginBatches(scene) {
 }
 
 export function forgetBatches() {
-  batches.forEach(letGo);
+  batches.forEach(discard);
   batches.clear();
 }
 
@@ -40,16 +40,16 @@ export function isShown(object) {
   return true;
 }
 
-function letGo(batch) {
+function discard(batch) {
   if (!batch.mesh) return;
   home.remove(batch.mesh);
   batch.mesh.geometry.dispose();
   batch.mesh = null;
 }
 
-/* A mesh with room for so many solids of a batch. */
+/* A mesh with room for `room` solids of a batch. */
 function makeRoom(batch, room) {
-  letGo(batch);
+  discard(batch);
   const [{ geometry }] = batch.solids, own = new THREE.BufferGeometry();
   own.setIndex(geometry.index.clone());
   for (const name of ["position", "normal"]) own.setAttribute(name, geometry.attributes[name].clone());

@@ -5,7 +5,7 @@ import { drawn } from "./scene.js";
 
 export const camera = new THREE.PerspectiveCamera(45, 1, 0.05, 5000);
 const head = new THREE.DirectionalLight(0xffffff, 0.65);
-/* In a narrow window so many times as much is seen across as a Viewpoint asks for of the shorter side. */
+/* In a narrow window more is seen across than a Viewpoint asks for of the shorter side: this many times. */
 const NARROW = 1.25;
 const UP = new THREE.Vector3(0, 1, 0);
 /* Which Viewpoint, of those that there are; whether the camera has left it; round what it turns; its angle of view. */

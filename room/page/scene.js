@@ -169,7 +169,7 @@ function showLine(line) {
   if (lane.length > STOPS) lane.shift();
 }
 
-/* What changed: lines of the trace, in whose strings a line may go on, and what fields hold now. What is drawn goes by
+/* What changed: lines of the trace, in whose strings a line may go on, and what fields hold now. What is drawn is
    what they hold: an output that has sent at a timestamp still sets its field, and sends no second line. */
 export function showNews(news) {
   state.n = news.n;

@@ -57,11 +57,17 @@ const measure = () => { stage.size = [stage.view.clientWidth, stage.view.clientH
 new ResizeObserver(measure).observe(stage.view);
 measure();
 
-export function frame() {
+/* Where a processor draws, frames are this long apart at least, in milliseconds. */
+const SLOW = 60;
+let last = -SLOW;
+
+export function frame(now = 0) {
   requestAnimationFrame(frame);
   if (!drawn.content || !stage.renderer) return;
   fit();
   if (!(drawn.dirty || drawn.stale.size)) return;
+  if (stage.software && !stage.always && now - last < SLOW) return;
+  last = now;
   refresh();
   for (const work of stage.before) work();
   drawn.dirty = stage.always;
