@@ -93,6 +93,9 @@ def test_the_assemblys_parts_snap_into_their_places():
         one, other = windows.pages
         # Put down elsewhere, and before another part's place, it stays where it is.
         put(one, PARTS["wall"][0], [-0.6, 0.2, 0.15])
+        # The other window shows it there, or else would press nothing.
+        wait_equal(windows.pages)
+        other.wait("room.state.n >= room.state.status.equal_at")
         put(other, [-0.6, 0.2, 0.15], [*PARTS["base"][1][:2], 0.65])
         one.wait("room.state.people.length === 2 && document.querySelectorAll('#log li').length >= 4", LATER)
         wait_equal(windows.pages)
