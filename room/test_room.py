@@ -19,6 +19,7 @@ except ImportError:
     sys.exit(0)
 import browser
 import tests_examples
+import tests_people
 import tests_room
 import tests_server
 import tests_windows
@@ -68,7 +69,8 @@ def outcome(name, test, begun):
 
 def main():
     core = tests_of(tests_room)
-    tests = {**core, **tests_of(tests_server), **tests_of(tests_windows), **tests_of(tests_examples)}
+    tests = {**core, **tests_of(tests_server), **tests_of(tests_windows)}
+    tests |= {**tests_of(tests_people), **tests_of(tests_examples)}
     names = [word for word in sys.argv[1:] if word != "--quick"]
     asked = names or [*core, *GATE] if QUICK else names or [*tests]
     begun, counts = time.monotonic(), {"passed": 0, "FAILED": 0, "skipped": 0}
