@@ -5,8 +5,8 @@ from pathlib import Path
 from explain import Unshown, read_scene_file
 from record import Record
 from room import VIEWERS
-from service import AWAY, RATE, SPECTATORS, Service, Wrong
-from store import INPUTS, SCENE, BadLine, Store, read_inputs
+from service import AWAY, SPECTATORS, Service, Wrong
+from store import SCENE, BadLine, Store, read_inputs
 from viewpoints import orientations_of
 
 STATUS = 15

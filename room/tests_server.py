@@ -9,7 +9,7 @@ import time
 
 import browser
 from guard import PATIENCE
-from served import AT_BUTTON, DOOR, PANEL, TRAINER, Client, Served, scene, scene_file
+from served import AT_BUTTON, PANEL, TRAINER, Client, Served, scene, scene_file
 
 HOSTILE = int(os.environ.get("HOSTILE", "500" if "--quick" in sys.argv else "10000"))
 POINT = {"down": True, "aim": AT_BUTTON}
