@@ -48,11 +48,15 @@ picture:
 found_so = so="$(X3D_SO)"; [ -n "$$so" ] || \
   for so in out/libx3d.so out/quick/libx3d.so ""; do ! $(call fresh,"$$so") || break; done
 
-# Shows a shared world in browser windows: prints the address. Wants Debian's package libjs-three.
+# What the room lacks of Debian's packages, if anything.
+missing_of_room = [ -e $(THREE) ] && missing= || missing="no $(THREE) (Debian's package libjs-three)"; \
+  /usr/bin/python3 -c "import aiohttp" 2> /dev/null || missing="no aiohttp (Debian's package python3-aiohttp)"
+
+# Shows a shared world in browser windows: prints the links. It is kept in out/rooms, and goes on there at the next start.
 room:
-	@[ -e $(THREE) ] || { echo "room: there is no $(THREE): Debian's package libjs-three has it" >&2; exit 1; }
+	@$(missing_of_room); [ -z "$$missing" ] || { echo "room: $$missing" >&2; exit 1; }
 	@$(MAKE) --no-print-directory room-library
-	@$(found_so); X3D_SO=$$(realpath "$$so") room/server.py --three $(THREE) $(ROOM)
+	@$(found_so); X3D_SO=$$(realpath "$$so") room/server.py --three $(THREE) --keep out/rooms $(ROOM)
 
 # Tests that, in a real browser where chromium is installed. No part of `make test`.
 test-room: room-library
@@ -60,9 +64,9 @@ test-room: room-library
 
 # Some of these, in less than a minute, for a gate: nothing is built for them, and what is missing is said.
 test-room-quick:
-	@$(found_so); \
+	@$(found_so); $(missing_of_room); \
 	if [ ! -e "$$so" ]; then echo "room: skipped: no library (make library, or make library-unproved)"; \
-	elif [ ! -e $(THREE) ]; then echo "room: skipped: no $(THREE) (Debian's package libjs-three)"; \
+	elif [ -n "$$missing" ]; then echo "room: skipped: $$missing"; \
 	else echo "room: by $$so"; X3D_SO=$$(realpath "$$so") room/test_room.py --quick; fi
 
 # What it stands on. Where there is none it is built without a proof, in some two minutes: what it answers is what the

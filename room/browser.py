@@ -9,6 +9,7 @@ import struct
 import subprocess
 import tempfile
 import time
+import urllib.parse
 import urllib.request
 import zlib
 from pathlib import Path
@@ -67,28 +68,36 @@ def unfiltered(kind, row, above, parts):
 
 
 class Socket:
-    """A WebSocket (RFC 6455) as a client: whole texts, in one frame each way or several."""
+    """A WebSocket (RFC 6455) as a client: whole texts, in one frame each way or several. `more` are lines of
+    its request's head."""
 
-    def __init__(self, address):
+    def __init__(self, address, more=()):
         host, path = address.removeprefix("ws://").split("/", 1)
         name, port = host.split(":")
         self.link = socket.create_connection((name, int(port)), timeout=SECONDS)
         key = base64.b64encode(os.urandom(16)).decode()
         ask = (
             f"GET /{path} HTTP/1.1\r\nHost: {host}\r\nUpgrade: websocket\r\n"
-            f"Connection: Upgrade\r\nSec-WebSocket-Key: {key}\r\nSec-WebSocket-Version: 13\r\n\r\n"
+            f"Connection: Upgrade\r\nSec-WebSocket-Key: {key}\r\nSec-WebSocket-Version: 13\r\n"
         )
-        self.link.sendall(ask.encode())
+        self.link.sendall("".join([ask, *(f"{line}\r\n" for line in more), "\r\n"]).encode())
         self.file = self.link.makefile("rb")
-        if b"101" not in self.file.readline():
-            raise ConnectionError("no WebSocket")
+        status = self.file.readline()
+        if b"101" not in status:
+            self.close()
+            raise ConnectionError(f"no WebSocket: {status.decode(errors='replace').strip()}")
         while self.file.readline().strip():
             pass
 
-    def send(self, text):
-        data, mask = text.encode(), os.urandom(4)
+    def close(self):
+        self.file.close()
+        self.link.close()
+
+    def send(self, text, kind=1):
+        """Sends a text, or the bytes of a frame of another kind."""
+        data, mask = text.encode() if isinstance(text, str) else text, os.urandom(4)
         size = len(data)
-        head = b"\x81" + (
+        head = bytes([0x80 | kind]) + (
             bytes([0x80 | size])
             if size < 126
             else bytes([0xFE]) + struct.pack(">H", size)
@@ -99,13 +108,19 @@ class Socket:
         self.link.sendall(head + mask + masked)
 
     def receive(self):
+        """The next text. Raises ConnectionError where the other side ends."""
         whole = b""
         while True:
-            first, second = self.file.read(2)
+            begins = self.file.read(2)
+            if len(begins) < 2 or begins[0] & 0x0F == 8:
+                raise ConnectionError("closed")
+            first, second = begins
             size = second & 0x7F
             if size > 125:
                 size = int.from_bytes(self.file.read(2 if size == 126 else 8), "big")
             data = self.file.read(size)
+            if first & 0x0F == 9:
+                self.send(data, 10)
             if first & 0x0F in (0, 1):
                 whole += data
                 if first & 0x80:
@@ -213,7 +228,8 @@ class Browser:
         self.port = int(port.read_text().split()[0])
 
     def open(self, address):
-        new = f"http://127.0.0.1:{self.port}/json/new?{address}"
+        # What stands after a # would stay here.
+        new = f"http://127.0.0.1:{self.port}/json/new?{urllib.parse.quote(address, safe=':/?')}"
         ask = urllib.request.Request(new, method="PUT")
         with urllib.request.urlopen(ask, timeout=SECONDS) as answer:
             page = Page(json.load(answer)["webSocketDebuggerUrl"])

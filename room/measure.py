@@ -1,15 +1,13 @@
 #!/usr/bin/env python3
-"""Measures the room: a scene of 1,000 nodes, and 16 windows whose pointers move 11 times a second.
+"""Measures the room: a scene of 1,000 nodes, and windows whose pointers move 11 times a second.
 
-usage: room/measure.py [SECONDS] [SHOWN] [FLAG..]
-SHOWN (1) of the windows are chromium's, of 1280 by 720 pixels and with these flags of it; the
-others post and listen as a page does. It tells what the server took of a processor, how many
+usage: room/measure.py [SECONDS] [SHOWN] [WINDOWS] [FLAG..]
+Of the WINDOWS (16) SHOWN (1) are chromium's, of 1280 by 720 pixels and with these flags of it; the
+others speak as a page does. It tells what the server took of a processor, how many
 frames a second each window of chromium had, and what a frame takes of a processor: in its page's
 own thread, in the process that stands for graphics hardware, and in all others. So once where
-frames are drawn anew as the world changes, and once where each is."""
+frames are drawn as the world changes, and once where each is."""
 import contextlib
-import http.client
-import json
 import math
 import os
 import random
@@ -23,9 +21,9 @@ from pathlib import Path
 
 sys.dont_write_bytecode = True
 import browser
-from test_room import Served
+from served import Served
 
-WINDOWS, PACE, MOVING = 16, 0.09, 8
+PACE, MOVING = 0.09, 8
 GRID = [(column - 7, row - 5) for row in range(11) for column in range(15)]
 BOX = """DEF Box%d Transform {
   translation %d %d 0
@@ -70,35 +68,22 @@ def scene():
     return "".join(parts)
 
 
-class Client(threading.Thread):
-    """A window without a browser: it listens to its events, and moves its pointer in a circle."""
+class Mover(threading.Thread):
+    """A window without a browser: it takes its events, and moves its pointer in a circle."""
 
-    def __init__(self, port):
+    def __init__(self, served):
         super().__init__(daemon=True)
-        self.link, self.numbered = http.client.HTTPConnection("127.0.0.1", port, timeout=60), 0
-        self.seat = self.post("/join")
-        self.events = http.client.HTTPConnection("127.0.0.1", self.seat["port"], timeout=60)
-        self.events.request("GET", f"/events?token={self.seat['token']}")
-        threading.Thread(target=self.listen, daemon=True).start()
-
-    def post(self, path, **body):
-        given = {"Content-Type": "application/json"}
-        self.link.request("POST", path, json.dumps(body), given)
-        return json.loads(self.link.getresponse().read())
-
-    def listen(self):
-        answer = self.events.getresponse()
-        while part := answer.read1(1 << 16):
-            for found in re.finditer(rb'"numbered":(\d+)', part):
-                self.numbered = int(found[1])
+        self.client, self.numbered = served.client(), 0
 
     def run(self):
         way = 6 * random.random()
         while True:
             way += 0.05
             ray = round(400_000 * math.cos(way)), round(280_000 * math.sin(way)), -1_000_000
-            aim = [0, 0, 17_000_000, *ray]
-            self.post("/point", token=self.seat["token"], down=False, aim=aim)
+            self.client.ask("point", down=False, aim=[0, 0, 17_000_000, *ray])
+            for told in self.client.events:
+                self.numbered = told.get("numbered", self.numbered)
+            self.client.events.clear()
             time.sleep(PACE)
 
 
@@ -108,19 +93,27 @@ def used(process):
     return (int(parts[11]) + int(parts[12])) / os.sysconf("SC_CLK_TCK")
 
 
-def clients(port, count):
+def clients(address, count):
     """Windows without a browser, in a process that tells each second how much is numbered."""
-    found = [Client(port) for _ in range(count)]
-    for client in found:
-        client.start()
+    found = [Mover(At(address)) for _ in range(count)]
+    for mover in found:
+        mover.start()
     while True:
         print(found[0].numbered, flush=True)
         time.sleep(1)
 
 
+class At(Served):
+    """A server that runs already."""
+
+    def __init__(self, address):
+        self.address = address
+        self.port, self.room = int(re.search(r":(\d+)/", address)[1]), address.rstrip("/").rpartition("/")[2]
+
+
 def counts_of(page):
-    """How many frames a window had, and how many were drawn anew."""
-    return page.value("[window.counted, room.three.draws]")
+    """How many frames a window had, and how many were drawn."""
+    return page.value("[window.counted, room.stage.draws]")
 
 
 def on_processor(task):
@@ -153,8 +146,8 @@ def spent(process):
     return parts
 
 
-def measured(served, window, pages, others, seconds):
-    """Counts for so many seconds, and tells of them."""
+def measured(served, window, pages, others, seconds, windows):
+    """Counts for some seconds, and prints the counts."""
     # Their line comes as a second ends: all is counted from there.
     first = int(others.stdout.readline())
     begun, before = time.monotonic(), used(served.process)
@@ -162,43 +155,43 @@ def measured(served, window, pages, others, seconds):
     for _ in range(seconds):
         last = int(others.stdout.readline())
     took, share = time.monotonic() - begun, used(served.process) - before
-    print(f"{WINDOWS} windows, {(last - first) / took:.0f} inputs a second, {took:.1f} s")
+    print(f"{windows} windows, {(last - first) / took:.0f} inputs a second, {took:.1f} s")
     print(f"server: {100 * share / took:.1f} % of a processor")
     drawn = 0
     for page, then in zip(pages, counts):
         frames, draws = (now - past for now, past in zip(counts_of(page), then))
         badge, drawn = page.value("document.getElementById('badge').textContent"), drawn + draws
-        told = f"{frames / took:.1f} frames a second, {draws / took:.1f} of them drawn anew"
+        told = f"{frames / took:.1f} frames a second, {draws / took:.1f} of them drawn"
         print(f"window: {told}; {badge}")
     if pages:
         new = spent(window.process)
         each = {name: 1000 * (new[name] - old[name]) / max(drawn, 1) for name in new}
         told = ", ".join(f"{name} {part:.1f}" for name, part in each.items())
-        print(f"        ms of a processor for one drawn anew: {told}")
+        print(f"        ms of a processor for one that is drawn: {told}")
 
 
-def measure(served, window, pages, others, seconds):
+def measure(served, window, pages, others, seconds, windows):
     for page in pages:
-        page.wait("window.room && room.three.content && room.state.status && room.three.draws")
+        page.wait("window.room && room.drawn.content && room.state.status && room.stage.draws")
         page.value(MOVE)
     for _ in range(4):
         others.stdout.readline()
     wants = lambda: f"load {os.getloadavg()[0]:.0f} on {os.cpu_count()} processors"
     print(f"as the world changes ({wants()}):")
-    measured(served, window, pages, others, seconds)
+    measured(served, window, pages, others, seconds, windows)
     if pages:
         for page in pages:
-            page.value("room.three.always = room.three.dirty = true")
-        print(f"each frame drawn anew ({wants()}):")
-        measured(served, window, pages, others, seconds)
+            page.value("room.stage.always = room.drawn.dirty = true")
+        print(f"each frame drawn ({wants()}):")
+        measured(served, window, pages, others, seconds, windows)
 
 
 def main():
     if sys.argv[1:2] == ["--clients"]:
-        return clients(int(sys.argv[2]), int(sys.argv[3]))
+        return clients(sys.argv[2], int(sys.argv[3]))
     flags = [word for word in sys.argv[1:] if word.startswith("--")]
     given = [int(word) for word in sys.argv[1:] if word not in flags]
-    seconds, shown = [*given, *[20, 1][len(given) :]]
+    seconds, shown, windows = [*given, *[20, 1, 16][len(given) :]]
     with contextlib.ExitStack() as ends:
         file = ends.enter_context(tempfile.NamedTemporaryFile("w", suffix=".x3dv"))
         file.write(scene())
@@ -208,11 +201,11 @@ def main():
             window = browser.Browser((1280, 720), flags)
             ends.enter_context(contextlib.closing(window))
             pages = [window.open(served.address) for _ in range(shown)]
-        count = str(WINDOWS - len(pages))
-        words = [sys.executable, __file__, "--clients", str(served.port), count]
+        count = str(windows - len(pages))
+        words = [sys.executable, __file__, "--clients", served.address, count]
         others = ends.enter_context(subprocess.Popen(words, stdout=subprocess.PIPE, text=True))
         ends.callback(others.terminate)
-        measure(served, window, pages, others, seconds)
+        measure(served, window, pages, others, seconds, windows)
 
 
 if __name__ == "__main__":

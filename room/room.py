@@ -1,120 +1,70 @@
 """A room: the host of a shared world, and a viewer for each window. Both are the library's, by
 bindings/python; what stands here carries their datagrams, ticks the clock, and saves viewers."""
 import functools
-import hashlib
 import itertools
-import sys
-from pathlib import Path
-from typing import NamedTuple
+import time
 
-TOP = Path(__file__).resolve().parent.parent
-sys.path[:0] = [str(TOP / "bindings/python"), str(TOP / "scripts")]
-import x3d
 from channel import Channel
-from scene import scene_of
-from wire import PIECE, read_input
+from library import wire, x3d
+from scene import Names
+from seat import Joining, Seat
 
-VIEWERS = 16
-# Viewers are saved, and their worlds compared, every so many turns: as many more for so many bytes.
+VIEWERS = 64
+# Viewers are saved, and their worlds compared, every CHECK turns: as many more for each GROWTH bytes.
 CHECK, GROWTH = 90, 1 << 18
 # How many inputs the host keeps below those that a late window lacks.
 KEPT = 600
-# How many offers a viewer sends in a turn, and pieces, unless all would then take so many turns.
+# How many offers a viewer sends in a turn, and pieces, unless all would then take ROUND turns.
 OFFERS, PIECES, ROUND = 8, 64, 30
 # How often a viewer asks in a turn, at most, as long as what comes shows that something was lost.
 ASKS = 4
-# Of how many numbers a viewer's digests are remembered.
-DIGESTS = 64
 # What was just read or written for one viewer comes at once for the next.
 RECENT = 1024
-# The boot in a snapshot and its seal (crates/snapshot_codec/README.md) are no part of a world.
-BOOT, SEAL = slice(37, 41), 32
-
-
-def digest_of(snapshot):
-    """The digest of the world that a snapshot is of, whoever took it."""
-    world = snapshot[: BOOT.start] + snapshot[BOOT.stop : -SEAL]
-    return hashlib.sha256(world).hexdigest()[:16]
-
-
-class Joining(NamedTuple):
-    """How a viewer joins: the number of a snapshot, its pieces round and round, how many a turn."""
-
-    number: int
-    pieces: itertools.cycle
-    batch: int
-
-
-class Seat:
-    """The place of a window. It stays while its viewer is killed and starts again."""
-
-    def __init__(self, who):
-        self.who, self.viewer, self.saved, self.marked = who, None, None, 0
-        self.begin()
-
-    def begin(self):
-        """The viewer has another world: `told`, which number the window was told of, is none."""
-        self.digests, self.points, self.joins, self.told = {}, [], None, None
-        # Whether an input came in this turn before one that is lacking.
-        self.lacks = False
-
-    def mark(self):
-        """Saves the viewer where it stands, and notes its digest; the number and the snapshot."""
-        self.marked, self.saved = self.viewer.applied(), self.viewer.snapshot()
-        self.digests[self.marked] = digest_of(self.saved)
-        if len(self.digests) > DIGESTS:
-            del self.digests[min(self.digests)]
-        return self.marked, self.saved
-
-    def news(self):
-        """What the window has to be told, with its kind: what the last inputs changed, or all."""
-        number = self.viewer.applied()
-        if number == self.told:
-            return None
-        first, self.told = self.told, number
-        here = [each for each in self.points if each.number <= number]
-        self.points = [each for each in self.points if each.number > number]
-        points = {each.point.who: each.point for each in sorted(here)}
-        told = {"n": number, "points": [*points.values()]}
-        if first is None:
-            return "scene", {**told, **scene_of(self.viewer)}
-        return "news", {**told, "trace": self.viewer.trace(first + 1)}
-
-    def status(self):
-        """What windows show of the viewer."""
-        if not self.viewer:
-            return {"who": self.who, "runs": False}
-        about = {"n": self.viewer.applied(), "waiting": self.viewer.waiting()}
-        digest = self.digests.get(self.marked, "")
-        return {"who": self.who, "runs": True, "at": self.marked, "digest": digest, **about}
 
 
 class Room:
     """All of it, in turns. A scene that is refused raises x3d.Refusal."""
 
     def __init__(self, text):
-        self.text, self.channel, self.full = text, Channel(), False
-        self.seats, self.boots = {}, itertools.count(1)
+        self.text = text = text.encode() if isinstance(text, str) else text
+        self.channel, self.full = Channel(), False
+        # Boots go on above those of the last time that this world was run.
+        self.seats, self.boots = {}, itertools.count(int(time.time()))
         # The numbers at which viewers are saved, and the turns until the next.
         self.marks, self.rest = [], CHECK
         with x3d.Viewer(text, 0, next(self.boots)) as first:
-            self.newest = 0, first.snapshot()
+            self.newest, self.names = (0, first.snapshot()), Names(first)
         self.host = x3d.Host(text, VIEWERS)
         self.packet = functools.lru_cache(RECENT)(self.host.packet)
-        self.read = functools.lru_cache(RECENT)(read_input)
+        self.read = functools.lru_cache(RECENT)(wire.read_input)
+
+    def resume(self, inputs, newest):
+        """Has the host number inputs of an earlier run again. `newest` is a number, and the snapshot there."""
+        mark, offered = wire.mark_of(self.text), [0] * VIEWERS
+        for each in inputs:
+            if each.point:
+                offered[each.point.who] += 1
+                self.host.take(wire.offer(mark, 1, offered[each.point.who], each.point))
+            else:
+                self.host.clock(each.time)
+        self.newest = newest
+        self.host.drop_below(max(1, newest[0] + 1 - KEPT))
 
     def join(self):
-        """The seat of a new window, with a viewer that runs; none where the room is full."""
-        free = [who for who in range(VIEWERS) if who not in self.seats]
-        if not free:
-            return None
-        self.seats[free[0]] = Seat(free[0])
+        """The number of a new window's seat, with a viewer that runs; none where the room is full."""
+        free = next((who for who in range(VIEWERS) if who not in self.seats), None)
+        if free is not None:
+            self.take_seat(free)
+        return free
+
+    def take_seat(self, who):
+        """Takes a seat that is free, with a viewer that runs."""
+        self.seats[who] = Seat(who, self.names)
         try:
-            self.start(free[0])
+            self.start(who)
         except (x3d.Fault, MemoryError):
-            self.leave(free[0])
+            self.leave(who)
             raise
-        return free[0]
 
     def start(self, who):
         """Starts a viewer: in its snapshot, if one was saved, or else at the beginning."""
@@ -141,7 +91,7 @@ class Room:
         return [seat for seat in self.seats.values() if seat.viewer]
 
     def mark(self, seat):
-        """Saves a viewer. The host lets go of inputs that no one lacks who joins."""
+        """Saves a viewer. The host drops inputs that no one lacks who joins."""
         self.newest = max(self.newest, seat.mark(), key=lambda saved: saved[0])
         joining = [each.joins.number for each in self.running() if each.joins]
         floor = min([self.newest[0], *joining]) + 1 - KEPT
@@ -195,7 +145,7 @@ class Room:
                 self.kill(who)
 
     def to_host(self, seat, datagram):
-        """The host answers, with no input behind the next mark: so each viewer comes to it."""
+        """The host answers, with no input after the next mark: so each viewer stops there."""
         kind, first, count = self.host.take(datagram)
         if kind == "Asked":
             stop = next((mark + 1 for mark in self.marks if mark >= first), first + count)
@@ -206,7 +156,7 @@ class Room:
             self.channel.send(seat.who, False, packet)
 
     def to_viewer(self, seat, datagram):
-        if datagram[5] == PIECE:
+        if datagram[5] == wire.PIECE:
             return self.gather(seat, datagram)
         taken = seat.viewer.take(datagram)
         seat.lacks = seat.lacks or taken.kind == "Kept"

@@ -1,0 +1,152 @@
+"""Everything that happened in a run of a room: its inputs, its world as they make it, and who pressed what."""
+import re
+import time
+from array import array
+from typing import NamedTuple
+
+from library import wire, x3d
+from scene import LINE, Names
+from seat import latest
+
+# What an array holds of an input: its time, 2 * viewer + button or -1 for a clock, and its ray.
+WIDTH = 8
+# A snapshot is kept every 600 inputs; of too many every second goes.
+EVERY, SNAPSHOTS = 600, 32
+# A record's own snapshots are of this boot: whoever begins in one has a later boot.
+BOOT = 1
+LOGGED = 2000
+UNNAMED = re.compile(r"N\d+")
+SENSORS = {"TouchSensor": {"TRUE": "pressed"}, "PlaneSensor": {"TRUE": "took", "FALSE": "put down"}}
+
+
+class Inputs:
+    """The inputs of a run, which are numbered from 1 on."""
+
+    def __init__(self):
+        self.numbers = array("q")
+
+    def __len__(self):
+        return len(self.numbers) // WIDTH
+
+    def add(self, time, point=None):
+        aim = (2 * point.who + point.down, *point.ray) if point else (-1, *[0] * 6)
+        self.numbers.extend((time, *aim))
+
+    def time(self, number):
+        return self.numbers[WIDTH * (number - 1)]
+
+    def at(self, number):
+        start = WIDTH * (number - 1)
+        when, about, *ray = self.numbers[start : start + WIDTH]
+        point = wire.Point(about >> 1, about & 1, tuple(ray)) if about >= 0 else None
+        return wire.Input(number, when, point)
+
+    def lines(self, first):
+        """Inputs from a number on as lines of a job."""
+        return "".join(f"{self.at(number).line()}\n" for number in range(first, len(self) + 1))
+
+
+def apply(world, each):
+    """Applies an input to a world."""
+    if each.point:
+        aim = x3d.Aim(each.point.ray[:3], each.point.ray[3:])
+        world.point(each.number, each.time, each.point.who, bool(each.point.down), aim)
+    else:
+        world.clock(each.number, each.time)
+
+
+class Entry(NamedTuple):
+    """Something that was done: at which input, when by the clock, by which viewer, under which name."""
+
+    n: int
+    at: float
+    who: int
+    name: str
+    color: str
+    text: str
+
+
+class Record:
+    """The inputs of a run as they come, and the world that they make."""
+
+    def __init__(self, text, inputs=None, log=(), saved=None):
+        """Of an earlier run its inputs, its log, and a number with the snapshot there."""
+        self.text, self.world = text, x3d.World(text)
+        self.names, self.inputs, self.log = Names(self.world), inputs or Inputs(), [*log]
+        self.snapshots, self.every = {0: self.world.snapshot(BOOT)}, EVERY
+        if saved:
+            self.world.load(BOOT + 1, saved[1])
+            self.snapshots[saved[0]] = saved[1]
+        # How much was ever logged, of which the log has the last.
+        self.points, self.said = [], len(self.log)
+        for number in range(self.world.applied() + 1, len(self.inputs) + 1):
+            apply(self.world, self.inputs.at(number))
+            if number >= max(self.snapshots) + self.every:
+                self.save()
+
+    def follow(self, host, read, people):
+        """Takes what the host has numbered since. `people` has the name and the color of a viewer."""
+        first = len(self.inputs) + 1
+        for number in range(first, len(host) + 1):
+            each = read(host.packet(number))
+            self.inputs.add(each.time, each.point)
+            apply(self.world, each)
+            if each.point:
+                self.points.append(each)
+        self.note(first, people)
+        if len(self.inputs) >= max(self.snapshots) + self.every:
+            self.save()
+
+    def save(self):
+        """Keeps a snapshot; the number and the snapshot."""
+        number = self.world.applied()
+        self.snapshots[number] = self.world.snapshot(BOOT)
+        if len(self.snapshots) > SNAPSHOTS:
+            self.every *= 2
+            for late in sorted(self.snapshots)[1:-1:2]:
+                del self.snapshots[late]
+        return number, self.snapshots[number]
+
+    def note(self, first, people):
+        """Logs who pressed what."""
+        if len(self.inputs) < first:
+            return
+        for number, label, name, value in LINE.findall(self.world.trace(first)):
+            done = name == "isActive" and self.done_to(label, value)
+            point = done and self.inputs.at(int(number)).point
+            if point:
+                self.say(point.who, *people(point.who), done, int(number))
+
+    def done_to(self, label, value):
+        """What is said of a sensor that is pressed, or that is no longer."""
+        node = self.names.nodes.get(label)
+        verb = node is not None and SENSORS.get(self.names.kinds[node], {}).get(value)
+        if not verb:
+            return None
+        given = self.names.text(self.world, node, "description")
+        # What has neither a description nor a name of its own isn't spoken of.
+        return None if not given and UNNAMED.fullmatch(label) else f"{verb} {given or label}"
+
+    def say(self, who, name, color, text, number=None):
+        """Logs what was done; of too much the oldest goes."""
+        self.log.append(Entry(number or len(self.inputs), time.time(), who, name, color, text))
+        self.said += 1
+        del self.log[:-LOGGED]
+
+    def news(self, told):
+        """What a window without a seat has to be told of this world, with its kind."""
+        number = self.world.applied()
+        if number == told:
+            return None
+        about = {"n": number, "points": latest(each for each in self.points if each.number > (told or 0))}
+        if told is None:
+            return "scene", {**about, **self.names.scene(self.world)}
+        return "news", {**about, **self.names.news(self.world, told + 1)}
+
+    def forget_points(self):
+        """All windows were told."""
+        self.points = []
+
+    def job(self):
+        """The run as a job."""
+        return self.inputs.lines(1).encode() + b"scene\n" + self.text

@@ -1,0 +1,287 @@
+"""A room as it is served: its world, its windows, its record, and the file that it is made of."""
+import asyncio
+import functools
+import itertools
+import json
+import sys
+import time
+from pathlib import Path
+
+from channel import Channel
+from explain import Unshown, read_scene_file
+from people import COLORS, Window, clean, same
+from player import Player
+from record import Record
+from room import VIEWERS, Room
+from store import Store
+from viewpoints import orientations_of
+
+RATE, WAITING = 30, 300
+# Turns between what is told of viewers, looks at the scene's file, and writes to the disk.
+STATUS, LOOK, WRITE, SAVE = 6, 15, 30, 1800
+# Seconds that a seat is kept for a window whose connection broke.
+AWAY = 20
+SPECTATORS = 64
+# How a connection ends whose window has come in by another one.
+ELSEWHERE = 4000
+# How much of the log a window is sent when it comes in.
+SHOWN = 200
+
+# Without blanks, since each event goes to each window.
+ENCODED = json.JSONEncoder(separators=(",", ":")).encode
+# The trace of an input is one text for all viewers, and is encoded once for all that tell it alike.
+ENCODED_TEXT = functools.lru_cache(256)(ENCODED)
+
+
+class Wrong(Exception):
+    """A request that is refused: its status, and why."""
+
+    def __init__(self, status, why):
+        super().__init__(why)
+        self.status, self.why = status, why
+
+
+def message(kind, data):
+    """What a window is sent."""
+    if "trace" not in data:
+        return ENCODED({"kind": kind, **data})
+    rest = {name: part for name, part in data.items() if name != "trace"}
+    return f'{{"kind":"{kind}","trace":{ENCODED_TEXT(data["trace"])},{ENCODED(rest)[1:]}'
+
+
+class Service:
+    """A room by its name. All of it runs in one thread, that of the server's loop."""
+
+    def __init__(self, name, file, limits, folder=None):
+        self.open_windows(name, file, limits)
+        self.store = Store(Path(folder, name)) if folder else None
+        text, self.seen = read_scene_file(self.file), self.stamp()
+        self.open(text, self.store and self.store.load(text))
+
+    def open_windows(self, name, file, limits):
+        """A room without windows, and without a world so far."""
+        self.name, self.file, self.limits = name, Path(file), limits
+        self.windows, self.ids, self.fault, self.runs = {}, itertools.count(1), None, 1
+
+    def open(self, text, kept=None):
+        """Opens the world of a scene, as it was kept or before any input."""
+        record = Record(text, *(kept or ()))
+        room = Room(text)
+        if len(record.inputs):
+            room.resume((record.inputs.at(n) for n in range(1, len(record.inputs) + 1)), record.save())
+        self.room, self.record, self.orientations = room, record, orientations_of(text.decode())
+        self.log_told = record.said
+        if self.store:
+            self.store.begin(record)
+
+    # The clock.
+
+    async def run(self):
+        """The clock begins at the time of day, as X3D counts it, and never back. Where a turn fails the
+        server ends, so that windows say that it is gone."""
+        begun = max(time.time(), self.last() / 1e6 + 1) - time.monotonic()
+        due, turn = time.monotonic(), 0
+        while True:
+            self.turn(int((begun + time.monotonic()) * 1e6), turn)
+            due, turn = max(due + 1 / RATE, time.monotonic()), turn + 1
+            await asyncio.sleep(max(0.002, due - time.monotonic()))
+
+    def last(self):
+        return self.record.inputs.time(len(self.record.inputs)) if len(self.record.inputs) else 0
+
+    def turn(self, now, turn):
+        """One turn of the room, and what windows are to be told."""
+        self.room.turn(now)
+        self.record.follow(self.room.host, self.room.read, self.person)
+        told = self.tell_log()
+        for window in [*self.windows.values()]:
+            if window.gone is not None:
+                if time.monotonic() - window.gone > AWAY:
+                    self.dismiss(window)
+            elif news := self.news(window):
+                self.tell(window, *news)
+        self.record.forget_points()
+        if turn % STATUS == 0:
+            self.tell_all("status", {**self.room.status(), "channel": self.channel(), "run": self.runs})
+        if turn % LOOK == 0:
+            self.look()
+        if self.store and (turn % WRITE == 0 or told):
+            self.store.append(self.record)
+        if self.store and turn % SAVE == SAVE - 1 and self.windows:
+            self.store.save(self.record)
+
+    def news(self, window):
+        """What a window has to be told of the world that it shows."""
+        if window.player:
+            news = window.player.turn(1_000_000 // RATE)
+            if news:
+                self.tell(window, *news)
+                self.tell(window, "replay", window.player.status())
+            return None
+        if window.who is not None:
+            return self.room.news(window.who)
+        news = self.record.news(window.told)
+        window.told = self.record.world.applied()
+        return news
+
+    def look(self):
+        """Looks whether the scene's file is another one."""
+        stamp = self.stamp()
+        if stamp == self.seen:
+            return
+        self.seen = stamp
+        try:
+            text = read_scene_file(self.file)
+        except Unshown as unshown:
+            self.fault = unshown.told()
+            print(f"room {self.name}: {unshown}", file=sys.stderr, flush=True)
+        else:
+            self.fault = None
+            if text != self.room.text:
+                self.restart(text, f"{self.file.name} was changed: run {self.runs + 1}")
+        self.tell_all("fault", {"fault": self.fault})
+
+    def stamp(self):
+        try:
+            about = self.file.stat()
+            return about.st_mtime_ns, about.st_size, about.st_ino
+        except OSError:
+            return None
+
+    def restart(self, text, why):
+        """A new run, with the windows that there are in the seats that they have."""
+        channel, who = self.channel(), sorted(each.who for each in self.windows.values() if each.who is not None)
+        self.open(text)
+        self.runs += 1
+        self.room.channel = Channel(channel["loss"], channel["repeat"], channel["reorder"])
+        for each in who:
+            self.room.take_seat(each)
+        for window in self.windows.values():
+            window.told = None
+            self.end_replay(window)
+            self.tell(window, "run", {"run": self.runs, "why": why, "orientations": self.orientations})
+        self.record.say(-1, "", "", why)
+
+    # Windows.
+
+    def tell(self, window, kind, data):
+        """Puts an event for a window; a window that doesn't read is cut off."""
+        self.send(window, message(kind, data))
+
+    def tell_all(self, kind, data):
+        told = message(kind, data)
+        for window in self.windows.values():
+            self.send(window, told)
+
+    def send(self, window, told):
+        if window.gone is None and not window.outbox.put(told):
+            window.gone = time.monotonic()
+
+    def tell_people(self):
+        self.tell_all("people", {"people": [each.person() for each in self.windows.values()]})
+
+    def tell_log(self):
+        """What was logged since the last turn goes to all windows; whether there was any."""
+        new = self.record.said - self.log_told
+        self.log_told = self.record.said
+        if new > 0:
+            self.tell_all("log", {"log": [each._asdict() for each in self.record.log[-new:]]})
+        return new > 0
+
+    def person(self, who):
+        """The name and the color of a viewer."""
+        for window in self.windows.values():
+            if window.who == who:
+                return window.name, window.color
+        return f"Viewer {who}", COLORS[who % len(COLORS)]
+
+    def channel(self):
+        channel = self.room.channel
+        return {"loss": channel.loss, "repeat": channel.repeat, "reorder": channel.reorder}
+
+    def window_of(self, token):
+        """The window of a token, if it is one."""
+        return next((each for each in self.windows.values() if same(token, each.token)), None)
+
+    def enter(self, address, outbox, body):
+        """The window of who comes in: the one that it had, or a new one with a seat, or one that only watches."""
+        window = self.window_of(body.get("token"))
+        if window:
+            window.outbox.close(ELSEWHERE)
+            window.outbox, window.gone, window.told = outbox, None, None
+            if window.who is not None:
+                self.room.seats[window.who].told = None
+            return window
+        here = [each for each in self.windows.values() if each.address == address]
+        if len(here) >= 2 * self.limits.each or len(self.windows) >= VIEWERS + SPECTATORS:
+            raise Wrong(409, "the room is full")
+        window = self.newcomer(address, outbox, body)
+        seated = sum(each.who is not None for each in here)
+        if seated < self.limits.each and not body.get("watch"):
+            window.who = self.room.join()
+        self.windows[window.token] = window
+        return window
+
+    def newcomer(self, address, outbox, body):
+        """A window with its person."""
+        window = Window(address, outbox)
+        window.id = next(self.ids)
+        window.name, window.color = clean(body.get("name")) or f"Guest {window.id}", self.color(body.get("color"))
+        window.trainer = same(body.get("trainer"), self.limits.trainer)
+        return window
+
+    def color(self, wished):
+        """The color that is wished for, or one that is rare here."""
+        if wished in COLORS:
+            return wished
+        taken = [each.color for each in self.windows.values()]
+        return min(COLORS, key=taken.count)
+
+    def welcome(self, window):
+        """What a window is sent first."""
+        window.told = None
+        self.tell(window, "you", {
+            "id": window.id, "who": window.who, "token": window.token, "name": window.name, "color": window.color,
+            "trainer": window.trainer, "room": self.name, "colors": COLORS, "run": self.runs,
+            "orientations": self.orientations, "file": self.file.name,
+        })
+        self.tell(window, "fault", {"fault": self.fault})
+        self.tell(window, "log", {"log": [each._asdict() for each in self.record.log[-SHOWN:]], "whole": True})
+        self.tell_people()
+
+    def away(self, window, outbox, left):
+        """A window's connection is over. Its seat is kept for a while, if it didn't say that it leaves."""
+        if window.outbox is not outbox or window.token not in self.windows:
+            return
+        window.gone = time.monotonic()
+        if left:
+            self.dismiss(window)
+        self.tell_people()
+
+    def dismiss(self, window):
+        """Frees the seat of a window."""
+        del self.windows[window.token]
+        self.end_replay(window)
+        if window.who is not None:
+            self.room.leave(window.who)
+        self.tell_people()
+
+    # Replay.
+
+    def begin_replay(self, window):
+        self.end_replay(window)
+        window.player = Player(self.record)
+
+    def end_replay(self, window):
+        """The window shows the room as it is now."""
+        if window.player:
+            window.player.close()
+            window.player, window.told = None, None
+            if window.who is not None:
+                self.room.seats[window.who].told = None
+
+    def close(self):
+        """Keeps the run as it is."""
+        if self.store and len(self.record.inputs):
+            self.store.save(self.record)
+            self.store.close()

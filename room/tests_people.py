@@ -1,0 +1,64 @@
+"""Tests of windows of a browser: people, replay, and what is said of a faulty scene."""
+from served import BUTTON, LATER, Windows, scene, scene_file, spot
+
+
+def test_people_have_names_and_pointers():
+    with Windows(3) as windows:
+        ana, ben, chloe = windows.pages
+        chips = "[...document.querySelectorAll('.chip > span:nth-child(2)')].map((each) => each.textContent).join()"
+        ben.wait(f"{chips} === 'Ben (you),Ana,Chloe'")
+        ana.mouse("mouseMoved", spot(ana, [1.4, 1.05, 0.1]))
+        tag = "[...document.querySelectorAll('.tag')].find((each) => each.textContent === 'Ana' && !each.hidden)"
+        ben.wait(tag, LATER)
+        # The tip of its arrow is where she points, and the name beside it.
+        x, y = spot(ben, [1.4, 1.05, 0.1])
+        box = ben.value(f"(({{left, top}}) => [left, top])({tag}.lastChild.getBoundingClientRect())")
+        assert 5 < box[0] - x < 40 and 5 < box[1] - y < 40, (box, x, y)
+        ana.click(spot(ana, BUTTON))
+        said = "document.getElementById('said')"
+        ben.wait(f"!{said}.hidden && {said}.textContent === `Ana pressed the door's button`", LATER)
+        chloe.value("document.getElementById('hand').click()")
+        ben.wait("document.querySelectorAll('.chip .hand').length === 1", LATER)
+        ben.value("document.getElementById('your-name').value = 'Benno'; document.getElementById('naming').requestSubmit()")
+        chloe.wait(f"{chips} === 'Chloe (you),Ana,Benno'", LATER)
+        ben.value("document.getElementById('share').click()")
+        ben.wait("document.getElementById('code').naturalWidth > 0 || document.getElementById('code').hidden", LATER)
+        assert ben.value("document.getElementById('link').value") == windows.served.address
+
+
+def test_the_trainer_replays_and_begins_again():
+    with Windows() as windows:
+        trainer, one = windows.pages
+        trainer.click(spot(trainer, BUTTON))
+        one.wait("room.placeOf('Door')[0] > 1", LATER)
+        trainer.value("document.getElementById('past').click()")
+        trainer.wait("room.state.replay && room.state.replay.n === 0 && !document.getElementById('replay').hidden", LATER)
+        assert trainer.value("room.placeOf('Door')[0]") < 0.01 and not one.value("room.state.replay")
+        trainer.wait("document.querySelectorAll('#marks i').length === 1", LATER)
+        trainer.value("document.getElementById('speed').value = 16; document.getElementById('play').click()")
+        trainer.wait("room.placeOf('Door')[0] > 0.5", LATER)
+        trainer.value("const bar = document.getElementById('time'); bar.value = 3; bar.dispatchEvent(new Event('input'))")
+        trainer.wait("room.state.replay.n === 3 && room.placeOf('Door')[0] < 0.01", LATER)
+        trainer.value("document.getElementById('now').click()")
+        trainer.wait("!room.state.replay && room.state.n > 30", LATER)
+        trainer.value("document.getElementById('reset').click()")
+        for page in windows.pages:
+            page.wait("room.state.status.run === 2 && room.state.status.numbered < 300", LATER)
+            page.wait("room.state.n && !room.value('Motor', 'startTime')", LATER)
+        one.click(spot(one, BUTTON))
+        trainer.wait("room.placeOf('Door')[0] > 0.01", LATER)
+
+
+def test_a_faulty_scene_is_shown_over_the_picture():
+    with scene_file(scene()) as file, Windows(2, file) as windows:
+        file.write_text(scene().replace("DEF Lamp PointLight", "DEF Lamp Teapot"))
+        line = 1 + scene()[: scene().index("DEF Lamp PointLight")].count("\n")
+        for page in windows.pages:
+            page.wait("!document.getElementById('fault').hidden", LATER)
+            told = page.value("document.getElementById('fault').innerText")
+            assert f"scene.x3dv:{line}" in told and 'node type "Teapot" isn\'t read' in told, told
+        windows.shoot("fault")
+        file.write_text(scene().replace("0.2 0.45 0.7", "0.9 0.1 0.1"))
+        for page in windows.pages:
+            page.wait("document.getElementById('fault').hidden && room.state.run === 2", LATER)
+            page.wait("room.state.nodes.some((node) => String(node.fields.diffuseColor) === '0.9,0.1,0.1')", LATER)

@@ -1,0 +1,309 @@
+"""Tests of the server: what it refuses, how long it waits, how much one address may take, who may do what."""
+import contextlib
+import json
+import os
+import random
+import socket
+import sys
+import time
+
+import browser
+from guard import PATIENCE
+from served import AT_BUTTON, PANEL, TRAINER, Client, Served, scene, scene_file
+
+HOSTILE = int(os.environ.get("HOSTILE", "500" if "--quick" in sys.argv else "10000"))
+POINT = {"down": True, "aim": AT_BUTTON}
+
+
+def refused_socket(served, *lines):
+    """How the server refuses a WebSocket with these lines in its head."""
+    try:
+        browser.Socket(f"ws://127.0.0.1:{served.port}/door/socket", lines).close()
+        return "taken"
+    except ConnectionError as refused:
+        return str(refused)
+
+
+def test_what_isnt_its_own_is_refused():
+    with Served() as served:
+        get = served.get
+        assert get("/") == 302 and get("/door") == 302
+        assert get("/door/") == get("/static/main.js") == get("/static/three.js") == get("/static/page.css") == 200
+        assert get("/../server.py") == get("/server.py/") == get("/%2e%2e/etc/passwd") == get("/static/rooms.html") == 404
+        assert get("/static/..%2fserver.py") == get("/panel/") == get("/door/sockets") == 404
+        assert served.ask("POST", "/door/", "{}")[0] == served.ask("DELETE", "/")[0] == 405
+        assert get("/door/socket") == 426 and get("/door/job") == 403
+        assert get("/", Host="evil.example") == get("/", Host="") == get("/", Host="a b") == 403
+        for host in ("localhost", f"127.0.0.1:{served.port}", "[::1]:80", "192.168.1.7", socket.gethostname()):
+            assert get("/door/", Host=host) == 200, host
+        # It listens at no other address, though this is the machine's own too.
+        with socket.socket() as link:
+            assert link.connect_ex(("127.0.0.2", served.port))
+
+
+def test_a_page_of_another_origin_has_no_window():
+    with Served() as served:
+        host = f"127.0.0.1:{served.port}"
+        assert refused_socket(served, f"Origin: http://{host}") == "taken"
+        for origin in ("http://evil.example", "null", f"http://127.0.0.1:{served.port + 1}", f"http://{host}.evil.example"):
+            assert "403" in refused_socket(served, f"Origin: {origin}"), origin
+
+
+def test_commands_that_have_no_sense_are_refused():
+    with Served() as served:
+        client, trainer = served.client(name="Ana"), served.client(name="Tina", trainer=TRAINER)
+        assert client.status("point", **POINT) == 200
+        for aim in ([], [0] * 6, [1.5] * 6, [10**16] * 6, [True] * 6, "aim", [0, 0, 0, 0, 0, None]):
+            assert client.status("point", **{**POINT, "aim": aim}) == 400, aim
+        assert client.status("point", **{**POINT, "down": 1}) == 400
+        for command in ("enter", "points", "", None, 7, ["point"], "__class__"):
+            assert client.status(command) == 404, command
+        assert client.status("hand", up=1) == 400 and client.status("hand", up=True) == 200
+        # Names are shown to all: what isn't printed goes, and so does what is too long.
+        time.sleep(1)
+        assert client.ask("name", name="A\u202e\n" + "b" * 40)["name"] == "A" + "b" * 23
+        assert client.ask("name", name="\0")["name"] == "A" + "b" * 23
+        for shares in ({}, {"loss": 2}, {"loss": "1"}, {"loss": True}, {"loss": 0.1, "repeat": -1}, {"delay": 0.1}):
+            assert trainer.status("channel", **shares) == 400, shares
+        assert trainer.ask("channel", reorder=0.3)["channel"] == {"loss": 0, "repeat": 0, "reorder": 0.3}
+        assert trainer.status("kill", who=63) == trainer.status("kill", who="0") == trainer.status("start", who=9) == 400
+        assert trainer.status("replay", n=-1) == trainer.status("replay", n=0, speed=3) == 400
+
+
+def test_what_is_the_trainers_is_refused_to_others():
+    with Served() as served:
+        client = served.client(name="Ana", trainer="a guess")
+        assert not client.seat["trainer"]
+        for command, body in (("channel", {"loss": 0.1}), ("kill", {"who": 0}), ("reset", {}), ("replay", {"n": 0}), ("start", {"who": 1})):
+            assert client.status(command, **body) == 403, command
+        trainer = served.client(trainer=TRAINER)
+        assert trainer.seat["trainer"] and trainer.status("kill", who=0) == 200
+        assert client.status("point", **POINT) == 409 and client.status("start") == 200
+        assert client.status("start") == 409 and client.status("point", **POINT) == 200
+
+
+def test_seats_have_limits_and_more_windows_watch():
+    with Served(more=("--each", "3")) as served:
+        clients = [served.client() for _ in range(6)]
+        assert [each.seat["who"] for each in clients] == [0, 1, 2, None, None, None]
+        assert clients[3].until("scene")["roots"] and clients[3].status("point", **POINT) == 409
+        assert served.client().seat["kind"] == "refused"
+        # Whoever leaves frees the seat, and a token gives it back to its own window alone.
+        clients[0].close()
+        time.sleep(0.3)
+        assert served.client(token=clients[1].seat["token"]).seat["who"] == 1
+        assert served.client(token=clients[0].seat["token"]).seat["who"] == 0
+
+
+def test_a_room_has_64_seats():
+    with Served(more=("--each", "80")) as served:
+        clients = [served.client() for _ in range(66)]
+        assert [each.seat["who"] for each in clients] == [*range(64), None, None]
+
+
+def test_a_seat_is_kept_for_a_window_whose_connection_broke():
+    with Served() as served:
+        client = served.client(name="Ana")
+        client.socket.close()
+        time.sleep(0.5)
+        again = served.client(token=client.seat["token"])
+        assert (again.seat["who"], again.seat["name"]) == (0, "Ana") and again.until("scene")["n"] > 5
+        assert again.status("point", **POINT) == 200
+
+
+def test_a_password_is_asked_for():
+    with Served(more=("--password", "open sesame")) as served:
+        told = lambda **given: (lambda seat: (seat["kind"], seat.get("status")))(served.client(**given).seat)
+        assert told() == ("refused", 401) and told(password="open sesame") == ("you", None)
+        assert {told(password=f"guess {k}") for k in range(10)} == {("refused", 401)}
+        assert told(password="open sesame") == ("refused", 429)
+
+
+def test_offers_and_commands_have_a_pace():
+    with Served() as served:
+        client = served.client()
+        answers = [client.status("point", **POINT) for _ in range(300)]
+        assert set(answers) == {200, 429} and answers.count(200) < 150, answers.count(200)
+        assert {client.status("hand", up=False) for _ in range(60)} == {200, 429}
+
+
+def test_rooms_have_names_and_worlds_of_their_own():
+    with Served(more=("--each", "64", str(PANEL))) as served:
+        status, index = served.ask("GET", "/")
+        # Rooms stand in the order of the words.
+        assert status == 200 and index.index(b'href="panel/"') < index.index(b'href="door/"')
+        served.room = "door"
+        door, panel = served.client(), None
+        served.room = "panel"
+        panel = served.client()
+        assert (door.seat["who"], panel.seat["who"]) == (0, 0)
+        labels = [{node["label"] for node in each.until("scene")["nodes"]} for each in (door, panel)]
+        assert "Door" in labels[0] and "Door" not in labels[1], labels
+
+
+def test_it_is_reached_by_the_machines_name_and_by_ipv6():
+    with Served(more=("--address", "0.0.0.0", "--name", "room.example")) as served:
+        assert served.address.startswith(f"http://room.example:{served.port}/")
+        assert served.get("/door/", Host="room.example") == served.get("/door/", Host=socket.gethostname()) == 200
+        assert served.get("/door/", Host="other.example") == 403
+    with Served(more=("--address", "::1")) as served:
+        assert served.address == f"http://[::1]:{served.port}/door/", served.address
+        with socket.create_connection(("::1", served.port), timeout=20) as link:
+            link.sendall(b"GET /door/ HTTP/1.1\r\nHost: [::1]\r\n\r\n")
+            assert link.recv(100).startswith(b"HTTP/1.1 200 ")
+
+
+def test_a_proxy_says_where_a_client_is():
+    with Served(more=("--proxy", "--each", "1")) as served:
+        ones = [Client(served, [f"X-Forwarded-For: 10.0.0.{k}"]).seat["who"] for k in (1, 2, 2)]
+        assert ones == [0, 1, None], ones
+
+
+def test_slow_and_greedy_connections_shut_nothing():
+    """One address opens what it may and sends a byte a second; windows come in meanwhile from another one."""
+    with Served(more=("--each", "2", "--address", "0.0.0.0")) as served, contextlib.ExitStack() as ends:
+        slow = []
+        for _ in range(120):
+            link = ends.enter_context(socket.socket())
+            link.bind(("127.0.0.9", 0))
+            link.settimeout(60)
+            link.connect(("127.0.0.1", served.port))
+            with contextlib.suppress(OSError):
+                link.sendall(b"GET /door/ HTTP/1.1\r\nHost: localhost\r\nX-Slow: ")
+            slow.append(link)
+        begun = time.monotonic()
+        served.address = f"http://127.0.0.1:{served.port}/door/"
+        assert served.client().seat["who"] == 0 and time.monotonic() - begun < 5 * browser.busy()
+        gone = 0
+        while gone < len(slow) and time.monotonic() - begun < 40:
+            gone = sum(not drips(link) for link in slow)
+            time.sleep(1)
+        took = time.monotonic() - begun
+        print(f"120 slow connections are gone after {took:.0f} s", end=", ")
+        assert gone == len(slow) and PATIENCE - 2 < took < (PATIENCE + 10) * browser.busy(), (gone, took)
+
+
+def drips(link):
+    """Sends a byte of a request that never ends; whether the connection stands."""
+    try:
+        link.sendall(b"G")
+        return True
+    except OSError:
+        return False
+
+
+def test_a_window_that_never_comes_in_or_reads_is_cut_off():
+    with Served() as served:
+        silent = browser.Socket(f"ws://127.0.0.1:{served.port}/door/socket")
+        begun = time.monotonic()
+        try:
+            silent.receive()
+            raise AssertionError("it was told something")
+        except ConnectionError:
+            assert 8 < time.monotonic() - begun < 14 * browser.busy()
+        # Another one comes in first and sends what is too long, or no text.
+        for kind, sent in ((1, "x" * 1025), (1, b"\xff\xfe"), (2, b"datagram")):
+            client = served.client()
+            client.socket.send(sent, kind)
+            with contextlib.suppress(ConnectionError):
+                while client.until("answer")["status"] != 415:
+                    pass
+        assert served.client().seat["kind"] == "you"
+
+
+def hostile(chance):
+    """A message that is no command, or one that has no sense."""
+    kind = chance.randrange(6)
+    if kind == 0:
+        return bytes(chance.randrange(32, 127) for _ in range(chance.randrange(200))).decode()
+    if kind == 1:
+        return '{"do": ' * chance.randrange(1, 120)
+    if kind == 2:
+        return json.dumps({"do": "point", "id": chance.choice((None, 1.5, [1], "x")), "down": True, "aim": None})
+    if kind == 3:
+        far = [10 ** chance.randrange(16, 100)] * 6
+        return json.dumps({"do": "point", "down": True, "aim": far})
+    if kind == 4:
+        return json.dumps([{"aim": None}, 1e308, "\ud800"])
+    odd = chance.choice(("\ud800", {"a": [1]}, None, 1e308, float("nan"), ""))
+    command = chance.choice(("point", "channel", "kill", "start", "hand", "replay", "reset", odd))
+    return json.dumps({"do": command, "aim": "NaN", "down": [[]], "loss": odd, "who": odd, "n": odd, "up": odd})
+
+
+def test_hostile_messages_never_stop_it():
+    chance, answers = random.Random(3), {}
+    with Served() as served:
+        client = served.client()
+        for _ in range(HOSTILE):
+            client.socket.send(hostile(chance))
+            status = client.until("answer")["status"]
+            answers[status] = answers.get(status, 0) + 1
+        assert set(answers) <= {400, 403, 404, 409, 429}, answers
+        time.sleep(1)
+        assert client.status("point", **POINT) == 200
+
+
+def test_what_is_no_http_never_stops_it():
+    chance = random.Random(5)
+    lines = b"GET / HTTP/9.9", b"GET", b"POST /door/ HTTP/1.1\r\nHost: \xff", b"a" * 70_000
+    with Served() as served:
+        for number in range(200):
+            noise = bytes(chance.randrange(256) for _ in range(chance.randrange(1, 300)))
+            with socket.create_connection(("127.0.0.1", served.port), timeout=60) as link:
+                with contextlib.suppress(ConnectionError):
+                    link.sendall(chance.choice((*lines, noise)) + b"\r\n\r\n")
+                    if number % 2:
+                        link.shutdown(socket.SHUT_WR)
+                        link.recv(1 << 16)
+        assert served.client().seat["kind"] == "you"
+
+
+def test_a_changed_file_is_a_new_run_and_a_faulty_one_is_said():
+    with scene_file(scene()) as file, Served(file) as served:
+        client = served.client(name="Ana")
+        assert client.until("scene")["n"] >= 0
+        file.write_text(scene().replace("DEF Lamp PointLight", "DEF Lamp Teapot"))
+        while not (fault := client.until("fault")["fault"]):
+            pass
+        line = 1 + scene()[: scene().index("DEF Lamp PointLight")].count("\n")
+        assert (fault["file"], fault["line"]) == ("scene.x3dv", line), fault
+        assert fault["what"] == 'node type "Teapot" isn\'t read' and fault["text"].startswith("DEF Lamp Teapot"), fault
+        file.write_text(scene().replace("0.2 0.45 0.7", "0.9 0.1 0.1"))
+        assert client.until("run")["run"] == 2 and client.until("fault")["fault"] is None
+        nodes = client.until("scene")["nodes"]
+        assert any(node["fields"].get("diffuseColor") == "0.9 0.1 0.1" for node in nodes)
+        assert client.status("point", **POINT) == 200
+
+
+def has_started(told):
+    """Whether a scene has a motor that was started."""
+    nodes = told.get("nodes", [])
+    return any(node["label"] == "Motor" and node["fields"]["startTime"] != "0" for node in nodes)
+
+
+def test_a_restarted_server_goes_on():
+    with scene_file(scene(), "door.x3dv") as file:
+        more = ("--each", "8", "--keep", str(file.parent / "kept"))
+        with Served(file, more=more) as served:
+            client = served.client(name="Ana")
+            for down in (False, True, False):
+                assert client.status("point", down=down, aim=AT_BUTTON) == 200
+            said = "pressed the door's button"
+            while not any(each["text"] == said for each in client.until("log")["log"]):
+                pass
+            time.sleep(1.5)
+            job = served.ask("GET", "/door/job", **{"X-Room-Token": client.seat["token"]})
+            assert job[0] == 200 and b"\nscene\n#X3D" in job[1] and b"point 0 1 -1 1.200000 5 0 0 -1\n" in job[1], job[0]
+        with Served(file, more=more) as served:
+            client = served.client()
+            log = client.until("log")["log"]
+            assert [(each["name"], each["text"]) for each in log] == [("Ana", said)], log
+            # A new viewer has the press too: in the scene that it is sent first, or in what comes then.
+            while not any("Motor.startTime" in told.get("trace", "") or has_started(told) for told in client.events):
+                client.until("scene", "news")
+        with Served(None, more=("--replay", str(file.parent / "kept/door"))) as served:
+            client = served.client()
+            assert client.seat["who"] is None and client.until("log")["log"][0]["text"] == said
+            whole = client.until("replay")["of"]
+            assert whole > 30 and client.ask("replay", n=whole)["n"] == whole
+            assert client.status("point", **POINT) == 409
