@@ -2,7 +2,7 @@
 //!
 //! | Modules | Content |
 //! |---|---|
-//! | `world`, `opening`, `input`, `scripts`, `shots` | a world: made of a text, moved on, saved and loaded |
+//! | `world`, `opening`, `input`, `scripts`, `shots` | a world: made, moved on, saved, loaded |
 //! | `host`, `viewer`, `pieces` | a host and a viewer of a shared world |
 //! | `texts`, `lists`, `viewer_texts`, `viewer_lists` | reads of them, as texts and numbers |
 //! | `lines`, `meet`, `named`, `numbers`, `value` | what a read looks up |

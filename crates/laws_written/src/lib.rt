@@ -4,8 +4,8 @@
 //! | Modules | Law about |
 //! |---|---|
 //! | `text_laws`, `numbering` | the text of a scene: labels, values, numbers of nodes |
-//! | `nodes`, `fields`, `distinct`, `routes`, `order`, `limits` | the parts of the written document |
-//! | `again`, `existing`, `typed`, `worlds`, `staying` | the scene and the world that are read again |
+//! | `nodes`, `fields`, `distinct`, `routes`, `order`, `limits` | the parts of the document |
+//! | `again`, `existing`, `typed`, `worlds`, `staying` | the scene and world that are read again |
 #![tactic(auto)]
 
 mod again;

@@ -4,7 +4,7 @@
 //! | Modules | Content |
 //! |---|---|
 //! | `walk`, `nearest`, `hit`, `trail` | a walk over the scene for the nearest hit |
-//! | `cache`, `gather`, `row`, `renewal`, `ranges` | the boxes of a state, stored so that a ray needs no walk |
+//! | `cache`, `gather`, `row`, `renewal`, `ranges` | boxes of a state, for rays without a walk |
 //! | `tree`, `cover`, `runs` | boxes around runs of boxes, which a ray passes over |
 //! | `look`, `motion`, `numbers` | what a ray sees of a node |
 //! | `sensors`, `local` | the sensors of a hit, and its point in their coordinates |

@@ -5,7 +5,7 @@
 //! |---|---|
 //! | `laws` | laws of what documents stand for |
 //! | `size_laws` | the sizes of instances: alike instances of one prototype take the same room |
-//! | `nodes`, `search` | whether a body has a node, and the search for a node type in a declaration |
+//! | `nodes`, `search` | whether a body has a node, and the search in a declaration |
 //! | `tree`, `tree_laws` | a text whose words are resolved, and what it stands for |
 #![tactic(auto)]
 

@@ -4,8 +4,8 @@
 //! value that is read from the front of bytes, and the values that are read back unchanged.
 //! Functions named `_of` read from the front of the bytes and return the rest. Functions named
 //! `push_` append, and leave the buffer unchanged if it can't grow. `open` checks the head and the
-//! digest of a whole snapshot. `ranged`, `kept_ranges` and `value_ranges` check which values a field
-//! may hold.
+//! digest of a whole snapshot. `ranged`, `kept_ranges` and `value_ranges` check which values a
+//! field may hold.
 #![tactic(auto)]
 
 mod coded;

@@ -13,7 +13,7 @@
 //! | `world` | a whole world, with its boot |
 //! | `nodes`, `kept` | nodes in turn: their fields, and the part after them |
 //! | `buttons`, `lines` | the buttons and the trace of a world |
-//! | `states`, `beside`, `dragging`, `pointing` | the states of scripts, and the parts after fields |
+//! | `states`, `beside`, `dragging`, `pointing` | the states of scripts, the parts after fields |
 //! | `opening`, `version` | the checks before a world is read, and the versions |
 //! | `exactness` | the law |
 #![tactic(auto)]
