@@ -148,6 +148,7 @@ definitions:
 	@scripts/tables --check
 	@scripts/imports
 	@scripts/groups
+	@scripts/facts
 	@scripts/pages
 	@scripts/calls
 	@scripts/snapshots
