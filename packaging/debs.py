@@ -11,8 +11,8 @@ from stage import stage_development, stage_program, stage_shared
 
 LIBRARIES = "lib/x86_64-linux-gnu"
 MAINTAINER = "The x3d_share authors <maintainers@users.noreply.kerzubna.example>"
-# What of room/ no package has: its tests and measurements.
-ROOM_TESTS = ("test_room.py", "measure.py", "browser.py")
+# What of room/ no package has: its tests, pictures and measurements.
+ROOM_TESTS = re.compile(r"test(_|s_).*\.py|(measure|browser|pictures)\.py|pictures/.*|deploy/.*")
 DRAWING = ("picture", "case_files.py", "scene_faces.py", "scene_text.py", "scene_view.py", "trace_lanes.py", "wire.py")
 C_EXAMPLES = ("door.c", "fields.c", "jobs.c", "share.c")
 UNPROVED = " (unproved)"
@@ -75,7 +75,8 @@ def tree_of_python(places, release):
 
 def tree_of_room(places, release):
     rooms = TOP / "examples/rooms"
-    copy(TOP / "room", places.below("share/x3d-room/room"), set(files_of(TOP / "room")) - set(ROOM_TESTS))
+    served = [name for name in files_of(TOP / "room") if not ROOM_TESTS.fullmatch(name)]
+    copy(TOP / "room", places.below("share/x3d-room/room"), served)
     copy(TOP / "scripts", places.below("share/x3d-room/scripts"), DRAWING)
     copy(rooms, places.below("share/x3d-room/examples/rooms"), files_of(rooms))
     for command in ("x3d-room", "x3d-picture"):

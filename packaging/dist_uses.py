@@ -52,16 +52,24 @@ zpty -n -w try $'x3d_share view --exa\t\x18'
 repeat 600; do [[ -s /typed ]] && break; sleep 0.1; done
 cat /typed
 """
-ROOM = b"""import json, sys, urllib.request
-base = f"http://127.0.0.1:{sys.argv[1]}/"
-get = lambda path: urllib.request.urlopen(base + path, timeout=20).read()
-assert b"room.js" in get("")
-assert len(get("room.js")) > 1000
-assert b"THREE" in get("three.js")
-ask = urllib.request.Request(base + "join", b"{}", {"Content-Type": "application/json"})
-seat = json.load(urllib.request.urlopen(ask, timeout=20))
-events = urllib.request.urlopen(f"http://127.0.0.1:{seat['port']}/events?token={seat['token']}", timeout=20)
-kinds = [line.split()[1] for line in (events.readline() for _ in range(200)) if line.startswith(b"event:")]
-assert kinds[0] == b"scene" and len(kinds) > 20, kinds
-print("page room.js three.js scene goes on")
+ROOM = b"""import asyncio, sys
+import aiohttp
+
+base = f"http://127.0.0.1:{sys.argv[1]}"
+
+async def look():
+    async with aiohttp.ClientSession(connector=aiohttp.TCPConnector(force_close=True)) as session:
+        async with session.get(base) as page:
+            room = str(page.url)
+            assert "main.js" in await page.text()
+        for name, least in ("main.js", 500), ("three.js", 100000):
+            async with session.get(f"{base}/static/{name}") as file:
+                assert len(await file.read()) > least, name
+        async with session.ws_connect(room + "socket") as window:
+            await window.send_json({"do": "enter", "name": "Ana"})
+            kinds = [(await window.receive_json(timeout=20))["kind"] for _ in range(20)]
+    assert "scene" in kinds and "news" in kinds, kinds
+
+asyncio.run(look())
+print("page main.js three.js scene goes on")
 """
