@@ -1,9 +1,9 @@
 -- An entry is read from its own bytes and from no others.
-use Rattle.std.proofs.Common.{◌≡◌, ℕ, ◌^◌, Bool, true, false, cond, eqb, ltb, List, [], ◌++◌, Option, Some, None, refl, sym, ap, subst, ◌∙◌, append_assoc}
+use Rattle.std.proofs.Common.{◌≡◌, ℕ, ◌^◌, Bool, true, false, cond, eqb, ltb, List, ◌++◌, Option, Some, None, refl, ap, subst, ◌∙◌, append_assoc}
 use Rattle.std.specs.Prelude.{◌&&◌, not, ℤ}
 use Rattle.std.specs.Int.{w32, w64}
 use Rattle.std.proofs.lemmas.Bool.{eqb-true}
-use Rattle.byte_codec.specs.Codec.{Codec, ◌>>?◌, signed}
+use Rattle.byte_codec.specs.Codec.{◌>>?◌, signed}
 use Rattle.byte_codec.specs.Exact.{IsBytes, IsExact, Took}
 use Rattle.byte_codec.proofs.Laws.{after, both, and_true, bind_some, joined, some_is, byte_exact, number_exact, wide32, signed64_exact, truth_exact, pair_exact, named_exact, checked_exact}
 use Rattle.x3d_values.specs.Ranges.{coordinates_fit, is_zero, is_viewer, is_input_time}

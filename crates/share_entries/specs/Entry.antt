@@ -3,7 +3,6 @@ use Rattle.std.specs.Prelude.{ℕ, ℤ, ◌++◌, ◌&&◌, ◌==◌, Bool, true
 use Rattle.std.specs.Int.{w32, w64}
 use Rattle.byte_codec.specs.Codec.{Codec, ◌>>?◌, pair, named, checked, byte, truth, number, signed}
 use Rattle.x3d_values.specs.Ranges.{is_input_time}
-use Rattle.x3d_values.specs.declared.vector.Vec3.{Vec3}
 use Rattle.share_wire.specs.Messages.{OfferView}
 use Rattle.share_wire.specs.Fields.{vector}
 use Rattle.share_wire.specs.Datagram.{offering_fits}

@@ -1,5 +1,5 @@
 use Rattle.std.proofs.lemmas.Int.{to_z-of_z}
-use Rattle.std.proofs.Common.{FitsSigned, w64, to_z, of_z, rules}
+use Rattle.std.proofs.Common.{FitsSigned, w64, rules}
 use Rattle.share_entries.proofs.reading.first_entry.Goals as goal
 
 pub new-requires : goal.new-requires
