@@ -1,0 +1,4 @@
+pub mod Entry
+pub mod Chain
+pub mod Frame
+pub mod Head
