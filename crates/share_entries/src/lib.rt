@@ -12,6 +12,8 @@ mod fields;
 mod frame;
 mod head;
 mod reading;
+#[cfg(test)]
+mod tests;
 mod writing;
 
 pub use chain::{Chain, chain_after, chains_tell_logs_apart, link};
