@@ -6,14 +6,14 @@
 //! frames of entries (`frame_bytes`, `frame_of`), each with the chain after it.
 #![tactic(auto)]
 
+#[cfg(test)]
+mod by_hand;
 mod chain;
 mod entry;
 mod fields;
 mod frame;
 mod head;
 mod reading;
-#[cfg(test)]
-mod tests;
 mod writing;
 
 pub use chain::{Chain, chain_after, chains_tell_logs_apart, link};
