@@ -7,8 +7,13 @@ use std::test::Fail;
 
 const RUN: [u8; 16] = [9; 16];
 
-/// The first 8 bytes of the SHA-256 of the 56 before them.
-const SUM: [u8; 8] = [0x0b, 0x51, 0x9e, 0xac, 0x10, 0xa4, 0xbf, 0x63];
+/// `X3DL`, the version, 2 viewers and two zeros, the mark, the run, and the first 8 bytes of the
+/// SHA-256 of these 56.
+const HEAD: [u8; 64] = [
+    0x58, 0x33, 0x44, 0x4c, 1, 2, 0, 0, 7, 7, 7, 7, 7, 7, 7, 7, 7, 7, 7, 7, 7, 7, 7, 7, 7, 7, 7, 7,
+    7, 7, 7, 7, 7, 7, 7, 7, 7, 7, 7, 7, 9, 9, 9, 9, 9, 9, 9, 9, 9, 9, 9, 9, 9, 9, 9, 9, 0x0b, 0x51,
+    0x9e, 0xac, 0x10, 0xa4, 0xbf, 0x63,
+];
 
 /// A kind, a count, a number, a clock at 5 microseconds, and the chain after it.
 const FRAME: [u8; 36] = [
@@ -24,14 +29,12 @@ fn a_head_has_its_bytes(rt: HostRuntime) -> Result<(), Fail> {
         run: RUN,
     };
     let bytes = head_bytes(rt.alloc(), &head)?;
-    assert_eq!(rt; bytes.len(), 64);
-    assert_eq!(rt; &bytes[..8], b"X3DL\x01\x02\x00\x00".as_slice());
-    assert_eq!(rt; &bytes[56..], SUM.as_slice());
-    let Ok(read) = head_of(bytes.as_slice()) else {
+    assert_eq!(rt; bytes.as_slice(), HEAD.as_slice());
+    let Ok(read) = head_of(&HEAD) else {
         return Err(Fail::from("a head isn't read"));
     };
     assert_eq!(rt; read.viewers, 2);
-    assert_eq!(rt; head_of(&bytes[..55]).err(), Some(HeadFault::Short));
+    assert_eq!(rt; head_of(&HEAD[..55]).err(), Some(HeadFault::Short));
     Ok(())
 }
 
