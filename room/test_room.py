@@ -72,6 +72,8 @@ def main():
     tests = {**core, **tests_of(tests_server), **tests_of(tests_windows)}
     tests |= {**tests_of(tests_people), **tests_of(tests_examples)}
     names = [word for word in sys.argv[1:] if word != "--quick"]
+    if unknown := [name for name in names if name not in tests]:
+        sys.exit(f"room: there is no test {unknown[0]}, of " + " ".join(tests))
     asked = names or [*core, *GATE] if QUICK else names or [*tests]
     begun, counts = time.monotonic(), {"passed": 0, "FAILED": 0, "skipped": 0}
     signal.signal(signal.SIGTERM, lambda *_: sys.exit(143))
