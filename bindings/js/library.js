@@ -53,7 +53,7 @@ export class Library {
     return this.#data;
   }
 
-  /** The place of so many bytes of memory. */
+  /** The address of n new bytes, which `free` gives back. Throws the fault of memory where there are none. */
   allocate(size) {
     const at = Number(this.#exports.malloc(BigInt(size)));
     if (at === 0) throw new Fault(MEMORY);
@@ -77,7 +77,7 @@ export class Library {
     }
   }
 
-  /** A copy of so many bytes. */
+  /** A copy of the n bytes at an address. */
   copy(at, size) {
     this.#renew();
     return this.#bytes.slice(Number(at), Number(at) + size);
@@ -88,7 +88,7 @@ export class Library {
     return this.data.getUint32(this.#scratch + OUT + 4 * place, true);
   }
 
-  /** The same of 64-bit numbers. */
+  /** The 64-bit number that a call wrote, and the ones after it. */
   toldWide(place = 0) {
     return this.data.getBigUint64(this.#scratch + OUT + 8 * place, true);
   }

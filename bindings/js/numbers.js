@@ -1,7 +1,7 @@
 // Numbers that are passed to calls, which would otherwise be taken modulo a power of two.
 import { Fault, RANGE } from "./faults.js";
 
-/** A whole number of so many bits without a sign: at most 32. */
+/** An unsigned whole number of n bits, n at most 32. */
 export function fits(number, bits) {
   if (typeof number !== "number") throw new TypeError("a number is wanted");
   if (!Number.isInteger(number) || number < 0 || number >= 2 ** bits) throw new Fault(RANGE);

@@ -125,13 +125,13 @@ static struct block *find(size_t size) {
   return nullptr;
 }
 
-/* The size of a block for so many bytes. */
+/* The size of a block that holds n bytes, its header included. */
 static size_t block_size(size_t bytes) {
   size_t size = (bytes + HEADER + GRAIN - 1) & ~(size_t)(GRAIN - 1);
   return size < LEAST ? LEAST : size;
 }
 
-/* A block for so many bytes, in use; or null. */
+/* A block in use that holds n bytes, or null. */
 static struct block *take(size_t bytes) {
   if (bytes > MOST) return nullptr;
   size_t size = block_size(bytes);
