@@ -48,6 +48,9 @@ picture:
 found_so = so="$(X3D_SO)"; [ -n "$$so" ] || \
   for so in out/libx3d.so out/quick/libx3d.so ""; do ! $(call fresh,"$$so") || break; done
 
+# The library for windows, if it was built and is no older than a source: by it windows hold their viewers.
+found_wasm = wasm=out/wasm; $(call fresh,"$$wasm/x3d.wasm") || wasm=
+
 # What the room lacks of Debian's packages, if anything.
 missing_of_room = [ -e $(THREE) ] && missing= || missing="no $(THREE) (Debian's package libjs-three)"; \
   /usr/bin/python3 -c "import aiohttp" 2> /dev/null || missing="no aiohttp (Debian's package python3-aiohttp)"
@@ -56,18 +59,19 @@ missing_of_room = [ -e $(THREE) ] && missing= || missing="no $(THREE) (Debian's 
 room:
 	@$(missing_of_room); [ -z "$$missing" ] || { echo "room: $$missing" >&2; exit 1; }
 	@$(MAKE) --no-print-directory room-library
-	@$(found_so); X3D_SO=$$(realpath "$$so") room/server.py --three $(THREE) --keep out/rooms $(ROOM)
+	@$(found_so); $(found_wasm); [ -n "$$wasm" ] || echo "room: viewers run in the server (make wasm: in windows)" >&2; \
+	X3D_SO=$$(realpath "$$so") X3D_WASM="$$wasm" room/server.py --three $(THREE) --keep out/rooms $(ROOM)
 
 # Tests that, in a real browser where chromium is installed. No part of `make test`.
 test-room: room-library
-	@$(found_so); echo "room: by $$so"; X3D_SO=$$(realpath "$$so") room/test_room.py
+	@$(found_so); $(found_wasm); echo "room: by $$so $$wasm"; X3D_SO=$$(realpath "$$so") X3D_WASM="$$wasm" room/test_room.py
 
 # Some of these, in less than a minute, for a gate: nothing is built for them, and what is missing is said.
 test-room-quick:
-	@$(found_so); $(missing_of_room); \
+	@$(found_so); $(found_wasm); $(missing_of_room); \
 	if [ ! -e "$$so" ]; then echo "room: skipped: no library (make library, or make library-unproved)"; \
 	elif [ -n "$$missing" ]; then echo "room: skipped: $$missing"; \
-	else echo "room: by $$so"; X3D_SO=$$(realpath "$$so") room/test_room.py --quick; fi
+	else echo "room: by $$so $$wasm"; X3D_SO=$$(realpath "$$so") X3D_WASM="$$wasm" room/test_room.py --quick; fi
 
 # What it stands on. Where there is none it is built without a proof, in some two minutes: what it answers is what the
 # proved one answers, which `make library` proves and builds in an hour.

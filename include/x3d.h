@@ -26,7 +26,11 @@ extern "C" {
 struct x3d_world { void *at; };
 struct x3d_host { void *at; };
 struct x3d_viewer { void *at; };
+#ifdef __cplusplus
+#define X3D_NONE {nullptr}
+#else
 #define X3D_NONE {0}
+#endif
 
 /* The status that every call returns. After any status but X3D_DONE nothing has changed, except
  * where the status or the call says so. */
@@ -214,7 +218,9 @@ uint8_t x3d_world_meet(struct x3d_world *world, const struct x3d_aim *aim, struc
 /* Makes the lines of the trace of inputs from number `first` on: `<input> <seconds> <label>.<field>
  * <value>`. From 0 on it is the whole trace. */
 uint8_t x3d_world_make_trace(struct x3d_world *world, uint32_t first);
-/* Makes the same lines with numbers: `<input> <seconds> <node> <field> <value>`. */
+/* Makes the same lines with numbers: `<input> <seconds> <node> <field> <value>`. A line names a field
+ * that an input changed; read the field's value to draw it, since an output sends once in an input
+ * and may be set again after that. */
 uint8_t x3d_world_make_changes(struct x3d_world *world, uint32_t first);
 /* Makes the current scene, in the Classic encoding. */
 uint8_t x3d_world_make_scene(struct x3d_world *world);

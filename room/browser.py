@@ -9,8 +9,6 @@ import struct
 import subprocess
 import tempfile
 import time
-import urllib.parse
-import urllib.request
 import zlib
 from pathlib import Path
 
@@ -68,14 +66,14 @@ def unfiltered(kind, row, above, parts):
 
 
 class Socket:
-    """A WebSocket (RFC 6455) as a client: whole texts, in one frame each way or several. `more` are lines of
-    its request's head."""
+    """A WebSocket (RFC 6455) as a client: whole texts, in one frame each way or several; binary messages that came
+    before one are in `datagrams`. `more` are lines of its request's head."""
 
     def __init__(self, address, more=()):
         host, path = address.removeprefix("ws://").split("/", 1)
         name, port = host.split(":")
         self.link = socket.create_connection((name, int(port)), timeout=SECONDS)
-        key = base64.b64encode(os.urandom(16)).decode()
+        self.datagrams, key = [], base64.b64encode(os.urandom(16)).decode()
         ask = (
             f"GET /{path} HTTP/1.1\r\nHost: {host}\r\nUpgrade: websocket\r\n"
             f"Connection: Upgrade\r\nSec-WebSocket-Key: {key}\r\nSec-WebSocket-Version: 13\r\n"
@@ -107,8 +105,22 @@ class Socket:
         masked = bytes(byte ^ mask[k % 4] for k, byte in enumerate(data))
         self.link.sendall(head + mask + masked)
 
+    def has_more(self):
+        """Whether some of a message is there."""
+        self.link.setblocking(False)
+        try:
+            return bool(self.file.peek(1))
+        finally:
+            self.link.settimeout(SECONDS)
+
     def receive(self):
         """The next text. Raises ConnectionError where the other side ends."""
+        while (text := self.receive_any()) is None:
+            pass
+        return text
+
+    def receive_any(self):
+        """The next text, or none of a binary message, which is the last of `datagrams` then."""
         whole = b""
         while True:
             begins = self.file.read(2)
@@ -121,6 +133,9 @@ class Socket:
             data = self.file.read(size)
             if first & 0x0F == 9:
                 self.send(data, 10)
+            if first & 0x0F == 2:
+                self.datagrams.append(data)
+                return None
             if first & 0x0F in (0, 1):
                 whole += data
                 if first & 0x80:
@@ -225,17 +240,22 @@ class Browser:
             if time.monotonic() - begun > SECONDS or self.process.poll() is not None:
                 raise RuntimeError("the browser didn't start")
             time.sleep(0.1)
-        self.port = int(port.read_text().split()[0])
+        number, path = port.read_text().split()
+        self.port, self.whole = int(number), Page(f"ws://127.0.0.1:{number}{path}")
 
     def open(self, address):
-        # What stands after a # would stay here.
-        new = f"http://127.0.0.1:{self.port}/json/new?{urllib.parse.quote(address, safe=':/?')}"
-        ask = urllib.request.Request(new, method="PUT")
-        with urllib.request.urlopen(ask, timeout=SECONDS) as answer:
-            page = Page(json.load(answer)["webSocketDebuggerUrl"])
-        # Each window counts as the one in front: what is hidden draws nothing and answers late.
+        """A page in a window of its own: as a tab behind another it would draw nothing, and be run after all else."""
+        new = self.whole.call("Target.createTarget", url=address, newWindow=True)["targetId"]
+        page = Page(f"ws://127.0.0.1:{self.port}/devtools/page/{new}")
+        page.target = new
         page.call("Emulation.setFocusEmulationEnabled", enabled=True)
         return page
+
+    def show(self, page, state):
+        """Makes a page's window `minimized` or `normal`."""
+        page.call("Emulation.setFocusEmulationEnabled", enabled=state == "normal")
+        window = self.whole.call("Browser.getWindowForTarget", targetId=page.target)["windowId"]
+        self.whole.call("Browser.setWindowBounds", windowId=window, bounds={"windowState": state})
 
     def close(self):
         self.process.terminate()

@@ -1,10 +1,12 @@
 """What a window may ask of its room. Each command is given the room as it is served, the window, and a body of JSON."""
+import re
+
 from library import x3d
 from people import clean
 from player import SPEEDS
 from service import Wrong
 
-COORDINATE = 10**15
+COORDINATE, OFFERS, DIGEST = 10**15, 64, re.compile(r"[0-9a-f]{16}")
 SHARES = "loss", "repeat", "reorder"
 
 
@@ -39,7 +41,7 @@ def point(service, window, body):
         raise Wrong(400, "whole millionths, and a direction")
     seat = seat_of(service, window)
     if not seat.viewer:
-        raise Wrong(409, "the viewer isn't running")
+        raise Wrong(409, "the viewer runs in the window" if seat.far and seat.runs else "the viewer isn't running")
     if seat.joins:
         # It will begin again in a snapshot, and what it offered by then is lost.
         raise Wrong(429, "the viewer is joining")
@@ -97,7 +99,7 @@ def start(service, window, body):
         raise Wrong(403, "the trainer's alone")
     if not whole(who) or who not in service.room.seats:
         raise Wrong(400, "no such viewer")
-    if service.room.seats[who].viewer:
+    if service.room.seats[who].runs:
         raise Wrong(409, "the viewer is running")
     service.room.start(who)
 
@@ -127,5 +129,34 @@ def replay(service, window, body):
     return window.player.status()
 
 
-COMMANDS = {each.__name__: each for each in (point, hand, start, replay, name)}
+def far_seat_of(service, window):
+    """The seat of a window whose viewer runs there."""
+    seat = seat_of(service, window)
+    if not (seat.far and seat.runs):
+        raise Wrong(409, "no viewer runs in this window")
+    return seat
+
+
+def boot(service, window, body):
+    """A boot for the window's viewer, which begins again."""
+    return {"boot": far_seat_of(service, window).give_boot(service.room)}
+
+
+def stand(service, window, body):
+    """The window says how its viewer stands: offers that wait, and the digest of its world at a number."""
+    number, digest, waiting = body.get("at"), body.get("digest"), body.get("waiting")
+    if not (whole(waiting) and 0 <= waiting <= OFFERS and whole(number) and 0 <= number <= len(service.room.host)):
+        raise Wrong(400, "at and waiting are whole numbers")
+    if digest is not None and not (isinstance(digest, str) and DIGEST.fullmatch(digest)):
+        raise Wrong(400, "a digest has sixteen digits")
+    far_seat_of(service, window).stand(number, digest, waiting)
+
+
+def fail(service, window, body):
+    """The window's viewer ended there."""
+    far_seat_of(service, window)
+    service.room.kill(window.who)
+
+
+COMMANDS = {each.__name__: each for each in (point, hand, start, replay, name, boot, stand, fail)}
 COMMANDS |= {"channel": channel, "kill": kill, "reset": reset}

@@ -1,4 +1,5 @@
 """The library's module `x3d`; and this checkout's scripts, of which `wire` and `scene_text` are wanted."""
+import os
 import sys
 from pathlib import Path
 
@@ -8,4 +9,7 @@ import scene_text
 import wire
 import x3d
 
-__all__ = ["TOP", "scene_text", "wire", "x3d"]
+# Where the library is as a package for windows, if it was built.
+WASM = Path(os.environ.get("X3D_WASM", TOP / "out/wasm"))
+
+__all__ = ["TOP", "WASM", "scene_text", "wire", "x3d"]

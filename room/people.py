@@ -8,8 +8,8 @@ COLORS = (
     "#00708a", "#b0307a", "#3d7a1c", "#5a4ac0",
 )
 NAME = 24
-# How many pointers a second a window may offer, and how many other commands.
-PACE, COMMANDS = 40, 20
+# How many pointers a second a window may offer, how many other commands, and how many datagrams of its viewer.
+PACE, COMMANDS, DATAGRAMS = 40, 20, 600
 
 
 class Bucket:
@@ -35,13 +35,14 @@ def clean(name):
 
 
 class Window:
-    """A window: its viewer's number, or none of one that only watches; its person; what it is to be sent."""
+    """A window: its viewer's number, or none of one that only watches; its person; what it is to be sent; whether it
+    holds its viewer itself."""
 
     def __init__(self, address, outbox):
         self.address, self.outbox, self.token = address, outbox, secrets.token_urlsafe(24)
         self.who, self.id, self.name, self.color, self.hand, self.trainer = None, 0, "", COLORS[0], False, False
-        self.told, self.player, self.gone = None, None, None
-        self.points, self.commands = Bucket(PACE), Bucket(COMMANDS)
+        self.told, self.player, self.gone, self.holds = None, None, None, False
+        self.points, self.commands, self.datagrams = Bucket(PACE), Bucket(COMMANDS), Bucket(DATAGRAMS)
 
     def person(self):
         """What others see of it."""

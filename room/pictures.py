@@ -30,6 +30,12 @@ def aim(x, y):
     return [round(1e6 * part) for part in (x, y, FAR, 0, 0, -1)]
 
 
+def point(client, down, x, y):
+    """Points somewhere, once the client's viewer has joined."""
+    while client.status("point", down=down, aim=aim(x, y)) == 429:
+        time.sleep(0.2)
+
+
 def people(served, count, room, ends):
     """`count` clients who point somewhere; the first of them holds what the room has to be held."""
     (left, right, low, high), held = PLACES[room]
@@ -37,11 +43,11 @@ def people(served, count, room, ends):
     for name in NAMES[1 : count + 1]:
         client = served.client(name=name)
         ends.callback(client.close)
-        client.ask("point", down=False, aim=aim(chance.uniform(left, right), chance.uniform(low, high)))
+        point(client, False, chance.uniform(left, right), chance.uniform(low, high))
         found.append(client)
     if held:
         for down in (False, True):
-            found[0].ask("point", down=down, aim=aim(*held))
+            point(found[0], down, *held)
     found[1].ask("hand", up=True)
     for client in found:
         threading.Thread(target=listen, args=(client,), daemon=True).start()

@@ -1,13 +1,14 @@
-"""A room: the host of a shared world, and a viewer for each window. Both are the library's, by
-bindings/python; what stands here carries their datagrams, ticks the clock, and saves viewers."""
+"""A room: the host of a shared world, and a viewer for each window, here or in the window. All are the library's, here
+by bindings/python; what stands here carries their datagrams, ticks the clock, and saves viewers."""
 import functools
 import itertools
+import secrets
 import time
 
 from channel import Channel
 from library import wire, x3d
 from scene import Names
-from seat import Joining, Seat
+from seat import Far, Joining, Seat
 
 VIEWERS = 64
 # Viewers are saved, and their worlds compared, every CHECK turns: as many more for each GROWTH bytes.
@@ -27,13 +28,16 @@ class Room:
 
     def __init__(self, text):
         self.text = text = text.encode() if isinstance(text, str) else text
-        self.channel, self.full = Channel(), False
+        self.channel, self.full, self.life = Channel(), False, secrets.token_hex(4)
         # Boots go on above those of the last time that this world was run.
         self.seats, self.boots = {}, itertools.count(int(time.time()))
         # The numbers at which viewers are saved, and the turns until the next.
         self.marks, self.rest = [], CHECK
-        with x3d.Viewer(text, 0, next(self.boots)) as first:
-            self.newest, self.names = (0, first.snapshot()), Names(first)
+        # How many inputs there were when asks that wait were answered.
+        self.answered = 0
+        # It applies nothing: it knows the scene's names, and cuts snapshots into pieces.
+        self.first = x3d.Viewer(text, 0, next(self.boots))
+        self.newest, self.names = (0, self.first.snapshot()), Names(self.first)
         self.host = x3d.Host(text, VIEWERS)
         self.packet = functools.lru_cache(RECENT)(self.host.packet)
         self.read = functools.lru_cache(RECENT)(wire.read_input)
@@ -50,16 +54,17 @@ class Room:
         self.newest = newest
         self.host.drop_below(max(1, newest[0] + 1 - KEPT))
 
-    def join(self):
-        """The number of a new window's seat, with a viewer that runs; none where the room is full."""
+    def join(self, *window):
+        """The number of a new window's seat, with a viewer that runs, here or in the window; none where the room is
+        full. `window` is what `Far` is given, of a window that holds its viewer."""
         free = next((who for who in range(VIEWERS) if who not in self.seats), None)
         if free is not None:
-            self.take_seat(free)
+            self.take_seat(free, *window)
         return free
 
-    def take_seat(self, who):
+    def take_seat(self, who, *window):
         """Takes a seat that is free, with a viewer that runs."""
-        self.seats[who] = Seat(who, self.names)
+        self.seats[who] = Far(who, *window) if window else Seat(who, self.names)
         try:
             self.start(who)
         except (x3d.Fault, MemoryError):
@@ -68,18 +73,14 @@ class Room:
 
     def start(self, who):
         """Starts a viewer: in its snapshot, if one was saved, or else at the beginning."""
-        seat, viewer = self.seats[who], x3d.Viewer(self.text, who, next(self.boots))
-        if seat.saved:
-            viewer.rewind(seat.saved, next(self.boots))
-        seat.viewer = viewer
-        seat.begin()
-        self.mark(seat)
+        seat = self.seats[who]
+        seat.start(self)
+        if not seat.far:
+            self.mark(seat)
 
     def kill(self, who):
         """Drops a viewer with all that it holds in memory. What it saved stays."""
-        if self.seats[who].viewer:
-            self.seats[who].viewer.close()
-            self.seats[who].viewer = None
+        self.seats[who].stop()
 
     def leave(self, who):
         """Frees the seat of a window that is gone."""
@@ -88,11 +89,19 @@ class Room:
         self.channel.lost.pop(who, None)
 
     def running(self):
-        return [seat for seat in self.seats.values() if seat.viewer]
+        return [seat for seat in self.seats.values() if seat.runs]
+
+    def near(self):
+        """The seats whose viewers run here."""
+        return [seat for seat in self.running() if not seat.far]
 
     def mark(self, seat):
-        """Saves a viewer. The host drops inputs that no one lacks who joins."""
-        self.newest = max(self.newest, seat.mark(), key=lambda saved: saved[0])
+        """Saves a viewer that runs here."""
+        self.renew(*seat.mark())
+
+    def renew(self, number, snapshot):
+        """There is a snapshot, in which others may join. The host drops inputs that no one lacks who does."""
+        self.newest = max(self.newest, (number, snapshot), key=lambda saved: saved[0])
         joining = [each.joins.number for each in self.running() if each.joins]
         floor = min([self.newest[0], *joining]) + 1 - KEPT
         self.host.drop_below(max(self.host.floor(), floor))
@@ -104,22 +113,46 @@ class Room:
         if not self.seats:
             return
         self.tick(time)
-        for seat in self.running():
+        for seat in self.near():
             for offer in seat.viewer.resend()[:OFFERS]:
                 self.channel.send(seat.who, True, offer)
-            if seat.joins:
-                for piece in itertools.islice(seat.joins.pieces, seat.joins.batch):
-                    self.channel.send(seat.who, False, piece)
-        asking = self.running()
+            self.send_pieces(seat)
+        asking = self.near()
         for _ in range(ASKS):
             for seat in asking:
                 seat.lacks = False
                 self.channel.send(seat.who, True, seat.viewer.ask())
-            for _ in range(2):
-                for who, to_host, datagram in self.channel.arrived():
-                    self.deliver(who, to_host, datagram)
-            asking = [seat for seat in self.running() if seat.lacks]
+            self.carry()
+            asking = [seat for seat in self.near() if seat.lacks]
         self.channel.pass_turn()
+
+    def carry(self):
+        """Delivers what arrives by now, and then what is answered."""
+        for asks_wait in (True, False):
+            for who, to_host, datagram in self.channel.arrived():
+                self.deliver(who, to_host, datagram)
+            if asks_wait and len(self.host) > self.answered:
+                self.answer_waiting()
+
+    def answer_waiting(self):
+        """There are new inputs, for which asks of viewers in windows wait."""
+        self.answered = len(self.host)
+        for seat in self.running():
+            if seat.far and seat.waits:
+                datagram, seat.waits = seat.waits, None
+                self.deliver(seat.who, True, datagram)
+
+    def send_pieces(self, seat):
+        """Some pieces of the snapshot by which a viewer joins."""
+        if seat.joins:
+            for piece in itertools.islice(seat.joins.pieces, seat.joins.batch):
+                self.channel.send(seat.who, False, piece)
+
+    def receive(self, who, datagram):
+        """A window sends a datagram of its viewer. It is carried at the next turn, or by `carry` before."""
+        seat = self.seats.get(who)
+        if seat and seat.far and seat.runs and seat.speaks(datagram):
+            self.channel.send(who, True, datagram)
 
     def tick(self, time):
         """Numbers the clock. Now and then viewers are to be saved at it; none has it yet."""
@@ -128,17 +161,24 @@ class Room:
             number = self.host.clock(time)
             if self.rest <= 0:
                 self.marks.append(number)
+                self.tell_mark(number)
                 self.rest = CHECK * (1 + len(self.newest[1]) // GROWTH)
         except x3d.Fault as fault:
             self.full = self.full or fault.name == "WorldFull"
 
+    def tell_mark(self, number):
+        """Windows that hold their viewers learn at which number worlds will be compared, before they have it."""
+        for seat in self.seats.values():
+            if seat.far:
+                seat.tell("mark", {"n": number})
+
     def deliver(self, who, to_host, datagram):
         """Hands a datagram to the host, or to a viewer that runs. A refused one changes nothing."""
         seat = self.seats.get(who)
-        if not seat or not seat.viewer:
+        if not seat or not seat.runs:
             return
         try:
-            (self.to_host if to_host else self.to_viewer)(seat, datagram)
+            (self.to_host if to_host else self.to_far if seat.far else self.to_viewer)(seat, datagram)
         except x3d.Fault as fault:
             self.full = self.full or fault.name == "WorldFull"
             if fault.name in ("Memory", "Spoiled"):
@@ -146,7 +186,12 @@ class Room:
 
     def to_host(self, seat, datagram):
         """The host answers, with no input after the next mark: so each viewer stops there."""
+        if seat.far and not seat.admits(datagram):
+            return
         kind, first, count = self.host.take(datagram)
+        if seat.far:
+            self.note_ask(seat, kind, first)
+            seat.waits = datagram if kind == "Asked" and not count else None
         if kind == "Asked":
             stop = next((mark + 1 for mark in self.marks if mark >= first), first + count)
             packets = map(self.packet, range(first, min(first + count, stop)))
@@ -154,6 +199,19 @@ class Room:
             packets = [self.host.floor_packet() if kind == "Below" else self.host.ack(seat.who)]
         for packet in packets:
             self.channel.send(seat.who, False, packet)
+
+    def note_ask(self, seat, kind, first):
+        """What a viewer in a window asks for says how far it is, and whether it needs a snapshot. It gets pieces as fast
+        as it asks."""
+        if kind == "Asked":
+            seat.number, seat.joins = first - 1, None
+        elif kind == "Below":
+            if not seat.joins:
+                self.give(seat)
+            self.send_pieces(seat)
+
+    def to_far(self, seat, datagram):
+        seat.send(datagram)
 
     def to_viewer(self, seat, datagram):
         if datagram[5] == wire.PIECE:
@@ -170,10 +228,11 @@ class Room:
                 self.mark(seat)
 
     def give(self, seat):
-        """The newest snapshot of any viewer is sent to this one, in pieces."""
-        seat.viewer.forget()
+        """The newest snapshot is sent to this viewer, in pieces."""
+        if not seat.far:
+            seat.viewer.forget()
         number, snapshot = self.newest
-        pieces = seat.viewer.pieces(snapshot)
+        pieces = self.first.pieces(snapshot)
         batch = min(len(pieces), max(PIECES, len(pieces) // ROUND))
         seat.joins = Joining(number, itertools.cycle(pieces), batch)
 
@@ -190,7 +249,7 @@ class Room:
             self.mark(seat)
 
     def news(self, who):
-        """What a window has to be told of its viewer, with its kind, if it runs."""
+        """What a window has to be told of its viewer, with its kind, if that runs here."""
         try:
             return self.seats[who].news() if self.seats[who].viewer else None
         except x3d.Fault:

@@ -10,6 +10,7 @@ import tempfile
 from pathlib import Path
 
 import browser
+from library import WASM
 
 HERE = Path(__file__).resolve().parent
 ROOMS = HERE.parent / "examples/rooms"
@@ -36,6 +37,18 @@ def scene_file(text, name="scene.x3dv"):
         file = Path(folder, name)
         file.write_text(text)
         yield file
+
+
+@contextlib.contextmanager
+def library_for_windows():
+    """The folder that says that windows may hold their viewers: where the library isn't built for them, an empty one. A
+    browser doesn't load that, but windows without one need none."""
+    if (WASM / "x3d.wasm").exists():
+        yield str(WASM)
+        return
+    with tempfile.TemporaryDirectory() as folder:
+        Path(folder, "x3d.wasm").write_bytes(b"")
+        yield folder
 
 
 class Served:
@@ -93,9 +106,12 @@ class Client:
         """The next event of one of these kinds; those before it are kept in `events`."""
         while True:
             told = json.loads(self.socket.receive())
-            self.events.append(told)
+            self.note(told)
             if told["kind"] in kinds:
                 return told
+
+    def note(self, event):
+        self.events.append(event)
 
     def ask(self, command, **body):
         """The answer to a command."""
@@ -127,9 +143,16 @@ class Windows:
         with contextlib.ExitStack() as stack:
             self.served = stack.enter_context(Served(self.job, more=self.more))
             self.browser = stack.enter_context(contextlib.closing(browser.Browser(self.size)))
-            self.pages = [self.open(k) for k in range(self.count)]
+            self.pages = []
+            for number in range(self.count):
+                self.pages.append(self.open(number))
+                # People are listed, and have seats, in the order in which they come in.
+                self.pages[-1].wait("window.room && room.state.id")
+            size = ",".join(map(str, self.size))
             for page in self.pages:
-                page.wait("window.room && room.drawn.content && room.state.status && room.stage.draws")
+                page.wait("room.drawn.content && room.state.status && room.stage.draws")
+                # Else a place is looked for where it was before the window had its size.
+                page.wait(f"room.stage.size.join() === '{size}'")
                 page.wait("room.state.replay || room.state.status.equal_at > 5")
             self.ends = stack.pop_all()
         return self
@@ -143,7 +166,10 @@ class Windows:
         page.call("Emulation.setDeviceMetricsOverride", **given)
         return page
 
-    def __exit__(self, *_):
+    def __exit__(self, kind, fault, _):
+        if isinstance(fault, AssertionError):
+            for page in self.pages:
+                print(f"\n  {page.value('window.room ? room.told() : document.URL')}", end="", flush=True)
         self.ends.close()
 
     def shoot(self, name):

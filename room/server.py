@@ -2,6 +2,7 @@
 """Shows shared worlds in browser windows, each with a viewer of its own."""
 import argparse
 import asyncio
+import ipaddress
 import logging
 import re
 import secrets
@@ -17,7 +18,7 @@ try:
 except ImportError:
     sys.exit("room: there is no aiohttp: Debian's package python3-aiohttp has it")
 try:
-    from library import x3d
+    from library import WASM, x3d
 except (ImportError, OSError) as missing:
     sys.exit(f"room: {missing}")
 from explain import Unshown
@@ -53,6 +54,9 @@ def arguments():
         help=f"seats that one address may take ({EACH}); who comes beyond them watches")
     add("--proxy", action="store_true",
         help="a proxy stands before this server: believe its X-Forwarded-For and X-Forwarded-Proto")
+    add("--wasm", type=Path, default=WASM, metavar="FOLDER",
+        help="the package of `make wasm`, by which windows hold their viewers (out/wasm, or what X3D_WASM names); "
+        "where there is none they run in the server")
     add("--three", type=Path, default=Path(THREE), metavar="FILE", help=f"three.js, r111 ({THREE})")
     return words
 
@@ -79,6 +83,14 @@ def reached_at(given, addresses):
     return f"[{first}]" if ":" in first else first
 
 
+def is_here_alone(address):
+    """Whether an address is reached from this machine alone."""
+    try:
+        return ipaddress.ip_address(address).is_loopback
+    except ValueError:
+        return address == "localhost"
+
+
 def is_no_request(record):
     """Whether a line of the log says that a client sent what is no HTTP: that is no fault of the server."""
     return bool(record.exc_info) and isinstance(record.exc_info[1], HttpProcessingError)
@@ -99,6 +111,8 @@ async def serve(given):
     for name in services:
         print(f"{place}{name}/", flush=True)
         print(f"  trainer: {place}{name}/#trainer={given.trainer}", flush=True)
+    if sys.stderr.isatty() and not given.proxy and all(map(is_here_alone, addresses)):
+        print("room: for this machine alone; --address 0.0.0.0 lets others in", file=sys.stderr, flush=True)
     clocks = [asyncio.ensure_future(service.run()) for service in services.values()]
     await asyncio.wait([asyncio.ensure_future(ended.wait()), *clocks], return_when=asyncio.FIRST_COMPLETED)
     failed = next((clock.exception() for clock in clocks if clock.done()), None)
@@ -117,6 +131,8 @@ def main():
         words.error("a FILE, or --replay FILE")
     if not given.three.exists():
         sys.exit(f"room: there is no {given.three}: Debian's package libjs-three has it")
+    if not (given.wasm / "x3d.wasm").exists():
+        given.wasm = None
     logging.getLogger("aiohttp.server").addFilter(lambda record: not is_no_request(record))
     try:
         asyncio.run(serve(given))

@@ -11,7 +11,7 @@ from channel import Channel
 from explain import Unshown, read_scene_file
 from people import COLORS, Window, clean, same
 from player import Player
-from record import Record
+from record import BOOT, Record
 from room import VIEWERS, Room
 from store import Store
 from viewpoints import orientations_of
@@ -62,6 +62,8 @@ class Service:
         """A room without windows, and without a world so far."""
         self.name, self.file, self.limits = name, Path(file), limits
         self.windows, self.ids, self.fault, self.runs = {}, itertools.count(1), None, 1
+        # Whether datagrams of windows wait to be carried.
+        self.carries = False
 
     def open(self, text, kept=None):
         """Opens the world of a scene, as it was kept or before any input."""
@@ -93,6 +95,7 @@ class Service:
         """One turn of the room, and what windows are to be told."""
         self.room.turn(now)
         self.record.follow(self.room.host, self.room.read, self.person)
+        self.renew()
         told = self.tell_log()
         for window in [*self.windows.values()]:
             if window.gone is not None:
@@ -110,8 +113,14 @@ class Service:
         if self.store and turn % SAVE == SAVE - 1 and self.windows:
             self.store.save(self.record)
 
+    def renew(self):
+        """Where no viewer runs here, who comes late joins by a snapshot of the record."""
+        room, world = self.room, self.record.world
+        if room.marks and room.marks[-1] > room.newest[0] and not room.near():
+            room.renew(world.applied(), world.snapshot(BOOT))
+
     def news(self, window):
-        """What a window has to be told of the world that it shows."""
+        """What a window has to be told of the world that it shows, if its viewer doesn't run there."""
         if window.player:
             news = window.player.turn(1_000_000 // RATE)
             if news:
@@ -150,16 +159,16 @@ class Service:
 
     def restart(self, text, why):
         """A new run, with the windows that there are in the seats that they have."""
-        channel, who = self.channel(), sorted(each.who for each in self.windows.values() if each.who is not None)
+        channel = self.channel()
         self.open(text)
         self.runs += 1
         self.room.channel = Channel(channel["loss"], channel["repeat"], channel["reorder"])
-        for each in who:
-            self.room.take_seat(each)
         for window in self.windows.values():
             window.told = None
             self.end_replay(window)
             self.tell(window, "run", {"run": self.runs, "why": why, "orientations": self.orientations})
+            if window.who is not None:
+                self.room.take_seat(window.who, *self.held_by(window))
         self.record.say(-1, "", "", why)
 
     # Windows.
@@ -210,7 +219,7 @@ class Service:
             window.outbox.close(ELSEWHERE)
             window.outbox, window.gone, window.told = outbox, None, None
             if window.who is not None:
-                self.room.seats[window.who].told = None
+                self.come_back(window, body)
             return window
         here = [each for each in self.windows.values() if each.address == address]
         if len(here) >= 2 * self.limits.each or len(self.windows) >= VIEWERS + SPECTATORS:
@@ -218,9 +227,46 @@ class Service:
         window = self.newcomer(address, outbox, body)
         seated = sum(each.who is not None for each in here)
         if seated < self.limits.each and not body.get("watch"):
-            window.who = self.room.join()
+            window.holds = self.may_hold(body)
+            window.who = self.room.join(*self.held_by(window))
         self.windows[window.token] = window
         return window
+
+    def may_hold(self, body):
+        """Whether the window that comes in holds its viewer itself."""
+        return self.limits.wasm is not None and body.get("holds") is True
+
+    def held_by(self, window):
+        """What a seat needs of a window that holds its viewer."""
+        if not window.holds:
+            return ()
+        send = lambda datagram: window.outbox.carry(datagram)
+        return send, functools.partial(self.tell, window), window.points.takes
+
+    def come_back(self, window, body):
+        """A window has a new connection: its seat goes on where its viewer does."""
+        seat, window.holds = self.room.seats[window.who], self.may_hold(body)
+        if window.holds != seat.far:
+            self.room.leave(window.who)
+            self.room.take_seat(window.who, *self.held_by(window))
+        elif not seat.far:
+            seat.told = None
+        elif not seat.runs:
+            seat.tell("stop", {})
+        elif (body.get("life"), body.get("boot")) != (self.room.life, seat.boot):
+            self.room.start(window.who)
+
+    def receive(self, window, datagram):
+        """A datagram of the viewer that a window holds. What comes too fast is lost."""
+        if window.datagrams.takes():
+            self.room.receive(window.who, datagram)
+        if not self.carries:
+            self.carries = True
+            asyncio.get_running_loop().call_soon(self.carry)
+
+    def carry(self):
+        self.carries = False
+        self.room.carry()
 
     def newcomer(self, address, outbox, body):
         """A window with its person."""
@@ -277,7 +323,7 @@ class Service:
         if window.player:
             window.player.close()
             window.player, window.told = None, None
-            if window.who is not None:
+            if self.room and window.who in self.room.seats:
                 self.room.seats[window.who].told = None
 
     def close(self):

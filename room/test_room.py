@@ -19,15 +19,21 @@ except ImportError:
     sys.exit(0)
 import browser
 import tests_examples
+import tests_held
 import tests_people
 import tests_room
 import tests_server
+import tests_viewers
 import tests_windows
 from served import Skipped
 
 QUICK, BUDGET, END = "--quick" in sys.argv, 40, 55
 # Those of --quick: all of the room without a server before them, and then these, in turn.
 GATE = (
+    "viewers_in_windows_are_equal_over_a_bad_channel",
+    "a_viewer_in_a_window_is_stopped_and_restarts",
+    "a_late_window_joins_its_viewer_by_pieces",
+    "a_windows_datagrams_are_its_own_viewers",
     "what_isnt_its_own_is_refused",
     "commands_that_have_no_sense_are_refused",
     "a_click_in_one_window_opens_the_door_in_both",
@@ -69,8 +75,8 @@ def outcome(name, test, begun):
 
 def main():
     core = tests_of(tests_room)
-    tests = {**core, **tests_of(tests_server), **tests_of(tests_windows)}
-    tests |= {**tests_of(tests_people), **tests_of(tests_examples)}
+    tests = {**core, **tests_of(tests_held), **tests_of(tests_server), **tests_of(tests_windows)}
+    tests |= {**tests_of(tests_viewers), **tests_of(tests_people), **tests_of(tests_examples)}
     names = [word for word in sys.argv[1:] if word != "--quick"]
     if unknown := [name for name in names if name not in tests]:
         sys.exit(f"room: there is no test {unknown[0]}, of " + " ".join(tests))

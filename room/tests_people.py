@@ -1,5 +1,6 @@
 """Tests of windows of a browser: people, replay, and what is said of a faulty scene."""
 from served import BUTTON, LATER, Windows, scene, scene_file, spot
+from tests_windows import slow_door
 
 
 def test_people_have_names_and_pointers():
@@ -9,7 +10,8 @@ def test_people_have_names_and_pointers():
         ben.wait(f"{chips} === 'Ben (you),Ana,Chloe'")
         ana.mouse("mouseMoved", spot(ana, [1.4, 1.05, 0.1]))
         tag = "[...document.querySelectorAll('.tag')].find((each) => each.textContent === 'Ana' && !each.hidden)"
-        ben.wait(tag, LATER)
+        # An element itself would come here as an empty object.
+        ben.wait(f"Boolean({tag})", LATER)
         # The tip of its arrow is where she points, and the name beside it.
         x, y = spot(ben, [1.4, 1.05, 0.1])
         box = ben.value(f"(({{left, top}}) => [left, top])({tag}.lastChild.getBoundingClientRect())")
@@ -27,7 +29,7 @@ def test_people_have_names_and_pointers():
 
 
 def test_the_trainer_replays_and_begins_again():
-    with Windows() as windows:
+    with slow_door() as job, Windows(2, job) as windows:
         trainer, one = windows.pages
         trainer.click(spot(trainer, BUTTON))
         one.wait("room.placeOf('Door')[0] > 1", LATER)

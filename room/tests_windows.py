@@ -6,7 +6,8 @@ import statistics
 import time
 
 import browser
-from served import BUTTON, LATER, PANEL, Served, Windows, scene, scene_file, spot, wait_equal
+from crowd import Crowd
+from served import BUTTON, LATER, PANEL, Windows, library_for_windows, scene, scene_file, spot, wait_equal
 from tests_room import TWICE
 
 SECONDS = int(os.environ.get("SECONDS", "60"))
@@ -48,8 +49,8 @@ NOTE = """(() => {
 })()"""
 
 
-def click_to_change(windows):
-    """Clicks in the last window; seconds until the door moves, of each window."""
+def click_to_change(windows, crowd=None):
+    """Clicks in the last window; seconds until the door moves, of each window, and of those of a crowd."""
     last = windows.pages[-1]
     for page in windows.pages:
         page.value(NOTE)
@@ -58,6 +59,7 @@ def click_to_change(windows):
         page.wait("window.moving")
     pressed = last.value("window.pressed")
     took = [(page.value("window.moving") - pressed) / 1000 for page in windows.pages]
+    took += [at - pressed / 1000 for at in (crowd.moved() if crowd else ())]
     print(f"{len(took)} windows: median {statistics.median(took):.2f} s, worst {max(took):.2f} s", end=", ")
     if browser.busy() > 1:
         print(f"where {browser.busy():.1f} times as much wants to run as can", end=", ")
@@ -191,6 +193,19 @@ def test_windows_show_one_world(count=16):
         windows.shoot("sixteen")
 
 
+def test_sixty_four_windows_show_one_world():
+    """Two of a browser, and others that hold their viewers without one."""
+    with slow_door() as job, library_for_windows() as folder:
+        more = "--each", "64", "--wasm", folder
+        with Windows(2, job, more=more) as windows, Crowd(windows.served, 62) as crowd:
+            windows.pages[0].wait("room.state.status.viewers.length === 64")
+            wait_equal(windows.pages)
+            click_to_change(windows, crowd)
+            wait_equal(windows.pages)
+            badge = windows.pages[0].value("document.getElementById('badge').textContent")
+            assert badge == "All 64 viewers agree", badge
+
+
 # Whether the handle of the panel's slider stands so far along its groove.
 HANDLE_AT = """(([x, y, z]) => Math.abs(x - {}) < 0.03 && !y && !z)(room.value('Handle', 'translation'))"""
 
@@ -263,7 +278,7 @@ def test_the_keyboard_reaches_all():
                 page.press("ArrowLeft")
                 line = page.value("document.getElementById('line').textContent")
                 assert re.match(r"\d+ [\d.]+ Door.translation ", line), line
-        wanted = "views home hand rename share past reset done inside lanes loss repeat reorder".split()
+        wanted = "home hand rename share past reset done inside lanes loss repeat reorder".split()
         assert [each for each in reached if each in wanted][: len(wanted)] == wanted, reached
 
 
@@ -313,37 +328,3 @@ def test_random_clicks_over_a_bad_network_end_equal():
         pressed = one.value("document.querySelectorAll('#log li').length")
         assert lost > 0 and pressed > 0, (lost, pressed)
         print(f"{clicks} clicks, {pressed} presses, {lost} datagrams lost, network {ran}, equal at {last}", end=", ")
-
-
-def test_a_killed_viewer_comes_back():
-    """The trainer stops it; its picture is grey and says what to do."""
-    with Windows() as windows:
-        trainer, one = windows.pages
-        trainer.value("document.getElementById('inside').open = true")
-        trainer.wait("document.querySelectorAll('#viewers .kill').length === 2")
-        trainer.value("document.querySelectorAll('#viewers .kill')[1].click()")
-        one.wait("!document.getElementById('stopped').hidden && document.body.classList.contains('grey')")
-        assert trainer.value("document.getElementById('stopped').hidden")
-        trainer.value("document.getElementById('inside').open = false")
-        trainer.click(spot(trainer, BUTTON))
-        trainer.wait("room.placeOf('Door')[0] > 0.01", LATER)
-        pressed = "room.value('Motor', 'startTime')"
-        stands, start = one.value("room.placeOf('Door')[0]"), one.value(pressed)
-        assert abs(stands) < 1e-6 and not start, (stands, start)
-        one.value("document.getElementById('start').click()")
-        one.wait("room.state.status.viewers.every((viewer) => viewer.runs)")
-        one.wait(f"{pressed} === {trainer.value(pressed)}")
-        one.wait("document.getElementById('stopped').hidden && !document.body.classList.contains('grey')")
-        wait_equal([one])
-
-
-def test_it_says_when_the_server_is_gone():
-    with Windows() as windows:
-        windows.served.stop()
-        for page in windows.pages:
-            page.wait("!document.getElementById('gone').hidden", LATER)
-        # Another server at the same address: the windows come back.
-        with Served(port=windows.served.port):
-            for page in windows.pages:
-                page.wait("document.getElementById('gone').hidden && room.state.status.viewers.length === 2")
-                page.wait("room.state.status.equal_at > 5")

@@ -1,6 +1,8 @@
 """The room over HTTP, by aiohttp: one port for pages, events and commands. A window speaks by a WebSocket: it sends
-commands as JSON, one a message, and gets an answer to each, and the events of its room."""
+commands as JSON, one a message, and gets an answer to each, and the events of its room. Where it holds its viewer
+itself, binary messages are datagrams between that and the host."""
 import asyncio
+import gzip
 import io
 import ipaddress
 import json
@@ -12,9 +14,11 @@ from urllib.parse import urlsplit
 from aiohttp import WSCloseCode, WSMsgType, web
 
 from commands import COMMANDS
+from files import Files
 from library import x3d
+from outbox import Outbox
 from people import same
-from service import WAITING, Wrong
+from service import Wrong
 
 HERE = Path(__file__).resolve().parent
 # Bytes of a message, seconds until a window has come in, and between looks whether it is still there.
@@ -22,39 +26,10 @@ MESSAGE, ENTERING, HEARTBEAT = 1024, 10, 20
 # How many wrong passwords an address may send in a minute.
 GUESSES = 10
 POLICY = (
-    "default-src 'none'; script-src 'self'; style-src 'self'; img-src 'self' data:; base-uri 'none'; "
+    "default-src 'none'; script-src 'self' 'wasm-unsafe-eval'; style-src 'self'; img-src 'self' data:; base-uri 'none'; "
     "form-action 'none'; frame-ancestors 'none'; connect-src 'self' ws://{host} wss://{host}"
 )
 SAFE = {"Cache-Control": "no-store", "X-Content-Type-Options": "nosniff", "Referrer-Policy": "no-referrer"}
-SCRIPT, TEXT = "text/javascript; charset=utf-8", "text/html; charset=utf-8"
-
-
-class Outbox:
-    """What a window is to be sent. Of what waits there is so much at most."""
-
-    def __init__(self):
-        self.waiting, self.code = asyncio.Queue(WAITING), WSCloseCode.GOING_AWAY
-
-    def put(self, told):
-        """Puts a message; false where too many wait."""
-        try:
-            self.waiting.put_nowait(told)
-        except asyncio.QueueFull:
-            self.close()
-            return False
-        return True
-
-    def close(self, code=WSCloseCode.GOING_AWAY):
-        """Nothing more is sent, and the connection ends."""
-        self.code = code
-        while not self.waiting.empty():
-            self.waiting.get_nowait()
-        self.waiting.put_nowait(None)
-
-    async def send_to(self, connection):
-        while (told := await self.waiting.get()) is not None:
-            await connection.send_str(told)
-        await connection.close(code=self.code)
 
 
 class Site:
@@ -62,9 +37,7 @@ class Site:
 
     def __init__(self, services, options, three):
         self.services, self.options, self.guesses = services, options, {}
-        self.files = {f"{path.name}": (path, SCRIPT) for path in sorted(HERE.glob("page/*.js"))}
-        self.files["page.css"] = HERE / "page/page.css", "text/css; charset=utf-8"
-        self.files["three.js"] = three, SCRIPT
+        self.files = Files(HERE / "page", three, options.wasm)
         named = {"localhost", socket.gethostname().lower(), *(each.lower() for each in options.name)}
         self.names = named | {f"{name}.local" for name in named if "." not in name}
 
@@ -73,6 +46,7 @@ class Site:
         app.on_response_prepare.append(self.prepare)
         app.router.add_get("/", self.index)
         app.router.add_get("/static/{file}", self.file)
+        app.router.add_get("/static/x3d/{library}", self.file)
         app.router.add_get("/{room}", self.beside)
         app.router.add_get("/{room}/", self.page)
         app.router.add_get("/{room}/socket", self.socket)
@@ -96,8 +70,11 @@ class Site:
             return web.json_response({"refused": refused.reason}, status=refused.status)
 
     async def prepare(self, request, response):
-        """Each answer ends its connection, so that no one keeps one that does nothing."""
+        """Each answer ends its connection, so that no one keeps one that does nothing. What has a tag may be kept, and
+        is asked for again."""
         response.headers.update(SAFE)
+        if "ETag" in response.headers:
+            response.headers["Cache-Control"] = "no-cache"
         response.headers["Content-Security-Policy"] = POLICY.format(host=request.host)
         if response.status != 101:
             response.force_close()
@@ -138,16 +115,25 @@ class Site:
         raise web.HTTPFound(f"{self.service(request).name}/")
 
     async def page(self, request):
+        """The page, which is told whether there is a library to hold its viewer."""
         self.service(request)
-        return web.Response(body=(HERE / "page/page.html").read_bytes(), headers={"Content-Type": TEXT})
+        page = (HERE / "page/page.html").read_text()
+        if self.options.wasm:
+            page = page.replace("<body>", '<body data-library="x3d">')
+        return web.Response(text=page, content_type="text/html")
 
     async def file(self, request):
-        file, kind = self.files.get(request.match_info["file"], (None, None))
-        if not file:
+        name = request.match_info.get("file") or f"x3d/{request.match_info['library']}"
+        found = self.files.find(name)
+        if not found:
             raise Wrong(404, "no such path")
-        answer = web.Response(body=file.read_bytes(), headers={"Content-Type": kind})
-        answer.enable_compression()
-        return answer
+        kind, tag, packed = found
+        if request.headers.get("If-None-Match") == tag:
+            return web.Response(status=304, headers={"ETag": tag})
+        headers = {"Content-Type": kind, "ETag": tag, "Vary": "Accept-Encoding"}
+        if "gzip" in request.headers.get("Accept-Encoding", ""):
+            return web.Response(body=packed, headers={**headers, "Content-Encoding": "gzip"})
+        return web.Response(body=gzip.decompress(packed), headers=headers)
 
     async def job(self, request):
         """What happened, as a job, for a window of the room: its token stands in a header."""
@@ -183,7 +169,7 @@ class Site:
         self.options.connected(request.transport)
         window = outbox = None
         try:
-            window, outbox = await self.enter(service, connection, self.address(request))
+            window, outbox = await self.enter(service, connection, request.transport, self.address(request))
             if window:
                 await self.converse(service, window, outbox, connection)
         except (asyncio.TimeoutError, ConnectionError):
@@ -193,14 +179,14 @@ class Site:
                 service.away(window, outbox, connection.close_code in (1000, 1001))
         return connection
 
-    async def enter(self, service, connection, address):
+    async def enter(self, service, connection, transport, address):
         """The window of who comes in; none where it is refused, and was told so."""
         try:
             body = self.read(await connection.receive(timeout=ENTERING))
             if body.get("do") != "enter":
                 raise Wrong(400, "a window comes in first")
             self.check_password(body.get("password"), address)
-            outbox = Outbox()
+            outbox = Outbox(transport)
             window = service.enter(address, outbox, body)
         except (Wrong, x3d.Fault, MemoryError) as wrong:
             status = wrong.status if isinstance(wrong, Wrong) else 409
@@ -226,7 +212,9 @@ class Site:
         sending = asyncio.ensure_future(outbox.send_to(connection))
         try:
             async for received in connection:
-                if not outbox.put(json.dumps(self.answer(service, window, received))):
+                if received.type is WSMsgType.BINARY and window.holds:
+                    service.receive(window, received.data)
+                elif not outbox.put(json.dumps(self.answer(service, window, received))):
                     break
         finally:
             sending.cancel()

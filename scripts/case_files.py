@@ -6,7 +6,7 @@ import sys
 from pathlib import Path
 
 TOP = Path(__file__).resolve().parent.parent
-# A name, comments, words, lines of input; what is wanted, and lines of output.
+# A name, comments, words, lines of input; what is wanted, and lines of output or of standard error.
 CASE = re.compile(
     rb"== (.+)\n(?:#.*\n)*\$ ?(.*)\n((?:(?!-> |== ).*\n)*)" rb"-> (.+)\n((?:(?!== ).*\n)*)"
 )
@@ -67,14 +67,14 @@ def cases(file):
         words = shlex.split(case[2].decode())
         given, output = b"\n".join(lines(case[3])), b"".join(line + b"\n" for line in output)
         printed, refused = (0, output, b""), REFUSED.fullmatch(case[4])
-        fault = refused and (int(refused[2]), b"", refused[3] + b"\n")
+        fault = refused and (int(refused[2]), b"", refused[3] + b"\n" + (b"" if refused[1] else output))
         if case[4] == b"prints":
             runs = [(words, given, printed)]
         elif case[4] == b"prints, and the same of that":
             runs = [(words, given, printed), (words, again(words, output), printed)]
         elif refused and refused[1]:
             runs = [(words, given, printed), (["check"], output, fault)]
-        elif refused and not output:
+        elif refused:
             runs = [(words, given, fault)]
         else:
             stop(f"{file.name}, line {line}: what is wanted of this case?")

@@ -18,6 +18,8 @@ export const memory = {
   get color() { return read(localStorage, "room color"); },
   set color(color) { keep(localStorage, "room color", color); },
   get named() { return given.has("name"); },
+  // Whether the page holds its viewer itself; of that the boot, and which life of the room it is of.
+  holds: false, boot: 0, life: null,
 };
 let password = given.get("password") || undefined;
 
@@ -48,7 +50,16 @@ export function ask(command, body = {}) {
   return new Promise((resolve) => { waiting.set(id, resolve); });
 }
 
+/* Sends the host a datagram. One that can't be sent is lost. */
+export function sendDatagram(datagram) {
+  if (socket && socket.readyState === WebSocket.OPEN) socket.send(datagram);
+}
+
 function take(event) {
+  if (event.data instanceof ArrayBuffer) {
+    happen("datagram", new Uint8Array(event.data));
+    return;
+  }
   const told = JSON.parse(event.data);
   if (told.kind !== "answer") {
     happen(told.kind, told);
@@ -65,11 +76,12 @@ export function connect() {
   address.protocol = address.protocol === "https:" ? "wss:" : "ws:";
   address.hash = "";
   socket = new WebSocket(address);
+  socket.binaryType = "arraybuffer";
   socket.onopen = () => {
-    const { token, name, color } = memory;
+    const { token, name, color, holds, boot, life } = memory;
     socket.send(JSON.stringify({
       do: "enter", token, name, color, password, trainer: given.get("trainer") || undefined,
-      watch: given.has("watch") || undefined,
+      watch: given.has("watch") || undefined, holds, boot, life,
     }));
     happen("open", {});
   };

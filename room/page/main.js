@@ -5,6 +5,7 @@ import { byId, element, field, state } from "./core.js";
 import { beginInside } from "./inside.js";
 import { beginLanes, marks } from "./lanes.js";
 import { connect, on } from "./link.js";
+import { beginOwn, loadOwn, own } from "./own.js";
 import { beginPeople } from "./people.js";
 import { pointer } from "./pointer.js";
 import { endHints, hint, namesOf, placeHints, sensorsAt } from "./pressing.js";
@@ -15,7 +16,8 @@ import { forgetPoints, pointsAt, showPoints } from "./tags.js";
 
 function showViewpoints() {
   const all = viewpoints();
-  byId("views").hidden = !all.length;
+  // Where there is one, "Reset view" goes to it.
+  byId("views").hidden = all.length < 2;
   byId("views").replaceChildren(...all.map(({ node }, k) => {
     const option = element("option", "", field(node, "description", "") || `view ${k + 1}`);
     option.value = k;
@@ -51,14 +53,18 @@ stage.before.push(() => placeHints(stage.view.getBoundingClientRect()));
 
 /* What the tests look at. */
 window.room = {
-  state, drawn, stage, pointer, camera, pointsAt, namesOf, sensorsAt,
+  state, drawn, stage, pointer, camera, own, pointsAt, namesOf, sensorsAt,
   // What a test that failed tells: how far this window is, and what became of its pointers.
   told: () => JSON.stringify({
     n: state.n, numbered: state.status && state.status.numbered, drawn: stage.draws, gone: !byId("gone").hidden,
     answers: pointer.answers, waits: pointer.waits.length, down: pointer.down, who: state.who,
   }),
   marks: () => marks,
-  value: (label, name) => field(state.nodes[state.labels.get(label)], name),
+  // What a field holds, or what an output has sent last that holds nothing.
+  value(label, name) {
+    const lane = state.lanes.get(`${label}.${name}`), held = field(state.nodes[state.labels.get(label)], name);
+    return held === undefined && lane && lane.length ? lane[lane.length - 1].value : held;
+  },
   placeOf(label) {
     refresh();
     const thing = (drawn.things.get(state.labels.get(label)) || [])[0];
@@ -76,6 +82,6 @@ try {
 } catch (error) {
   byId("loading").textContent = "This browser draws no WebGL: the scene isn't shown.";
 }
-for (const begin of [beginAlerts, beginInside, beginLanes, beginPeople, beginReplay]) begin();
+for (const begin of [beginAlerts, beginInside, beginLanes, beginOwn, beginPeople, beginReplay]) begin();
 frame();
-connect();
+loadOwn().then(connect);

@@ -103,6 +103,7 @@ function say(entry) {
 function invite() {
   const dialog = byId("invite"), link = new URL(location.pathname, location.href);
   byId("link").value = link.href;
+  byId("only-here").hidden = !/^(localhost|127\..*|\[::1\])$/.test(location.hostname);
   const code = byId("code");
   code.hidden = false;
   code.onerror = () => { code.hidden = true; };

@@ -2,7 +2,8 @@
    a move so often at most, a press at once. Elsewhere it moves the camera. */
 import { choose, orbit, pan, rayAt, viewpoints, zoom } from "./camera.js";
 import { byId, pause, state, within } from "./core.js";
-import { ask } from "./link.js";
+import { ask, memory } from "./link.js";
+import { offerOwn } from "./own.js";
 import { endHints, namesOf, ring, sensorsAt, showTip } from "./pressing.js";
 import { drawn } from "./scene.js";
 import { fit, stage } from "./stage.js";
@@ -32,7 +33,8 @@ async function offer(moves) {
   if (pointer.busy) return;
   pointer.busy = true;
   while (waits.length) {
-    const first = waits.shift(), { status } = await ask("point", first.body);
+    const first = waits.shift();
+    const status = memory.holds ? offerOwn(first.body) : (await ask("point", first.body)).status;
     pointer.answers[status] = (pointer.answers[status] || 0) + 1;
     if (status === 429) {
       waits.unshift(first);

@@ -1,6 +1,6 @@
 /* What happened: a slider over time with marks where people pressed, played at a speed, from any input on. */
 import { byId, element, state, write } from "./core.js";
-import { ask, download, on } from "./link.js";
+import { ask, download, happen, on } from "./link.js";
 import { forgetPoints } from "./tags.js";
 
 const marks = { log: [], of: 0 };
@@ -35,6 +35,7 @@ function leave() {
   byId("replay").hidden = true;
   document.body.classList.remove("replays");
   forgetPoints();
+  happen("live", {});
 }
 
 /* A mark for each thing that someone did, in the color of who did it. */

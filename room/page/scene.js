@@ -1,6 +1,7 @@
 /* What three.js draws of the world: `things` are those of each node, `users` the Shapes that a part belongs to. */
 import { addToBatch, fillBatches, forgetBatches, takeFromBatch } from "./batches.js";
 import { color, field, listed, nodeIn, state, valueOf, vector } from "./core.js";
+import { LINE, linesOf } from "./names.js";
 import { forgetShapes, geometryOf, isShared, materialOf, textMesh } from "./shapes.js";
 
 const STOPS = 120;
@@ -157,23 +158,20 @@ export function showScene(scene) {
   drawn.dirty = true;
 }
 
-/* A line of the trace, as `3 3 Door.translation 1 0 0`: it goes to its lane. */
+/* A line of the trace goes to its lane. No field is set by it. */
 function showLine(line) {
-  const [, number, key, label, name, text] = /^(\d+) \S+ ((\S+)\.(\S+)) (.*)$/s.exec(line);
-  const value = valueOf(text);
-  // What is sent and never held is known by its lines alone.
-  state.nodes[state.labels.get(label)].fields[name] = value;
+  const [, number, key, , , text] = LINE.exec(line), value = valueOf(text);
   if (!state.lanes.has(key)) state.lanes.set(key, []);
   const lane = state.lanes.get(key);
   lane.push({ number: Number(number), value, line });
   if (lane.length > STOPS) lane.shift();
 }
 
-/* What changed: lines of the trace, in whose strings a line may go on, and what fields hold now. What is drawn is
-   what they hold: an output that has sent at a timestamp still sets its field, and sends no second line. */
+/* What changed: lines of the trace, and what fields hold now. What is drawn is what they hold: an output that has sent
+   at a timestamp still sets its field, and sends no second line. */
 export function showNews(news) {
   state.n = news.n;
-  for (const line of news.trace.match(/(?:[^"\n]|"(?:[^"\\]|\\.)*")+/gs) || []) showLine(line);
+  for (const line of linesOf(news.trace)) showLine(line);
   for (const [number, name, text] of news.now) {
     state.nodes[number].fields[name] = valueOf(text);
     for (const user of drawn.users.get(number) || [number]) if (KINDS[state.nodes[user].kind]) drawn.stale.add(user);

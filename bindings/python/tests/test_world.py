@@ -25,6 +25,17 @@ DEF Count Script {
   outputOnly SFInt32 count
 }
 """
+# Two routes set one field: at one second to `0.5 0 0`, and then to `0 2.5 0`.
+TWICE = """#X3D V3.0 utf8
+DEF Motor TimeSensor { cycleInterval 2 }
+DEF Slide PositionInterpolator { key [ 0, 1 ] keyValue [ 0 0 0, 1 0 0 ] }
+DEF Lift PositionInterpolator { key [ 0, 1 ] keyValue [ 0 0 0, 0 5 0 ] }
+DEF Door Transform {}
+ROUTE Motor.fraction_changed TO Slide.set_fraction
+ROUTE Motor.fraction_changed TO Lift.set_fraction
+ROUTE Slide.value_changed TO Door.translation
+ROUTE Lift.value_changed TO Door.translation
+"""
 AIM = Aim((0, 0, 10_000_000), (0, 0, -1_000_000))
 
 
@@ -56,6 +67,16 @@ class Worlds(unittest.TestCase):
             moved = [change for change in world.changes(4) if change.node == door]
             self.assertEqual(moved, [(4, 11_000_002, door, translation, "0.5 0 0")])
             self.assertIn("4 11.000002 Door.translation 0.5 0 0\n", world.trace(4))
+
+    def test_a_line_may_have_another_value_than_its_field(self):
+        with World(TWICE) as world:
+            world.clock(1, 1_000_000)
+            door = node(world, "Door")
+            translation = world.field_named(door, "translation")
+            lines = [change.value for change in world.changes(1) if change.node == door]
+            self.assertEqual(lines, ["0.5 0 0"])
+            self.assertEqual(world.value(door, translation), "0 2.5 0")
+            self.assertEqual(world.numbers(door, translation), [0, 2_500_000, 0])
 
     def test_a_ray_meets_the_door_without_an_input(self):
         world = World(DOOR)

@@ -5,7 +5,7 @@
     with World(scene_text) as world:
         world.clock(1, 10_000_000)
         for change in world.changes(1):
-            print(world.label(change.node), change.value)
+            print(world.label(change.node), "sent", change.value)
 
 or a shared world, whose datagrams the program carries between them:
 

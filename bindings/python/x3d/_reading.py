@@ -26,8 +26,8 @@ class Meeting(NamedTuple):
 
 
 class Change(NamedTuple):
-    """An event that was sent: what a node's field became, at which input, at which time in
-    microseconds."""
+    """An event that was sent: which value a node's field sent, at which input, at which time in
+    microseconds. The field may have been set again after that: read its value to draw it."""
 
     input: int
     time: int

@@ -1,6 +1,7 @@
 //! What inputs changed, line by line.
 
-/// An event that was sent: what a node's field became, at which input.
+/// An event that was sent: which value a node's field sent, at which input. The field may have been
+/// set again after that: read its value to draw it.
 #[derive(Clone, Copy, Debug, PartialEq, Eq)]
 pub struct Change<'a> {
     pub input: u32,

@@ -10,7 +10,10 @@
 //! for change in &world.changes(1)? {
 //!     let node = world.label(change.node)?;
 //!     let field = world.field_name(change.node, change.field)?;
-//!     println!("{node}.{field} is {}", change.value);
+//!     println!("{node}.{field} sent {}", change.value);
+//!     if let Ok(value) = world.value(change.node, change.field) {
+//!         println!("and is {value} now"); // an output that only sends holds no value
+//!     }
 //! }
 //! # Ok::<(), Box<dyn std::error::Error>>(())
 //! ```

@@ -15,6 +15,18 @@ ROUTE Motor.fraction_changed TO Slide.set_fraction
 ROUTE Slide.value_changed TO Door.translation
 ";
 
+/// Two routes set one field: at one second to `0.5 0 0`, and then to `0 2.5 0`.
+const TWICE: &[u8] = b"#X3D V3.0 utf8
+DEF Motor TimeSensor { cycleInterval 2 }
+DEF Slide PositionInterpolator { key [ 0, 1 ] keyValue [ 0 0 0, 1 0 0 ] }
+DEF Lift PositionInterpolator { key [ 0, 1 ] keyValue [ 0 0 0, 0 5 0 ] }
+DEF Door Transform {}
+ROUTE Motor.fraction_changed TO Slide.set_fraction
+ROUTE Motor.fraction_changed TO Lift.set_fraction
+ROUTE Slide.value_changed TO Door.translation
+ROUTE Lift.value_changed TO Door.translation
+";
+
 fn aim() -> Aim {
     Aim::new([0, 0, 10_000_000], [0, 0, -1_000_000])
 }
@@ -32,6 +44,23 @@ fn clicked() -> World {
     world.point(2, 10_000_001, 0, true, &aim()).unwrap();
     world.point(3, 10_000_002, 0, false, &aim()).unwrap();
     world
+}
+
+#[test]
+fn a_line_may_have_another_value_than_its_field() {
+    let mut world = World::open(TWICE).unwrap();
+    world.clock(1, 1_000_000).unwrap();
+    let door = node(&mut world, "Door");
+    let translation = world.field_named(door, "translation").unwrap();
+    let lines = world.changes(1).unwrap();
+    let sent: Vec<_> = lines
+        .into_iter()
+        .filter(|change| change.node == door)
+        .map(|change| change.value)
+        .collect();
+    assert_eq!(sent, ["0.5 0 0"]);
+    assert_eq!(world.value(door, translation).unwrap(), "0 2.5 0");
+    assert_eq!(world.numbers(door, translation).unwrap(), [0, 2_500_000, 0]);
 }
 
 #[test]

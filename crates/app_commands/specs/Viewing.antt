@@ -9,10 +9,12 @@ use Rattle.cascade_core.specs.Apply.{opening}
 use Rattle.share_law.specs.Viewer.{begun, point_of}
 use Rattle.share_core.specs.Viewer.{ViewerView}
 use Rattle.share_turns.specs.declared.traffic.Traffic.{Traffic}
+use Rattle.share_turns.specs.Gives.{IsGiveEnd}
 use Rattle.share_turns.specs.Views.{IsRun, IsRunEnd}
 use Rattle.share_turns.specs.declared.view.ViewPlan.{ViewPlan}
 use Rattle.share_turns.specs.declared.fault.SeriesFault.{SeriesFault}
-use Rattle.app_commands.specs.Hosting.{series_fault}
+use Rattle.share_turns.specs.declared.fault.TurnFault.{TurnFault}
+use Rattle.app_commands.specs.Hosting.{series_fault, share_fault}
 use Rattle.app_commands.specs.Jobs.{staffed}
 use Rattle.app_commands.specs.declared.job.SharedJob.{SharedJob}
 use Rattle.app_words.specs.declared.order.Order.{Order}
@@ -48,14 +50,25 @@ IsSeated order bytes who boot viewer asked =
     (job : SharedJob) × (staffed order bytes ≡ Ok job)
     × (viewer ≡ viewer_of job who boot) × (asked ≡ points job.inputs)
 
--- a viewer ran as its plan says, and the text is its trace and its scene
+-- the plan without its giving
+abbrev pub alone : ViewPlan → ViewPlan
+alone plan = record plan { give = None }
+
+-- a viewer joined and viewed as its plan says, and gave nothing yet; the text is its trace and its
+-- scene
 abbrev pub IsViewed : ViewerView → List Point → (host : ℕ) → ViewPlan
     → (told_before told_after : Option (List Traffic)) → ViewerView → (text : List ℕ) → Type 0
-IsViewed viewer asked host plan a b new text = IsRun viewer host asked plan a b new [] text
+IsViewed viewer asked host plan a b new text = IsRun viewer host asked (alone plan) a b new [] text
 
 -- the viewer's turns or its texts ended early
 abbrev pub IsViewedInPart : ViewerView → List Point → (host : ℕ) → ViewPlan
     → (told_before told_after : Option (List Traffic)) → ViewerView → ShareFault → Type 0
 IsViewedInPart viewer asked host plan a b new fault =
     (early : SeriesFault) × (fault ≡ series_fault early)
-    × IsRunEnd viewer host asked plan a b early new
+    × IsRunEnd viewer host asked (alone plan) a b early new
+
+-- the viewer's turns of giving ended early, or it has no snapshot
+abbrev pub IsGivenInPart : ViewerView → (to turns : ℕ)
+    → (told_before told_after : Option (List Traffic)) → ShareFault → Type 0
+IsGivenInPart viewer to turns a b fault =
+    (early : TurnFault) × (fault ≡ share_fault early) × IsGiveEnd viewer to turns a b early

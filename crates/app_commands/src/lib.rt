@@ -27,5 +27,5 @@ pub use patient::PatientPort;
 pub use rehearsing::rehearse_job;
 pub use sockets::{bound, bound_free, number_of};
 pub use telling::TellingPort;
-pub use viewing::{Seat, first_boot, seated_job, view_job};
+pub use viewing::{Seat, first_boot, give_job, seated_job, view_job};
 pub use watch::{Counts, Note, Peer, Refusal, Watch};

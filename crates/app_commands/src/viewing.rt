@@ -2,15 +2,16 @@
 
 ghost use Rattle.std.specs.Prelude.{◌≡◌, ◌<◌, ◌≤◌, ◌⊎◌, ◌++◌, IfOk, IfErr, OnOk, Err, None, Some};
 ghost use Rattle.x3d_values.specs.Ranges.{max_viewers};
-ghost use Rattle.app_commands.specs.Viewing.{first_boot, pointed, points, viewer_of};
+ghost use Rattle.app_commands.specs.Viewing.{alone, first_boot, pointed, points, viewer_of};
 ghost use Rattle.app_commands.specs.Hosting.{failures_after};
 ghost use Rattle.app_commands.specs.Jobs.{staffed};
 ghost use Rattle.app_commands.specs.Stages.{scripts_refusal};
-ghost use Rattle.app_commands.specs.Viewing.{IsSeated, IsViewed, IsViewedInPart};
+ghost use Rattle.app_commands.specs.Viewing.{IsGivenInPart, IsSeated, IsViewed, IsViewedInPart};
 ghost use Rattle.share_turns.specs.Gathers.{with_both};
+ghost use Rattle.share_turns.specs.Gives.{Gives};
 ghost use Rattle.app_jobs.specs.declared.fault.JobFault.TheVariants.{Memory};
 
-use crate::hosting::series_fault;
+use crate::hosting::{series_fault, share_fault};
 use crate::job::{SharedJob, shared_job};
 use app_jobs::JobFault;
 use app_program::{OpenedScene, ShareFault, fresh_stage};
@@ -18,7 +19,7 @@ use app_words::Order;
 use script_boxes::StockScript;
 use share_core::Viewer;
 use share_law::point_of;
-use share_turns::{Port, ViewPlan, view_run};
+use share_turns::{Port, ViewPlan, give_run, view_run};
 use std::alloc::{AllocError, Global};
 use x3d_values::{Cause, Point, Stamped};
 
@@ -130,8 +131,20 @@ pub fn seated_job(
     seat_of(alloc, job, who, boot)
 }
 
+/// Returns a plan without its giving.
+fn alone(plan: &ViewPlan) -> ViewPlan
+    ensures { result ≡ alone plan.now }
+{
+    ViewPlan {
+        until: plan.until,
+        turns: plan.turns,
+        join: plan.join,
+        give: None,
+    }
+}
+
 /// Runs a viewer as its plan says, and offers each of its points to the host. Returns the trace and
-/// then the scene of the viewer.
+/// then the scene of the viewer. It gives nothing: that is `give_job`, once the text is written.
 ///
 /// Fails with `TurnsUsedUp` if its turns were not enough, with `Port` if a send or a receive fails,
 /// with `Memory` if memory is refused, and with `Spoiled` if it was refused to the viewer earlier.
@@ -154,17 +167,43 @@ pub fn view_job<P: Port>(
     ensures failures { P.failure_count port.new
         ≡ failures_after result (P.failure_count port.old) }
 {
+    let plan = alone(plan);
     let mut text = Vec::new(alloc);
     match view_run(
         alloc,
         &mut seat.viewer,
         seat.points.as_slice(),
-        plan,
+        &plan,
         host,
         port,
         &mut text,
     ) {
         Ok(()) => Ok(text),
         Err(fault) => Err(series_fault(fault)),
+    }
+}
+
+/// Has a viewer send its snapshot to a port, piece by piece and over and over, in `turns` turns. A
+/// snapshot of more than 2^26 bytes has no pieces: then nothing is sent.
+///
+/// Fails with `Port` if a send or a receive fails, with `Memory` if memory is refused to the
+/// snapshot, and with `Spoiled` if it was refused to the viewer earlier.
+pub fn give_job<P: Port>(
+    alloc: Global,
+    seat: &Seat,
+    to: u16,
+    turns: u32,
+    port: &mut P,
+) -> Result<(), ShareFault>
+    ensures done { OnOk result (Gives seat.now.viewer to turns (P.told port.old)
+        (P.told port.new)) }
+    ensures ended { IfErr result (IsGivenInPart seat.now.viewer to turns (P.told port.old)
+        (P.told port.new)) }
+    ensures failures { P.failure_count port.new
+        ≡ failures_after result (P.failure_count port.old) }
+{
+    match give_run(alloc, &seat.viewer, to, turns, port) {
+        Ok(()) => Ok(()),
+        Err(fault) => Err(share_fault(fault)),
     }
 }

@@ -1,5 +1,5 @@
 -- What the options of a command must have for its order.
-use Rattle.std.proofs.Common.{◌≡◌, ◌≤◌, ℕ, List, codes, Option, Some, None, IfSome, IfNone, IsSomeAnd, ap, arith, slice_index}
+use Rattle.std.proofs.Common.{◌≡◌, ◌≤◌, ℕ, List, codes, Option, Some, None, IfSome, IfNone, IsSomeAnd, ◌∙◌, ap, arith, slice_index}
 use Rattle.clap.specs.Words.{Row, Text}
 use Rattle.app_words.specs.declared.order.HostOrder.{HostOrder}
 use Rattle.app_words.specs.declared.order.Order.{Order}
@@ -7,8 +7,10 @@ use Rattle.app_words.specs.declared.order.Order.TheVariants.{Run, Format, Check,
 use Rattle.app_words.specs.declared.order.ViewEnd.{ViewEnd}
 use Rattle.app_words.specs.declared.order.ViewEnd.TheVariants.{Until, Exactly}
 use Rattle.app_words.specs.declared.order.ViewOrder.{ViewOrder}
+use Rattle.app_words.specs.Misfits.{misfit_of}
+use Rattle.app_words.specs.declared.misfit.Misfit.{Misfit}
 use Rattle.app_words.specs.Words.{Asks, AsksHost, AsksView, IsEnd, IsInRange, IsViewers, IsTurns, MayHaveExactly, MayHaveNumberIn, MayHaveUntil, end_count, end_of}
-use Rattle.app_words.proofs.OneOrder.{without}
+use Rattle.app_words.proofs.OneOrder.{one_view, without}
 
 pub agree_needs : (rows : List Row) (o : Order) → Asks o (codes "agree", rows)
     → (viewers : ℕ) × (turns : ℕ) × IsViewers rows viewers × IsTurns rows turns
@@ -43,7 +45,7 @@ host_needs rows (View asked) h =
     let bad : 104 ≡ 118 = ap (λ t. slice_index t 0) h.0 in absurd (omega (arith, bad))
 
 pub view_needs : (rows : List Row) (o : Order) → Asks o (codes "view", rows)
-    → (asked : ViewOrder) × AsksView rows asked
+    → (asked : ViewOrder) × AsksView rows asked × (misfit_of asked ≡ None)
 view_needs rows Run h =
     let bad : 118 ≡ 114 = ap (λ t. slice_index t 0) h in absurd (omega (arith, bad))
 view_needs rows Format h =
@@ -56,7 +58,16 @@ view_needs rows (Agree viewers turns) h =
     let bad : 118 ≡ 97 = ap (λ t. slice_index t 0) h.0 in absurd (omega (arith, bad))
 view_needs rows (Host asked) h =
     let bad : 118 ≡ 104 = ap (λ t. slice_index t 0) h.0 in absurd (omega (arith, bad))
-view_needs rows (View asked) h = (asked, h.1)
+view_needs rows (View asked) h = (asked, h.1, h.2)
+
+-- options that don't go together ask for nothing
+pub no_view_of_misfit : (rows : List Row) (asked : ViewOrder) (why : Misfit) → AsksView rows asked → Some why ≡ misfit_of asked
+    → (o : Order) → ¬ Asks o (codes "view", rows)
+no_view_of_misfit rows asked why read misfit o h =
+    let given = view_needs rows o h in
+    let same : asked ≡ given.0 = one_view rows asked given.0 read given.1 in
+    let bad : Some why ≡ None = misfit ∙ ap (λ v. misfit_of v) same ∙ given.2 in
+    (cc)
 
 -- an end takes what both options may have
 pub end_needs_until : (rows : List Row) → ((o : Option ℕ) → ¬ MayHaveUntil rows o) → (e : ViewEnd) → ¬ IsEnd rows e
@@ -129,6 +140,8 @@ asked_range (View asked) p h = record {
   turns_high = h.1.turns.high_end;
   at_low = at_least (codes "at") p.1 1 65535 asked.at h.1.at;
   give_low = at_least (codes "give") p.1 1 65535 asked.give h.1.give;
+  give_turns_low = h.1.give_turns.low_end;
+  together = h.2;
 }
 
 pub some_range : (o : Order) (x : Option (Text × List Row)) → IsSomeAnd x (Asks o) → IsInRange o

@@ -47,15 +47,16 @@ one_host rows x y a b =
     ∙ ap (λ o. record y { until = o; verbose = x.verbose }) (one_or_none _ rows _ _ x.until y.until a.until b.until)
     ∙ ap (λ v. record y { verbose = v }) (a.verbose ∙ sym b.verbose)
 
-one_view : (rows : List Row) (x y : ViewOrder) → AsksView rows x → AsksView rows y → x ≡ y
+pub one_view : (rows : List Row) (x y : ViewOrder) → AsksView rows x → AsksView rows y → x ≡ y
 one_view rows x y a b =
     ap (λ n. record x { port = n }) (one a.port b.port)
     ∙ ap (λ n. record x { port = y.port; who = n }) (one a.who b.who)
     ∙ ap (λ n. record x { port = y.port; who = y.who; boot = n }) (one a.boot b.boot)
     ∙ ap (λ e. record x { port = y.port; who = y.who; boot = y.boot; end = e }) (one_end rows x.end y.end a.end b.end)
-    ∙ ap (λ n. record y { turns = n; at = x.at; give = x.give; join = x.join; verbose = x.verbose }) (one a.turns b.turns)
-    ∙ ap (λ o. record y { at = o; give = x.give; join = x.join; verbose = x.verbose }) (one_or_none _ rows _ _ x.at y.at a.at b.at)
-    ∙ ap (λ o. record y { give = o; join = x.join; verbose = x.verbose }) (one_or_none _ rows _ _ x.give y.give a.give b.give)
+    ∙ ap (λ n. record y { turns = n; at = x.at; give = x.give; give_turns = x.give_turns; join = x.join; verbose = x.verbose }) (one a.turns b.turns)
+    ∙ ap (λ o. record y { at = o; give = x.give; give_turns = x.give_turns; join = x.join; verbose = x.verbose }) (one_or_none _ rows _ _ x.at y.at a.at b.at)
+    ∙ ap (λ o. record y { give = o; give_turns = x.give_turns; join = x.join; verbose = x.verbose }) (one_or_none _ rows _ _ x.give y.give a.give b.give)
+    ∙ ap (λ n. record y { give_turns = n; join = x.join; verbose = x.verbose }) (one a.give_turns b.give_turns)
     ∙ ap (λ v. record y { join = v; verbose = x.verbose }) (a.join ∙ sym b.join)
     ∙ ap (λ v. record y { verbose = v }) (a.verbose ∙ sym b.verbose)
 

@@ -5,6 +5,7 @@ use Rattle.clap.specs.Words.{App, Rule, Text, new_app, with_rule, with_subcomman
 use Rattle.clap.specs.Simple.{on_top}
 use Rattle.app_words.specs.Options.{viewers_rule, turns_rule, port_rule, keep_rule, until_rule}
 use Rattle.app_words.specs.Options.{who_rule, boot_rule, exactly_rule, at_rule, give_rule}
+use Rattle.app_words.specs.Options.{give_turns_rule}
 use Rattle.app_words.specs.Options.{join_rule, verbose_rule, number_rule, flag_rule}
 use Rattle.app_words.specs.declared.commands.CommandWords.{CommandWords}
 use Rattle.app_words.specs.declared.options.FlagOption.{FlagOption}
@@ -48,11 +49,12 @@ unfoldable pub host_app : App
 host_app = taking (codes "host")
     (port_rule ∷ viewers_rule ∷ until_rule ∷ keep_rule ∷ turns_rule ∷ verbose_rule ∷ [])
 
--- `view --port P --who V --boot B --until N --exactly N --turns T --at Q --give Q --join -v`
+-- `view --port P --who V --boot B --until N --exactly N --turns T --at Q --give Q --give-turns T
+-- --join -v`
 unfoldable pub view_app : App
 view_app = taking (codes "view")
     (port_rule ∷ who_rule ∷ boot_rule ∷ until_rule ∷ exactly_rule ∷ turns_rule ∷ at_rule
-    ∷ give_rule ∷ join_rule ∷ verbose_rule ∷ [])
+    ∷ give_rule ∷ give_turns_rule ∷ join_rule ∷ verbose_rule ∷ [])
 
 -- the program with the commands that take no options; then with `rehearse` and `agree`; then with
 -- all

@@ -2,3 +2,4 @@ pub mod Options
 pub mod Commands
 pub mod Words
 pub mod Request
+pub mod Misfits

@@ -9,6 +9,7 @@ use Rattle.clap.specs.declared.error.kind.ErrorKind.{ErrorKind}
 use Rattle.clap.specs.declared.error.kind.ErrorKind.TheVariants as kind
 use Rattle.x3d_values.specs.Ranges.{max_viewers, max_inputs}
 use Rattle.app_words.specs.Commands.{program}
+use Rattle.app_words.specs.Misfits.{misfit_of}
 use Rattle.app_words.specs.Options.{max_who}
 use Rattle.app_words.specs.declared.order.HostOrder.{HostOrder}
 use Rattle.app_words.specs.declared.order.Order.{Order}
@@ -54,6 +55,9 @@ IsViewers rows viewers = HasNumberIn (codes "viewers") rows 1 max_viewers viewer
 abbrev pub IsTurns : List Row → ℕ → Type 0
 IsTurns rows turns = HasNumberIn (codes "turns") rows 1 10000000 turns
 
+abbrev pub IsGiveTurns : List Row → ℕ → Type 0
+IsGiveTurns rows turns = HasNumberIn (codes "give-turns") rows 1 4294967295 turns
+
 abbrev pub IsPort : List Row → ℕ → Type 0
 IsPort rows port = HasNumberIn (codes "port") rows 1 65535 port
 
@@ -98,7 +102,7 @@ pub record AsksHost (rows : List Row) (o : HostOrder) : Type 0 where
   pub turns : IsTurns rows o.turns
   pub verbose : o.verbose ≡ is_given (codes "verbose") rows
 
--- the matches of `view` ask for this
+-- the matches of `view` have these options; what they ask for also goes together
 pub record AsksView (rows : List Row) (o : ViewOrder) : Type 0 where
   pub port : IsPort rows o.port
   pub who : IsWho rows o.who
@@ -107,6 +111,7 @@ pub record AsksView (rows : List Row) (o : ViewOrder) : Type 0 where
   pub turns : IsTurns rows o.turns
   pub at : MayHaveAt rows o.at
   pub give : MayHaveGive rows o.give
+  pub give_turns : IsGiveTurns rows o.give_turns
   pub join : o.join ≡ is_given (codes "join") rows
   pub verbose : o.verbose ≡ is_given (codes "verbose") rows
 
@@ -119,7 +124,7 @@ Asks (Rehearse viewers) p = (p.0 ≡ codes "rehearse") × IsViewers p.1 viewers
 Asks (Agree viewers turns) p =
     (p.0 ≡ codes "agree") × IsViewers p.1 viewers × IsTurns p.1 turns
 Asks (Host o) p = (p.0 ≡ codes "host") × AsksHost p.1 o
-Asks (View o) p = (p.0 ≡ codes "view") × AsksView p.1 o
+Asks (View o) p = (p.0 ≡ codes "view") × AsksView p.1 o × (misfit_of o ≡ None)
 
 -- `clap` takes the words, and the command that they name asks for this
 pub record Means (words : List Text) (order : Order) : Type 0 where
@@ -143,7 +148,7 @@ pub record HostInRange (o : HostOrder) : Type 0 where
   pub turns_low : 1 ≤ o.turns
   pub turns_high : o.turns ≤ 10000000
 
--- the numbers of a viewer's order are in their ranges
+-- the numbers of a viewer's order are in their ranges, and go together
 pub record ViewInRange (o : ViewOrder) : Type 0 where
   pub port_low : 1 ≤ o.port
   pub who_high : o.who < max_viewers
@@ -153,6 +158,8 @@ pub record ViewInRange (o : ViewOrder) : Type 0 where
   pub turns_high : o.turns ≤ 10000000
   pub at_low : IfSome o.at (λ q. 1 ≤ q)
   pub give_low : IfSome o.give (λ q. 1 ≤ q)
+  pub give_turns_low : 1 ≤ o.give_turns
+  pub together : misfit_of o ≡ None
 
 -- the numbers of an order are in the ranges that hosts and viewers take
 abbrev pub IsInRange : Order → Type 0

@@ -3,7 +3,7 @@
 ghost use Rattle.std.specs.Prelude.{◌≡◌, ℕ, Option, IfSome, IfNone, IsSomeAnd, codes};
 ghost use Rattle.clap.specs.Words.{rows_of, found_of, subcommand_rows_of};
 ghost use Rattle.app_words.specs.Words.{Asks, AsksHost, AsksView, IsEnd, end_of};
-ghost use Rattle.app_words.specs.Words.{IsViewers, IsTurns, IsPort, IsWho, IsBoot};
+ghost use Rattle.app_words.specs.Words.{IsViewers, IsTurns, IsGiveTurns, IsPort, IsWho, IsBoot};
 ghost use Rattle.app_words.specs.Words.{MayHaveAt, MayHaveGive, MayHaveKeep};
 ghost use Rattle.app_words.specs.Words.{MayHaveUntil, MayHaveExactly, MayHaveNumberIn};
 ghost use Rattle.app_words.specs.declared.order.HostOrder.{HostOrder as HostOf};
@@ -11,6 +11,7 @@ ghost use Rattle.app_words.specs.declared.order.Order.{Order as OrderOf};
 ghost use Rattle.app_words.specs.declared.order.ViewEnd.{ViewEnd as EndOf};
 ghost use Rattle.app_words.specs.declared.order.ViewOrder.{ViewOrder as ViewOf};
 
+use crate::misfit::{Misfit, misfit_of};
 use crate::numbers::{is_named, number_in, optional_in};
 use crate::options::MAX_WHO;
 use crate::order::{HostOrder, Order, ViewEnd, ViewOrder};
@@ -108,6 +109,13 @@ fn give_in(found: &ArgMatches<'_>) -> Option<Option<u16>>
         ((o : Option ℕ) → ¬ MayHaveGive (rows_of (found_of found.now)) o) }
 {
     port_or_none(found, "give")
+}
+
+fn give_turns_in(found: &ArgMatches<'_>) -> Option<u32>
+    ensures some { IfSome result (λ n. IsGiveTurns (rows_of (found_of found.now)) n) }
+    ensures none { IfNone result ((n : ℕ) → ¬ IsGiveTurns (rows_of (found_of found.now)) n) }
+{
+    number_in(found, "give-turns", 1, u32::MAX)
 }
 
 /// Returns the end that `--until` and `--exactly` ask for, if exactly one of them has a number.
@@ -227,6 +235,9 @@ fn view_asked(found: &ArgMatches<'_>) -> Option<ViewOrder>
     let Some(give) = give_in(found) else {
         return None;
     };
+    let Some(give_turns) = give_turns_in(found) else {
+        return None;
+    };
     Some(ViewOrder {
         port,
         who,
@@ -235,6 +246,7 @@ fn view_asked(found: &ArgMatches<'_>) -> Option<ViewOrder>
         turns,
         at,
         give,
+        give_turns,
         join: is_named(found, "join"),
         verbose: is_named(found, "verbose"),
     })
@@ -248,7 +260,22 @@ fn view_in(found: &ArgMatches<'_>) -> Option<Order>
     let Some(asked) = view_asked(found) else {
         return None;
     };
-    Some(Order::View(asked))
+    match misfit_of(&asked) {
+        None => Some(Order::View(asked)),
+        Some(_) => None,
+    }
+}
+
+/// Returns why the options of `view` don't go together, if the matches are of `view` and they
+/// don't.
+pub fn misfit_in(matches: &ArgMatches<'_>) -> Option<Misfit> {
+    match matches.subcommand()? {
+        ("view", found) => match view_asked(found) {
+            Some(asked) => misfit_of(&asked),
+            None => Some(Misfit::End),
+        },
+        _ => None,
+    }
 }
 
 /// Returns the order of the command of this name with these matches, or `None` if there is none.

@@ -9,8 +9,8 @@ ghost use Rattle.app_words.specs.Commands.{run_app, format_app, check_app};
 ghost use Rattle.app_words.specs.Commands.{rehearse_app, agree_app, host_app, view_app};
 
 use crate::options::{
-    AT, BOOT, EXACTLY, FlagOption, GIVE, HOST_UNTIL, JOIN, KEEP, NumberOption, PORT, TURNS,
-    VERBOSE, VIEW_UNTIL, VIEWERS, WHO, flag_arg, number_arg,
+    AT, BOOT, EXACTLY, FlagOption, GIVE, GIVE_TURNS, HOST_UNTIL, JOIN, KEEP, NumberOption, PORT,
+    TURNS, VERBOSE, VIEW_UNTIL, VIEWERS, WHO, flag_arg, number_arg,
 };
 use clap::Command;
 use std::alloc::{AllocError, Global};
@@ -128,11 +128,12 @@ applied. It may have applied up to 126 more by then, so two viewers may print di
 --exactly N it ignores later inputs, and two viewers print the same bytes.
 A viewer that comes late needn't ask for all inputs. With --join --at Q it starts from a snapshot
 that another viewer sends to port Q in pieces, and asks for the inputs after it. Its --boot must be
-above the other viewer's. With --give Q a viewer that has applied its N inputs sends its snapshot
-to port Q repeatedly, a piece of 192 bytes a turn, in all remaining turns.
-A turn takes up to 64 datagrams. If nothing comes, a turn waits 50 milliseconds, and up to 50 more
+above the other viewer's. With --give Q a viewer that has applied its N inputs prints its texts, and
+then sends its snapshot to port Q repeatedly, a piece of 192 bytes a turn, in --give-turns turns. Of
+these 32 take a millisecond or two, so 1000000 last about a minute.
+A turn of the others takes up to 64 datagrams. If nothing comes, a turn waits 50 milliseconds, and up to 50 more
 pass before the next, so 1000000 turns last up to 28 hours.
-A viewer that is stopped by a signal prints nothing.
+A viewer that is stopped by a signal before its inputs are applied prints nothing.
 
 Example:
   x3d_share view --port 4000 --who 0 --boot 1 --until 2 < examples/view.job
@@ -201,7 +202,9 @@ static COMMANDS: [CommandWords; 7] = [
         name: "view",
         about: "Offer points to a host over UDP, apply what it numbers, and print trace and scene",
         after_help: VIEW_HELP,
-        options: &[PORT, WHO, BOOT, VIEW_UNTIL, EXACTLY, TURNS, AT, GIVE],
+        options: &[
+            PORT, WHO, BOOT, VIEW_UNTIL, EXACTLY, TURNS, AT, GIVE, GIVE_TURNS,
+        ],
         flags: &[JOIN, VERBOSE],
     },
 ];

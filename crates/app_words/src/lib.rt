@@ -3,12 +3,15 @@
 
 mod asked;
 mod commands;
+mod hint;
 mod laws;
+mod misfit;
 mod numbers;
 mod options;
 mod order;
 mod words;
 
+pub use hint::hint_of;
 pub use laws::{help_and_version_are_asked_for, words_mean_one_order};
 pub use order::{HostOrder, Order, OrderFault, Request, ViewEnd, ViewOrder};
 pub use words::request_of;

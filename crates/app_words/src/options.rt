@@ -146,7 +146,16 @@ pub const GIVE: NumberOption = NumberOption {
     high: 65535,
     unless: Unless::Nothing,
     value: "Q",
-    help: "Sends its snapshot to port Q once its inputs are applied, 1 to 65535",
+    help: "Sends its snapshot to port Q once its texts are printed, 1 to 65535",
+};
+
+pub const GIVE_TURNS: NumberOption = NumberOption {
+    name: "give-turns",
+    low: 1,
+    high: u32::MAX,
+    unless: Unless::Has("1000000"),
+    value: "T",
+    help: "How many turns it gives, 1 to 4294967295",
 };
 
 pub const JOIN: FlagOption = FlagOption {

@@ -52,6 +52,8 @@ pub struct ViewOrder {
     pub at: Option<u16>,
     /// The port of the viewer that gets this viewer's snapshot, 1 to 65,535; `None` for no viewer.
     pub give: Option<u16>,
+    /// How many turns it gives, 1 to 2^32 - 1.
+    pub give_turns: u32,
     /// Joins from the pieces of another viewer's snapshot.
     pub join: bool,
     /// Reports events on standard error.

@@ -101,3 +101,4 @@ pub mod Tokens
 pub mod Fine
 pub mod SpelledFlats
 pub mod Named
+mod GivenDefaults

@@ -13,6 +13,7 @@ pub mod Renamed
 pub mod Plain
 pub mod InPlace
 pub mod WithFields
+pub mod GivenDefaults
 pub mod WithHelpers
 pub mod Written
 pub mod Parts

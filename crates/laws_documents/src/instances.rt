@@ -1,6 +1,7 @@
 //! Laws about instances and the bodies of their prototypes, each the contract of a function that
 //! does nothing.
 
+ghost use Rattle.laws_documents.specs.GivenDefaults.{DefaultsMayBeGiven};
 ghost use Rattle.laws_documents.specs.WithFields.{InstancesWithFieldsAreTheirBodies};
 ghost use Rattle.laws_documents.specs.WithHelpers.{InstancesAreAllNodesOfTheirBodies};
 
@@ -15,4 +16,10 @@ pub fn instances_with_fields_are_their_bodies()
 /// is a statement, and the helpers become roots.
 pub fn instances_are_all_nodes_of_their_bodies()
     ensures { InstancesAreAllNodesOfTheirBodies }
+{}
+
+/// An instance that is given the default value of a field stands for the same as without that
+/// field, in the documents of `instances_with_fields_are_their_bodies`.
+pub fn defaults_may_be_given()
+    ensures { DefaultsMayBeGiven }
 {}

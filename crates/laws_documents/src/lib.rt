@@ -20,7 +20,8 @@ mod written;
 
 pub use flat_fields::nodes_tell_the_rest;
 pub use instances::{
-    instances_are_all_nodes_of_their_bodies, instances_with_fields_are_their_bodies,
+    defaults_may_be_given, instances_are_all_nodes_of_their_bodies,
+    instances_with_fields_are_their_bodies,
 };
 pub use plain_faults::{plain_documents_fail, sound_documents_are_flat};
 pub use plain_fields::{fields_are_read, shapes_stay};

@@ -29,8 +29,8 @@ pub use scripts::{attached_run, calls_fit, outputs_typed};
 pub use sensors::sensors_are_all;
 pub use sizes::scenes_are_short;
 pub use texts::{
-    saved_worlds_of_texts_load_again, taken_snapshots_of_texts_rewind, texts_have_documents,
-    worlds_of_texts_fit,
+    saved_worlds_of_texts_load_again, taken_snapshots_of_texts_join,
+    taken_snapshots_of_texts_rewind, texts_have_documents, worlds_of_texts_fit,
 };
 pub use traces::traces_are_limited;
 pub use worlds::{fitting_worlds_have_snapshots, openings_fit, steps_fit};

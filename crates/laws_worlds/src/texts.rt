@@ -1,7 +1,10 @@
 //! Laws of worlds. Each is the contract of a function that does nothing.
 
 ghost use Rattle.laws_worlds.specs.Opened.{OpenedAreDocuments};
-ghost use Rattle.laws_worlds.specs.TextRewinding.{TakenSnapshotsOfTextsRewind};
+ghost use Rattle.laws_worlds.specs.TextRewinding.{
+  TakenSnapshotsOfTextsJoin,
+  TakenSnapshotsOfTextsRewind,
+};
 ghost use Rattle.laws_worlds.specs.NetworkWorlds.{
   RunningOfTextsHaveSnapshots,
   SavedOfTextsHaveSnapshots,
@@ -31,4 +34,10 @@ pub fn saved_worlds_of_texts_load_again()
 /// network's step for it.
 pub fn taken_snapshots_of_texts_rewind()
     ensures { TakenSnapshotsOfTextsRewind }
+{}
+
+/// A viewer of the scene of a text that gathered the bytes of a snapshot that was taken, and joins
+/// with them, does the network's step for that snapshot.
+pub fn taken_snapshots_of_texts_join()
+    ensures { TakenSnapshotsOfTextsJoin }
 {}

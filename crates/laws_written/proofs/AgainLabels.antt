@@ -21,7 +21,7 @@ use Rattle.scene_core.specs.Scene.{SceneView, label_of, label_or, name_at as kep
 use Rattle.scene_text.specs.Places.{ends_of, is_named, places, times}
 use Rattle.laws_written.proofs.NumberedLists.{some_is}
 use Rattle.laws_written.proofs.NumbersInOrder.{equal}
-use Rattle.laws_written.proofs.NumberedScenes.{alone_in, found, label_in}
+use Rattle.laws_written.proofs.NumberedScenes.{alone_in, found, label_in, scene_is}
 use Rattle.laws_written.specs.Defaults.{LeftOutAreDefaults}
 use Rattle.laws_written.specs.Labels.{LabelsAreDistinct}
 use Rattle.laws_written.specs.Values.{WrittenNodesAreTyped}
@@ -189,7 +189,7 @@ module _ (from : Flat) (s : SceneView) (routes : List Route) (state : List Field
   pub next_names : (n : ℕ) → n < count → kept_name next n ≡ written_name s routes n
   next_names n low =
       let node = found s.nodes n low in
-      let x = three from s routes state again is_scene kept of_type sound table same filled none next is_next typed_again left_out n node.0 node.1 in
+      let x = three from s routes state again is_scene kept of_type sound table same filled none next (scene_is again next is_next) typed_again left_out n node.0 node.1 in
       let g_name : x.g.name ≡ written_name s routes n = sym (ap (λ (o : Option FlatNode). option_and_then (λ (g : FlatNode). g.name) o) x.flat_at) ∙ own_name n low in
       ap (λ (o : Option SceneNode). option_and_then (λ (m : SceneNode). m.label) o) x.next_at
       ∙ (x.read.is.label ∙ (ap (label_by (label_in again n)) g_name ∙ name_kept n low (is_named s routes n) refl))

@@ -1,5 +1,5 @@
 -- Of what is written of a scene there is a scene, within the limits of size.
-use Rattle.std.proofs.Common.{◌≡◌, ℕ, zero, suc, ◌+◌, ◌<◌, Bool, true, false, ◌||◌, if◌then◌else◌, List, [], ◌∷◌, length, map, nat_lt, Option, Some, Result, Ok, Err, slice_get, refl, sym, ap, subst, ◌∙◌, inl, inr, arith}
+use Rattle.std.proofs.Common.{◌≡◌, ◌⊎◌, ℕ, zero, suc, ◌+◌, ◌<◌, Bool, true, false, ◌||◌, if◌then◌else◌, List, [], ◌∷◌, length, map, nat_lt, Option, Some, Result, Ok, Err, slice_get, refl, sym, ap, subst, ◌∙◌, inl, inr, arith}
 use Rattle.std.specs.Prelude.{is_some}
 use Rattle.std.specs.List.{AllByRecursion, range_with_len}
 use Rattle.x3d_values.specs.declared.fields.Fields.{Fields}
@@ -11,12 +11,11 @@ use Rattle.classic_tree.specs.declared.tree.Document.{Document}
 use Rattle.proto_flat.specs.declared.flat.Flat.{Flat}
 use Rattle.proto_flat.specs.declared.flat.FlatNode.{FlatNode}
 use Rattle.laws_documents.specs.Closings.{Braces, IsOfNode, Shown, closings, expected}
-use Rattle.scene_values.specs.Typing.{called}
 use Rattle.scene_core.specs.declared.fault.SceneFault.{SceneFault}
 use Rattle.scene_core.specs.declared.fault.SceneFaultKind.TheVariants.{BadChild, TooDeep, TooMany}
 use Rattle.scene_core.specs.declared.scene.Route.{Route}
 use Rattle.scene_core.specs.declared.scene.SceneNode.{SceneNode}
-use Rattle.scene_core.specs.Building.{limits, nodes_by, nodes_of, scene_of}
+use Rattle.scene_core.specs.Building.{called as called_of, limits, nodes_by, nodes_of, scene_of}
 use Rattle.scene_core.specs.Deep.{too_deep}
 use Rattle.scene_core.specs.Faults.{fault, ◌>>=◌}
 use Rattle.scene_core.specs.Places.{any_crowded, places}
@@ -24,8 +23,8 @@ use Rattle.scene_core.specs.Wide.{any_wide}
 use Rattle.scene_core.specs.Scene.{SceneView}
 use Rattle.scene_core.specs.Typed.{all_children, child, line_of, takes}
 use Rattle.scene_text.specs.Statements.{scene_document}
-use Rattle.laws_written.proofs.NumberedScenes.{alone_in, found, numbers_of}
-use Rattle.laws_written.specs.Defaults.{DefaultsAreLeftOut}
+use Rattle.laws_written.proofs.NumberedScenes.{IsSceneOf, alone_in, found, numbers_of, viewed, viewed_is}
+use Rattle.laws_written.specs.Defaults.{DefaultsAreLeftOut, LeftOutAreDefaults}
 use Rattle.laws_written.specs.Values.{WrittenNodesAreTyped}
 use Rattle.laws_written.specs.Writable.{AreKeepable}
 use Rattle.laws_written.proofs.Lists.{all_append}
@@ -37,7 +36,8 @@ use Rattle.laws_written.specs.FieldsFlats.{HasFieldsOf, WrittenFieldsStay}
 use Rattle.laws_written.specs.Sound.{AreOfType, AreSound}
 use Rattle.laws_documents.proofs.Heads.{helpers_are_of_instances}
 use Rattle.laws_written.proofs.AgainNumbered.{last_is, many}
-use Rattle.laws_written.specs.Exist.{AreInRange, IsSceneOrLimit, WrittenScenesExist}
+use Rattle.laws_written.proofs.AgainLimits.{keeps_limits}
+use Rattle.laws_written.specs.Exist.{AreInRange, IsAtTooManyPlaces, IsSceneOrLimit, WrittenScenesExist}
 use Rattle.laws_written.proofs.AgainNodes.{all_taken_by, each_okay}
 use Rattle.laws_written.proofs.Okay.{IsOkay, nodes_okay, okay_then}
 use Rattle.laws_written.proofs.Standing.{goes_into, roots_kind, takes_is}
@@ -88,32 +88,34 @@ children_okay nodes (m ∷ ns) h =
 
 -- ---- limits
 
-then_limit : {A : Type 0} (r : Result A SceneFault) (k : A → Result SceneView SceneFault) → IsOkay r → ((a : A) → IsSceneOrLimit (k a)) → IsSceneOrLimit (r >>= k)
-then_limit (Ok a) k h g = g a
-then_limit (Err e) k h g = absurd h
+-- of the result alone: TooMany only if there are too many places, which `P` says
+abbrev OrLimit : Type 0 → Result SceneView SceneFault → Type 0
+OrLimit P result = ((scene : SceneView) × (result ≡ Ok scene)) ⊎ ((result ≡ Err (fault TooDeep 0)) ⊎ ((result ≡ Err (fault TooMany 0)) × P))
 
-limits_then : (deep crowded : Bool) (s : SceneView)
-    → IsSceneOrLimit ((if deep then Err (fault TooDeep 0) else (if crowded then Err (fault TooMany 0) else done)) >>= λ _. Ok s)
-limits_then true crowded s = inr (inl refl)
-limits_then false true s = inr (inr refl)
-limits_then false false s = inl (s, refl)
+then_limit : {A : Type 0} (P : Type 0) (r : Result A SceneFault) (k : A → Result SceneView SceneFault) → IsOkay r
+    → ((a : A) → r ≡ Ok a → OrLimit P (k a)) → OrLimit P (r >>= k)
+then_limit P (Ok a) k h g = g a refl
+then_limit P (Err e) k h g = absurd h
+
+differ : true ≡ false → ⊥
+differ h = absurd cc
+
+limits_then : (P : Type 0) (deep crowds others : Bool) (s : SceneView) → (crowds ≡ true → P) → (deep ≡ false → others ≡ false)
+    → OrLimit P ((if deep then Err (fault TooDeep 0) else (if crowds || others then Err (fault TooMany 0) else done)) >>= λ _. Ok s)
+limits_then P true crowds others s f g = inr (inl refl)
+limits_then P false true others s f g = inr (inr (refl, f refl))
+limits_then P false false true s f g = absurd (differ (g refl))
+limits_then P false false false s f g = inl (s, refl)
+
+above : (n m : ℕ) → nat_lt n m ≡ true → n < m
+above n m h = grind (arith, h)
 
 module _ (flat : Flat) where
-  abbrev numbers : List ℕ
-  numbers = (numbers_of flat).numbers
-
-  abbrev viewed : List SceneNode → SceneView
-  viewed nodes = record {
-    header = flat.header;
-    nodes = nodes;
-    roots = map (called numbers) flat.roots;
-    helpers = map (called numbers) flat.helpers;
-    opened = (numbers_of flat).opened;
-    numbers = numbers;
-  }
+  abbrev roots_in : List ℕ
+  roots_in = called_of (numbers_of flat).numbers flat.roots
 
   abbrev limited : List SceneNode → Result SceneView SceneFault
-  limited nodes = limits nodes (map (called numbers) flat.roots) >>= λ _. Ok (viewed nodes)
+  limited nodes = limits nodes roots_in >>= λ _. Ok (viewed flat nodes)
 
   abbrev with_helpers : List SceneNode → Result SceneView SceneFault
   with_helpers nodes = all_children flat.nodes flat.helpers >>= λ _. limited nodes
@@ -121,19 +123,28 @@ module _ (flat : Flat) where
   abbrev with_roots : List SceneNode → Result SceneView SceneFault
   with_roots nodes = all_children flat.nodes flat.roots >>= λ _. with_helpers nodes
 
-  limited_is : (nodes : List SceneNode) → IsSceneOrLimit (limited nodes)
-  unfolding limits
-  limited_is nodes =
-      let roots : List ℕ = map (called numbers) flat.roots in
-      limits_then (too_deep nodes) (nat_lt max_places (places max_depth nodes roots) || (any_crowded nodes roots || any_wide nodes)) (viewed nodes)
+  -- the other limits hold of nodes that were made
+  abbrev KeepsOthers : Type 0
+  KeepsOthers =
+      (nodes : List SceneNode) → IsSceneOf flat (viewed flat nodes) → (any_crowded nodes roots_in || any_wide nodes) ≡ false
 
-  scene_or_limit : IsOkay (nodes_of flat.nodes (numbers_of flat)) → IsOkay (all_children flat.nodes flat.roots) → IsOkay (all_children flat.nodes flat.helpers)
-      → IsSceneOrLimit (scene_of flat)
+  limited_is : (nodes : List SceneNode) → nodes_of flat.nodes (numbers_of flat) ≡ Ok nodes
+      → (too_deep nodes ≡ false → (any_crowded nodes roots_in || any_wide nodes) ≡ false) → OrLimit (IsAtTooManyPlaces flat) (limited nodes)
+  unfolding limits
+  limited_is nodes made others =
+      limits_then (IsAtTooManyPlaces flat) (too_deep nodes) (nat_lt max_places (places max_depth nodes roots_in)) (any_crowded nodes roots_in || any_wide nodes) (viewed flat nodes)
+      (λ h. record { nodes = nodes; are_nodes = made; many = above max_places (places max_depth nodes roots_in) h })
+      others
+
+  scene_or_limit : KeepsOthers → IsOkay (nodes_of flat.nodes (numbers_of flat)) → IsOkay (all_children flat.nodes flat.roots) → IsOkay (all_children flat.nodes flat.helpers)
+      → IsSceneOrLimit flat
   unfolding scene_of
-  scene_or_limit a b c =
-      then_limit (nodes_of flat.nodes (numbers_of flat)) with_roots a (λ nodes.
-      then_limit (all_children flat.nodes flat.roots) (λ _. with_helpers nodes) b (λ _.
-      then_limit (all_children flat.nodes flat.helpers) (λ _. limited nodes) c (λ _. limited_is nodes)))
+  scene_or_limit others a b c =
+      let P : Type 0 = IsAtTooManyPlaces flat in
+      then_limit P (nodes_of flat.nodes (numbers_of flat)) with_roots a (λ nodes made.
+      then_limit P (all_children flat.nodes flat.roots) (λ _. with_helpers nodes) b (λ _ roots.
+      then_limit P (all_children flat.nodes flat.helpers) (λ _. limited nodes) c (λ _ helpers.
+      limited_is nodes made (λ shallow. others nodes (viewed_is flat nodes made roots helpers shallow)))))
 
 none_okay : (nodes : List FlatNode) (ns : List ℕ) → ns ≡ [] → IsOkay (all_children nodes ns)
 none_okay nodes ns e = subst (λ (l : List ℕ). IsOkay (all_children nodes l)) (sym e) tt
@@ -168,12 +179,15 @@ module _ (from : Flat) (s : SceneView) (routes : List Route) (state : List Field
       (all_taken_by from s routes state again is_scene kept of_type ranged sound table same filled none typed_again all_left (Some Child) s.roots (roots_kind from s is_scene))
       (switch_taken s.helpers refl)))
 
-  pub exists : IsSceneOrLimit (scene_of again)
-  exists = scene_or_limit again nodes_made roots_okay (none_okay again.nodes again.helpers none)
+  pub exists : LeftOutAreDefaults → IsSceneOrLimit again
+  exists left_out =
+      scene_or_limit again
+      (λ nodes scene. keeps_limits from s routes state again is_scene kept of_type sound table same filled none (viewed again nodes) scene typed_again left_out)
+      nodes_made roots_okay (none_okay again.nodes again.helpers none)
 
-pub all_exist : ((t : NodeType) → AreTyped (rows t)) → WrittenNodesAreTyped → DefaultsAreLeftOut → WrittenNodesClose → WrittenNodesStay → WrittenFieldsStay → WrittenScenesExist
-all_exist table values defaults close stay fill from scene routes state again is few kept of_type ranged sound distinct e =
+pub all_exist : ((t : NodeType) → AreTyped (rows t)) → WrittenNodesAreTyped → LeftOutAreDefaults → DefaultsAreLeftOut → WrittenNodesClose → WrittenNodesStay → WrittenFieldsStay → WrittenScenesExist
+all_exist table values left_out defaults close stay fill from scene routes state again is few kept of_type ranged sound distinct e =
     let d : Document = scene_document scene routes state in
     let nodes = of_nodes (closings d) (subst (AllByRecursion HasType) (sym (close from scene routes state is kept)) (written_typed scene routes)) in
     exists from scene routes state again is kept of_type ranged sound table (stay from scene routes state again is few kept e)
-    (fill from scene routes state again is few kept distinct e) (helpers_are_of_instances d again nodes e) values defaults
+    (fill from scene routes state again is few kept distinct e) (helpers_are_of_instances d again nodes e) values defaults left_out

@@ -73,6 +73,7 @@ pub mod Reading
 pub mod Room
 pub mod Switches
 pub mod Whole
+pub mod AgainLimits
 pub mod AgainNodes
 pub mod Okay
 pub mod ExistOpening

@@ -29,7 +29,7 @@ use Rattle.laws_written.specs.ScenesAgain.{in_place}
 use Rattle.laws_written.specs.Children.{children}
 use Rattle.laws_written.proofs.NumberedLists.{In, at_map, index_is, some_is, within}
 use Rattle.laws_written.proofs.Lower.{inner}
-use Rattle.laws_written.proofs.NumberedScenes.{IsSceneOf, found, label_in, numbers_of, scene_is}
+use Rattle.laws_written.proofs.NumberedScenes.{IsSceneOf, found, label_in, numbers_of}
 use Rattle.laws_written.specs.Defaults.{LeftOutAreDefaults}
 use Rattle.laws_written.specs.Values.{WrittenNodesAreTyped}
 use Rattle.laws_written.specs.Writable.{AreKeepable}
@@ -67,7 +67,7 @@ declared_there t ds es h i e at =
 
 module _ (from : Flat) (s : SceneView) (routes : List Route) (state : List Fields) (again : Flat) (is_scene : scene_of from ≡ Ok s) (kept : AreKeepable state)
     (of_type : AreOfType s state) (sound : AreSound s) (table : (t : NodeType) → AreTyped (rows t)) (same : IsFlatOf s routes again) (filled : HasFieldsOf s state again)
-    (none : again.helpers ≡ []) (next : SceneView) (is_next : scene_of again ≡ Ok next) (typed_again : WrittenNodesAreTyped) (left_out : LeftOutAreDefaults) where
+    (none : again.helpers ≡ []) (next : SceneView) (scene : IsSceneOf again next) (typed_again : WrittenNodesAreTyped) (left_out : LeftOutAreDefaults) where
   abbrev pub count : ℕ
   count = length s.nodes
 
@@ -79,9 +79,6 @@ module _ (from : Flat) (s : SceneView) (routes : List Route) (state : List Field
 
   as_many : length again.nodes ≡ count + length (switch_root count s.helpers)
   as_many = many from s routes state again is_scene kept of_type sound table same filled none
-
-  scene : IsSceneOf again next
-  scene = scene_is again next is_next
 
   pub in_order : (i : ℕ) → i < length again.nodes → slice_get (numbers_of again).order i ≡ Some i
   in_order i l =

@@ -8,7 +8,7 @@ use Rattle.proto_flat.specs.declared.flat.FlatNode.{FlatNode}
 use Rattle.scene_core.specs.declared.fault.SceneFault.{SceneFault}
 use Rattle.scene_core.specs.declared.numbering.Numbering.{Numbering}
 use Rattle.scene_core.specs.declared.scene.SceneNode.{SceneNode}
-use Rattle.scene_core.specs.Building.{called, limits, node_of, nodes_by, nodes_of, scene_of, with_node}
+use Rattle.scene_core.specs.Building.{IsLimited, called, limits, node_of, nodes_by, nodes_of, scene_of, with_node}
 use Rattle.scene_core.specs.Deep.{too_deep}
 use Rattle.scene_core.specs.Faults.{◌>>=◌, through}
 use Rattle.scene_core.specs.Labels.{is_alone, is_label, names_of}
@@ -148,7 +148,7 @@ module _ (flat : Flat) where
     pub helpers : scene.helpers ≡ called numbers_of.numbers flat.helpers
     pub state : IsNumbered flat.nodes (flat.roots ++ flat.helpers) numbers_of
 
-  abbrev viewed : List SceneNode → SceneView
+  abbrev pub viewed : List SceneNode → SceneView
   viewed nodes = record {
     header = flat.header;
     nodes = nodes;
@@ -176,6 +176,22 @@ module _ (flat : Flat) where
   from_none : (nodes : List SceneNode) (i x : ℕ) → IsMade flat.nodes numbers_of.numbers alone_in nodes (0 + i) x → IsMade flat.nodes numbers_of.numbers alone_in nodes i x
   from_none nodes i x m = let e : 0 + i ≡ i = omega arith in subst (λ (k : ℕ). IsMade flat.nodes numbers_of.numbers alone_in nodes k x) e m
 
+  -- also if there are too many places, sensors or fields
+  pub viewed_is : (nodes : List SceneNode) → nodes_of flat.nodes numbers_of ≡ Ok nodes → all_children flat.nodes flat.roots ≡ Ok tt
+      → all_children flat.nodes flat.helpers ≡ Ok tt → too_deep nodes ≡ false → IsSceneOf (viewed nodes)
+  viewed_is nodes made roots helpers shallow =
+      let m = made_is nodes made in
+      record {
+        each = λ i x at. from_none nodes i x (m.each i x at);
+        many = m.many ∙ omega arith;
+        roots_low = children_low flat.nodes flat.roots roots;
+        helpers_low = children_low flat.nodes flat.helpers helpers;
+        shallow = shallow;
+        roots = refl;
+        helpers = refl;
+        state = numbered flat.nodes flat.roots flat.helpers;
+      }
+
   pub scene_is : (scene : SceneView) → scene_of flat ≡ Ok scene → IsSceneOf scene
   unfolding scene_of
   scene_is scene h =
@@ -183,14 +199,15 @@ module _ (flat : Flat) where
       let b = bind_is (all_children flat.nodes flat.roots) (λ _. with_helpers a.0) scene a.2 in
       let c = bind_is (all_children flat.nodes flat.helpers) (λ _. limited a.0) scene b.2 in
       let d = bind_is (limits a.0 (called numbers_of.numbers flat.roots)) (λ _. Ok (viewed a.0)) scene c.2 in
-      let m = made_is a.0 a.1 in
-      subst IsSceneOf (scene_ok_is (viewed a.0) scene d.2) (record {
-        each = λ i x at. from_none a.0 i x (m.each i x at);
-        many = m.many ∙ omega arith;
-        roots_low = children_low flat.nodes flat.roots b.1;
-        helpers_low = children_low flat.nodes flat.helpers c.1;
-        shallow = not_too_deep a.0 (called numbers_of.numbers flat.roots) d.1;
-        roots = refl;
-        helpers = refl;
-        state = numbered flat.nodes flat.roots flat.helpers;
-      })
+      subst IsSceneOf (scene_ok_is (viewed a.0) scene d.2)
+      (viewed_is a.0 a.1 b.1 c.1 (not_too_deep a.0 (called numbers_of.numbers flat.roots) d.1))
+
+  -- a document's scene keeps to the limits
+  pub scene_limited : (scene : SceneView) → scene_of flat ≡ Ok scene → IsLimited scene.nodes scene.roots
+  unfolding scene_of
+  scene_limited scene h =
+      let a = bind_is (nodes_of flat.nodes numbers_of) with_roots scene h in
+      let b = bind_is (all_children flat.nodes flat.roots) (λ _. with_helpers a.0) scene a.2 in
+      let c = bind_is (all_children flat.nodes flat.helpers) (λ _. limited a.0) scene b.2 in
+      let d = bind_is (limits a.0 (called numbers_of.numbers flat.roots)) (λ _. Ok (viewed a.0)) scene c.2 in
+      subst (λ (v : SceneView). IsLimited v.nodes v.roots) (scene_ok_is (viewed a.0) scene d.2) d.1

@@ -23,7 +23,7 @@ use Rattle.scene_core.specs.Scene.{SceneView}
 use Rattle.scene_core.specs.Shape.{declared_by, most_declared}
 use Rattle.scene_core.specs.Typed.{default_of, field_value}
 use Rattle.laws_written.proofs.NumberedLists.{some_is}
-use Rattle.laws_written.proofs.NumberedScenes.{found, label_in}
+use Rattle.laws_written.proofs.NumberedScenes.{found, label_in, scene_is}
 use Rattle.laws_written.specs.Defaults.{LeftOutAreDefaults}
 use Rattle.laws_written.specs.Values.{WrittenNodesAreTyped, is_sound}
 use Rattle.laws_written.specs.Writable.{AreKeepable}
@@ -74,15 +74,15 @@ module _ (from : Flat) (s : SceneView) (routes : List Route) (state : List Field
     (none : again.helpers ≡ []) (next : SceneView) (is_next : scene_of again ≡ Ok next) (typed_again : WrittenNodesAreTyped) (left_out : LeftOutAreDefaults) where
   pub next_switch : (h : ℕ) (hs : List ℕ) → s.helpers ≡ h ∷ hs → IsSwitchOf (h ∷ hs) next (length s.nodes)
   next_switch h hs e =
-      let ns : List ℕ = numbers from s routes state again is_scene kept of_type sound table same filled none next is_next typed_again left_out in
+      let ns : List ℕ = numbers from s routes state again is_scene kept of_type sound table same filled none next (scene_is again next is_next) typed_again left_out in
       let as_many : length again.nodes ≡ length s.nodes + 1 =
       many from s routes state again is_scene kept of_type sound table same filled none ∙ ap (λ (l : List ℕ). length s.nodes + length (switch_root (length s.nodes) l)) e in
-      let next_long = next_many from s routes state again is_scene kept of_type sound table same filled none next is_next typed_again left_out in
+      let next_long = next_many from s routes state again is_scene kept of_type sound table same filled none next (scene_is again next is_next) typed_again left_out in
       let g = found again.nodes (length s.nodes) (omega (arith, as_many)) in
       let m = found next.nodes (length s.nodes) (omega (arith, as_many, next_long)) in
       let a = last_is from s routes state again is_scene kept of_type sound table same filled none h hs g.0 e g.1 in
-      let r = read_is from s routes state again is_scene kept of_type sound table same filled none next is_next typed_again left_out (length s.nodes) g.0 m.0 g.1 m.1 in
-      let in_place = called_in_place from s routes state again is_scene kept of_type sound table same filled none next is_next typed_again left_out in
+      let r = read_is from s routes state again is_scene kept of_type sound table same filled none next (scene_is again next is_next) typed_again left_out (length s.nodes) g.0 m.0 g.1 m.1 in
+      let in_place = called_in_place from s routes state again is_scene kept of_type sound table same filled none next (scene_is again next is_next) typed_again left_out in
       let named : AllByRecursion (λ (n : ℕ). called ns n ≡ n) (h ∷ hs) =
       all_weaker (λ (n : ℕ). n < length s.nodes) (λ (n : ℕ). called ns n ≡ n) (λ n l. in_place n (omega (arith, as_many, l))) (h ∷ hs)
       (subst (AllByRecursion (λ (n : ℕ). n < length s.nodes)) e (helpers_there from s is_scene)) in

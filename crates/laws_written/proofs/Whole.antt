@@ -9,7 +9,7 @@ use Rattle.laws_documents.specs.Closings.{Braces, IsOfNode, Shown, closings, exp
 use Rattle.scene_core.specs.declared.scene.Route.{Route}
 use Rattle.scene_core.specs.Scene.{SceneView}
 use Rattle.scene_text.specs.Statements.{scene_document}
-use Rattle.laws_written.proofs.NumberedScenes.{found}
+use Rattle.laws_written.proofs.NumberedScenes.{IsSceneOf, found, scene_is}
 use Rattle.laws_written.specs.Defaults.{LeftOutAreDefaults}
 use Rattle.laws_written.specs.Headers.{HeadersAreKept}
 use Rattle.laws_written.specs.Labels.{LabelsAreDistinct}
@@ -65,18 +65,19 @@ all_again table headers labels values defaults close stay fill from scene routes
     let none = helpers_are_of_instances d again nodes e in
     let same = stay from scene routes state again is few kept e in
     let filled = fill from scene routes state again is few kept distinct e in
+    let scene_again : IsSceneOf again next = scene_is again next h in
     record {
       header = headers scene routes state again next e h;
-      roots = next_roots from scene routes state again is kept of_type sound table same filled none next h values defaults;
-      helpers = next_helpers from scene routes state again is kept of_type sound table same filled none next h values defaults;
-      types = next_types from scene routes state again is kept of_type sound table same filled none next h values defaults;
-      declared = next_declared from scene routes state again is kept of_type sound table same filled none next h values defaults;
-      rows = next_rows from scene routes state again is kept of_type sound table same filled none next h values defaults;
-      children = next_children from scene routes state again is kept of_type sound table same filled none next h values defaults;
-      values = next_values from scene routes state again is kept of_type sound table same filled none next h values defaults;
+      roots = next_roots from scene routes state again is kept of_type sound table same filled none next scene_again values defaults;
+      helpers = next_helpers from scene routes state again is kept of_type sound table same filled none next scene_again values defaults;
+      types = next_types from scene routes state again is kept of_type sound table same filled none next scene_again values defaults;
+      declared = next_declared from scene routes state again is kept of_type sound table same filled none next scene_again values defaults;
+      rows = next_rows from scene routes state again is kept of_type sound table same filled none next scene_again values defaults;
+      children = next_children from scene routes state again is kept of_type sound table same filled none next scene_again values defaults;
+      values = next_values from scene routes state again is kept of_type sound table same filled none next scene_again values defaults;
       names = next_names from scene routes state again is kept of_type sound table same filled none next h values defaults few labels;
       labels = next_labels from scene routes state again is kept of_type sound table same filled none next h values defaults few labels;
       numbers = numbers_are again next h (numbered_in_place from scene routes state again is kept of_type sound table same filled none)
-          (next_many from scene routes state again is kept of_type sound table same filled none next h values defaults);
+          (next_many from scene routes state again is kept of_type sound table same filled none next scene_again values defaults);
       switch = next_switch from scene routes state again is kept of_type sound table same filled none next h values defaults;
     }

@@ -5,7 +5,7 @@ use Rattle.std.specs.List.{list_any, fold, sum_by}
 use Rattle.std.specs.Option.{option_and_then, option_map_or}
 use Rattle.x3d_values.specs.Ranges.{max_places, max_sensors}
 use Rattle.x3d_values.specs.declared.node_type.NodeType.{NodeType}
-use Rattle.x3d_values.specs.declared.node_type.NodeType.TheVariants.{PlaneSensor, TouchSensor}
+use Rattle.x3d_values.specs.declared.node_type.NodeType.TheVariants.{PlaneSensor, Switch, TouchSensor}
 use Rattle.x3d_values.specs.declared.table.FieldRow.{FieldRow}
 use Rattle.x3d_values.specs.Tables.{rows, row_named}
 use Rattle.scene_core.specs.declared.scene.SceneNode.{SceneNode}
@@ -57,6 +57,15 @@ with_sensor nodes sensors n =
     if is_sensor nodes n
     then (if list_any (λ m. m == n) sensors then sensors else sensors ++ n ∷ []) else sensors
 
+-- the children that are siblings to a pointing device: not those of a Switch, which shows at most
+-- one of them, so none is shown beside a sensor
+abbrev pub unless_in_switch : NodeType → List ℕ → List ℕ
+unless_in_switch Switch ns = []
+unless_in_switch _ ns = ns
+
+abbrev pub own_siblings : SceneNode → List ℕ
+own_siblings node = unless_in_switch node.node_type (own_children node)
+
 -- the sensors of a list, each once
 abbrev pub sensors_in : List SceneNode → List ℕ → List ℕ
 sensors_in nodes ns = fold (with_sensor nodes) [] ns
@@ -64,6 +73,7 @@ sensors_in nodes ns = fold (with_sensor nodes) [] ns
 abbrev pub is_crowded : List SceneNode → List ℕ → Bool
 is_crowded nodes ns = nat_lt max_sensors (length (sensors_in nodes ns))
 
+-- the list of the roots or a node's siblings have too many sensors
 abbrev pub any_crowded : List SceneNode → List ℕ → Bool
 any_crowded nodes roots =
-    is_crowded nodes roots || list_any (λ node. is_crowded nodes (own_children node)) nodes
+    is_crowded nodes roots || list_any (λ node. is_crowded nodes (own_siblings node)) nodes

@@ -19,7 +19,8 @@ pub struct SceneFault {
 /// The kinds of faults of a scene. The first fault found is reported: faults of fields first, by
 /// node number and then field number, and at one field in the order of this list; then those of
 /// roots and helpers; then TooDeep, and then TooMany. TooDeep is a chain of more than 64 nodes.
-/// TooMany is more than 65,536 places, 64 sensors in one list, or 65,536 fields of one node.
+/// TooMany is more than 65,536 places, 64 sensors in one list (but a Switch's), or 65,536 fields of
+/// one node.
 #[derive(Clone, Copy, Debug, PartialEq, Eq, Error)]
 pub enum SceneFaultKind {
     #[error("the value has not the form of its field's type")]

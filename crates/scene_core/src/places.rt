@@ -55,7 +55,7 @@ pub(crate) fn has_too_many_places(
     Ok(MAX_PLACES < together(counts.as_slice(), roots))
 }
 
-/// Reports whether the list of the roots or any list of children has too many sensors.
+/// Reports whether the list of the roots or any node's siblings have too many sensors.
 pub(crate) fn is_any_crowded(nodes: &[SceneNode], roots: &[u32]) -> bool
     ensures { result ≡ spec.any_crowded nodes.now roots.now }
 {
@@ -188,11 +188,22 @@ fn is_crowded(nodes: &[SceneNode], list: &[u32]) -> bool
     false
 }
 
+/// Returns the children that are siblings to a pointing device: none in a Switch, which shows at
+/// most one child, so no shape is shown beside a sensor.
+fn own_siblings(node: &SceneNode) -> &[u32]
+    ensures { result.now ≡ spec.own_siblings node.now }
+{
+    match node.node_type {
+        NodeType::Switch => &[],
+        _ => own_children(node),
+    }
+}
+
 fn has_crowded(nodes: &[SceneNode]) -> bool
     ensures { result
-        ≡ list_any (λ node. spec.is_crowded nodes.now (spec.own_children node)) nodes.now }
+        ≡ list_any (λ node. spec.is_crowded nodes.now (spec.own_siblings node)) nodes.now }
 {
     nodes
         .iter()
-        .any(|node| is_crowded(nodes, own_children(node)))
+        .any(|node| is_crowded(nodes, own_siblings(node)))
 }

@@ -299,8 +299,8 @@ impl Scene {
         self.sensors.below(owner)
     }
 
-    /// No list of a scene has more than 64 sensors, and no node has more fields than there are
-    /// field numbers.
+    /// No list of a scene but a Switch's has more than 64 sensors, and no node has more fields than
+    /// there are field numbers.
     pub fn keeps_limits(&self)
         ensures uncrowded { any_crowded self.now.nodes self.now.roots ≡ false }
         ensures numbered { any_wide self.now.nodes ≡ false }

@@ -28,13 +28,15 @@ frame_fits first entries =
 -- ---- reading
 
 -- the entries that were read, if nothing but the chain after them follows
-abbrev pub entries_of : List ℕ → Option (List EntryView × List ℕ) → Result (List EntryView) FrameFault
+abbrev pub entries_of : List ℕ → Option (List EntryView × List ℕ)
+    → Result (List EntryView) FrameFault
 entries_of before None = Err BadEntry
 entries_of before (Some x) =
     if pointwise nat_eq x.1 (chain_after before x.0) then Ok x.0 else Err BadChain
 
 -- the entries after a front that was read
-abbrev pub framed : List ℕ → ℕ → Option ((ℕ × (ℕ × ℕ)) × List ℕ) → Result (List EntryView) FrameFault
+abbrev pub framed : List ℕ → ℕ → Option ((ℕ × (ℕ × ℕ)) × List ℕ)
+    → Result (List EntryView) FrameFault
 framed before first None = Err Short
 framed before first (Some x) =
     if x.0.0 == 0 then
@@ -43,5 +45,6 @@ framed before first (Some x) =
     else Err BadKind
 
 -- the entries of a payload that is the next of a log with this chain, or the first fault
-unfoldable pub frame_in : (before : List ℕ) (first : ℕ) → List ℕ → Result (List EntryView) FrameFault
+unfoldable pub frame_in : (before : List ℕ) (first : ℕ) → List ℕ
+    → Result (List EntryView) FrameFault
 frame_in before first bytes = framed before first (front_codec.read bytes)

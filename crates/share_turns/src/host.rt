@@ -24,9 +24,9 @@ use share_core::Host;
 use share_law::{HostFault, HostReply, NumberFault};
 use share_wire::{Ask, Body, Message, WireFault, decode};
 
-/// Goes on after a clock, unless memory was refused to it. A clock that was refused for another
-/// cause is dropped.
-fn after_clock(answer: Result<u32, NumberFault>) -> Result<(), TurnFault>
+/// Goes on after a clock. A clock that was refused for another cause than memory is dropped. Fails
+/// with `Memory` if memory was refused to it.
+pub fn after_clock(answer: Result<u32, NumberFault>) -> Result<(), TurnFault>
     ensures refused { is_err result ≡ says_memory (Clocked answer) }
     ensures fault { OnErr result (result ≡ Err Memory) }
 {
@@ -60,7 +60,7 @@ fn sender_in(body: Body) -> Option<u8>
 }
 
 /// Returns the viewer that offers or asks with this datagram, if it was decoded.
-fn sender_of(read: &Result<Message, WireFault>) -> Option<u8>
+pub fn sender_of(read: &Result<Message, WireFault>) -> Option<u8>
     ensures { result ≡ sender_of read.now }
 {
     match read {
@@ -135,8 +135,12 @@ fn send_ack<P: Port>(
     port.send(to, host.ack(who).as_slice())
 }
 
-/// Sends the answers to a datagram that was taken.
-fn send_for<P: Port>(
+/// Sends the answers to a datagram that was taken: to an ask the inputs that were asked for, or the
+/// floor if they are below it, and to an ask or an offer an ack for its sender, if there is such a
+/// viewer.
+///
+/// Fails if a send failed. Nothing more is sent then.
+pub fn send_for<P: Port>(
     host: &Host,
     reply: HostReply,
     sender: Option<u8>,
@@ -152,8 +156,9 @@ fn send_for<P: Port>(
     send_ack(host, sender, to, port)
 }
 
-/// Goes on after a datagram that the host refused, unless memory was refused to its offer.
-fn after_refusal(fault: HostFault) -> Result<(), TurnFault>
+/// Goes on after a datagram that the host refused. Fails with `Memory` if memory was refused to its
+/// offer.
+pub fn after_refusal(fault: HostFault) -> Result<(), TurnFault>
     ensures refused { is_err result ≡ says_memory (HostTook (Err fault)) }
     ensures fault { OnErr result (result ≡ Err Memory) }
 {
@@ -163,8 +168,8 @@ fn after_refusal(fault: HostFault) -> Result<(), TurnFault>
     }
 }
 
-/// Lets the host take a decoded datagram, or refuse it.
-fn take(host: &mut Host, read: &Result<Message, WireFault>) -> Result<HostReply, HostFault>
+/// Lets the host take a decoded datagram, or refuse it, like `Host::take`.
+pub fn take(host: &mut Host, read: &Result<Message, WireFault>) -> Result<HostReply, HostFault>
     ensures mark { host.new.mark ≡ host.old.mark }
     ensures asked { IfOk result (AreNumbered host.new.part) }
     ensures step { IsPartTakeOf host.old.mark host.old.part read.now result host.new.part }
@@ -236,8 +241,8 @@ fn hear_from(heard: &mut Heard, ask: Option<Ask>, viewers: u8)
     }
 }
 
-/// Notes the ask of a viewer, if the datagram is one.
-fn hear(heard: &mut Heard, read: &Result<Message, WireFault>, mark: &[u8; 32], viewers: u8)
+/// Notes the ask of one of `viewers` viewers, if the datagram is one with this mark.
+pub fn hear(heard: &mut Heard, read: &Result<Message, WireFault>, mark: &[u8; 32], viewers: u8)
     ensures { heard.new ≡ hear_from viewers heard.old (asked_of mark.now read.now) }
 {
     hear_from(heard, asked_of(read, mark), viewers);

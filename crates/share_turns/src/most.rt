@@ -1,4 +1,4 @@
 //! The size of a turn.
 
 /// The largest number of datagrams that a turn takes.
-pub(crate) const MOST: u32 = 64;
+pub const MOST: u32 = 64;

@@ -46,8 +46,8 @@ fn next_floor(host: &Host, keep: Option<u32>, lowest: Option<u32>) -> Option<u32
 }
 
 /// Drops the inputs that every viewer the host heard of has asked past, except the last `keep` of
-/// them.
-fn drop_passed(host: &mut Host, heard: &Heard, keep: Option<u32>)
+/// them. Drops nothing without `keep`, or if the host has heard of no viewer.
+pub fn drop_passed(host: &mut Host, heard: &Heard, keep: Option<u32>)
     ensures mark { host.new.mark ≡ host.old.mark }
     ensures part { host.new.part ≡ kept_by keep heard.now host.old.part }
 {
@@ -82,7 +82,7 @@ fn kept_turn<P: Port>(
 
 /// Reports whether the host has numbered the inputs that `plan` requires, and all viewers it heard
 /// of have asked past them.
-fn is_over(host: &Host, heard: &Heard, plan: &HostPlan) -> bool
+pub fn is_over(host: &Host, heard: &Heard, plan: &HostPlan) -> bool
     ensures { result ≡ is_over plan.now (hosting host.now.part heard.now) }
 {
     is_served(plan.until, heard.lowest(), host.len())

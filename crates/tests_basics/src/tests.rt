@@ -6,6 +6,7 @@ mod given_back;
 mod lists;
 mod memory;
 mod numerals;
+mod parts;
 mod passing;
 mod reaction_growths;
 mod reactions;

@@ -13,7 +13,7 @@ use app_program::{
     Failure, RunFault, StreamFault, check_text, format_text, refusal_line, run_job, status_of,
     write_whole,
 };
-use app_words::{Order, OrderFault, Request, request_of};
+use app_words::{Order, OrderFault, Request, hint_of, request_of};
 use std::alloc::{AllocError, Global};
 use std::io::{self, Eprint};
 use std::net::Net;
@@ -107,12 +107,43 @@ fn work<R: Env + AllocGlobal + Input + Print + Net + Eprint + Clock>(
     answer_own(rt, own.as_slice())
 }
 
+/// Returns what is wrong with the process's own words, in one line.
+fn own_hint<R: Env + AllocGlobal>(rt: &R) -> Result<String, OrderFault> {
+    let own = own_words(rt)?;
+    let Ok(words) = views(rt.alloc(), own.as_slice()) else {
+        return Err(OrderFault::Memory);
+    };
+    hint_of(rt.alloc(), words.as_slice())
+}
+
+/// Prints the line of a refusal on standard error, and returns its status.
+fn refuse<R: Eprint>(rt: &R, failure: &Failure) -> ExitCode {
+    let _told = rt.eprintln(refusal_line(failure).as_str());
+    ExitCode::from(status_of(failure))
+}
+
+/// Like `refuse`, for words. A second line says which word is wrong, and what is required.
+fn refuse_words<R: Env + AllocGlobal + Eprint>(rt: &R) -> ExitCode {
+    let words = Failure::Order(OrderFault::Words);
+    match own_hint(rt) {
+        Ok(hint) => {
+            let status = refuse(rt, &words);
+            let _told = rt.eprintln(hint.as_str());
+            status
+        }
+        Err(OrderFault::Words) => {
+            let status = refuse(rt, &words);
+            let _told = rt.eprintln("a word is not UTF-8");
+            status
+        }
+        Err(OrderFault::Memory) => refuse(rt, &Failure::Order(OrderFault::Memory)),
+    }
+}
+
 fn main(rt: HostRuntime) -> ExitCode {
     match work(&rt) {
         Ok(()) => ExitCode::SUCCESS,
-        Err(failure) => {
-            let _ = rt.eprintln(refusal_line(&failure).as_str());
-            ExitCode::from(status_of(&failure))
-        }
+        Err(Failure::Order(OrderFault::Words)) => refuse_words(&rt),
+        Err(failure) => refuse(&rt, &failure),
     }
 }

@@ -8,13 +8,14 @@ ghost use Rattle.app_words.specs.Words.{HostInRange, ViewInRange};
 use crate::ends::{tell_host_end, tell_port, tell_view_end};
 use app_commands::{
     ExactPort, JointJob, PatientPort, Peer, Seat, SharedJob, TellingPort, Watch, agree_job, bound,
-    bound_free, first_boot, host_job, joint_job, number_of, rehearse_job, seated_job, shared_job,
-    view_job,
+    bound_free, first_boot, give_job, host_job, joint_job, number_of, rehearse_job, seated_job,
+    shared_job, view_job,
 };
 use app_jobs::JobFault;
 use app_program::{Failure, RunFault, ShareFault, read_whole, write_whole};
 use app_words::{HostOrder, Order, ViewEnd, ViewOrder};
 use share_turns::{HostPlan, Port, ViewPlan};
+use std::alloc::Global;
 use std::io::{self, Eprint};
 use std::net::Net;
 use std::time::Clock;
@@ -163,7 +164,7 @@ fn read_seated<R: AllocGlobal + Input>(
     seated_job(rt.alloc(), bytes.as_slice(), order, asked.who, boot)
 }
 
-/// Returns what a viewer is asked to do.
+/// Returns what a viewer is asked to do before it gives.
 fn view_plan(asked: &ViewOrder) -> ViewPlan {
     let until = match asked.end {
         ViewEnd::Until(until) => until,
@@ -174,7 +175,7 @@ fn view_plan(asked: &ViewOrder) -> ViewPlan {
         until,
         turns: asked.turns,
         join,
-        give: asked.give,
+        give: None,
     }
 }
 
@@ -204,43 +205,61 @@ fn repeat_ask<P: Port>(seat: &Seat, host: u16, port: &mut P) {
     }
 }
 
-/// Runs a viewer, which offers its points to a host, and returns its trace and its scene.
-fn viewed<R: AllocGlobal + Net + Eprint + Clock>(
+/// Repeats the last ask of a viewer that is done, and prints its text.
+fn printed<R: Print, P: Port>(
+    rt: &R,
+    seat: &Seat,
+    host: u16,
+    text: Result<Vec<u8>, ShareFault>,
+    port: &mut P,
+) -> Result<(), Failure> {
+    let text = text?;
+    repeat_ask(seat, host, port);
+    print(rt, text.as_slice())?;
+    Ok(())
+}
+
+/// Gives the snapshot of a viewer whose text is printed, if it is asked to.
+fn given<P: Port>(
+    alloc: Global,
+    seat: &Seat,
+    asked: &ViewOrder,
+    port: &mut P,
+) -> Result<(), Failure> {
+    if let Some(to) = asked.give {
+        give_job(alloc, seat, to, asked.give_turns, port)?;
+    }
+    Ok(())
+}
+
+/// Runs a viewer, which offers its points to a host, and prints its trace and its scene. Then it
+/// gives its snapshot, if it is asked to.
+fn viewed<R: AllocGlobal + Print + Net + Eprint + Clock>(
     rt: &R,
     seat: &mut Seat,
     asked: &ViewOrder,
-) -> Result<Vec<u8>, ShareFault> {
+) -> Result<(), Failure> {
     let bound = bound(rt, own_port(asked))?;
     tell_port(rt, asked.verbose, &bound);
     let watch = Watch::new(seat.viewer.mark(), Peer::Viewer(asked.boot));
     let telling = TellingPort::new(bound, rt, asked.verbose, watch);
     let mut port = PatientPort::new(ExactPort::new(telling, last_input(asked)), rt);
     let plan = view_plan(asked);
-    let done = view_job(rt.alloc(), seat, asked.port, &plan, &mut port);
+    let text = view_job(rt.alloc(), seat, asked.port, &plan, &mut port);
     let mut port = port.into_port();
-    if done.is_ok() {
-        repeat_ask(seat, asked.port, &mut port);
-    }
-    let counts = port.port().counts();
+    let done = printed(rt, seat, asked.port, text, &mut port);
+    let mut port = PatientPort::new(port, rt);
+    let done = match done {
+        Ok(()) => given(rt.alloc(), seat, asked, &mut port),
+        Err(failure) => Err(failure),
+    };
+    let counts = port.port().port().counts();
     tell_view_end(rt, asked.verbose, seat.viewer.applied(), counts);
     done
 }
 
-/// Reads a job of points, runs its viewer, and returns the trace and the scene.
-fn read_viewed<R: AllocGlobal + Input + Net + Eprint + Clock>(
-    rt: &R,
-    order: &Order,
-    asked: &ViewOrder,
-) -> Result<Vec<u8>, Failure>
-    requires { ViewInRange asked.now }
-{
-    let mut seat = read_seated(rt, order, asked)?;
-    let text = viewed(rt, &mut seat, asked);
-    seat.close();
-    Ok(text?)
-}
-
-/// Reads a job of points, runs its viewer, and prints the trace and the scene.
+/// Reads a job of points, runs its viewer, prints the trace and the scene, and then gives its
+/// snapshot, if it is asked to.
 pub fn view<R: AllocGlobal + Input + Print + Net + Eprint + Clock>(
     rt: &R,
     order: &Order,
@@ -248,7 +267,9 @@ pub fn view<R: AllocGlobal + Input + Print + Net + Eprint + Clock>(
 ) -> Result<(), Failure>
     requires { ViewInRange asked.now }
 {
-    let text = read_viewed(rt, order, asked)?;
-    print(rt, text.as_slice())?;
-    Ok(())
+    let mut seat = read_seated(rt, order, asked)?;
+    let done = viewed(rt, &mut seat, asked);
+    // For the prover: an explicit call. The drop of a seat would be proved at each exit.
+    seat.close();
+    done
 }

@@ -155,6 +155,7 @@ fn views(alloc: Global, bytes: &[u8], who: u8, port: &mut Between<'_>) -> bool
         turns: TURNS,
         at: None,
         give: None,
+        give_turns: 1,
         join: false,
         verbose: false,
     });

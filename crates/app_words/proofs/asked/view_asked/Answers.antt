@@ -20,3 +20,6 @@ returns-in_default-at_in-clause-none c = λ o h. c.in_default-at_in.ensures.none
 
 pub returns-in_default-give_in-clause-none : goal.returns-in_default-give_in-clause-none
 returns-in_default-give_in-clause-none c = λ o h. c.in_default-give_in.ensures.none o.give h.give
+
+pub returns-in_default-give_turns_in-clause-none : goal.returns-in_default-give_turns_in-clause-none
+returns-in_default-give_turns_in-clause-none c = λ o h. c.in_default-give_turns_in.ensures.none o.give_turns h.give_turns

@@ -1,0 +1,3 @@
+pub mod Equations
+pub mod Grown
+pub mod Walks

@@ -1,0 +1,5 @@
+pub mod Groupings
+pub mod Notes
+pub mod Part
+pub mod Rounds
+pub mod Rules

@@ -1,0 +1,7 @@
+mod Reading
+mod Adding
+mod Parts
+mod Keeping
+mod Tails
+mod Ending
+mod Restarting

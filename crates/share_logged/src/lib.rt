@@ -1,0 +1,26 @@
+//! A host of a shared world over a log: what it numbers is stored before anyone hears of it, so a
+//! host that begins again from its log is the host that it was.
+//!
+//! | Modules | Content |
+//! |---|---|
+//! | `beginning` | a host that begins with the entries of a log |
+//! | `entries`, `pending`, `gather` | what a turn takes, and the entries that it numbers |
+//! | `turn` | a turn: it stores what was numbered, and then answers |
+//! | `hosting`, `fault` | a host over a log, and why it ends |
+#![tactic(auto)]
+
+mod beginning;
+mod entries;
+mod fault;
+mod gather;
+mod hosting;
+mod pending;
+mod turn;
+
+pub use beginning::resume;
+pub use fault::{LoggedFault, ResumeFault};
+pub use hosting::LoggedHost;
+pub use turn::logged_turn;
+
+#[cfg(test)]
+mod tests;

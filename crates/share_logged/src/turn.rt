@@ -1,0 +1,173 @@
+//! A turn of a host over a log.
+
+ghost use Rattle.std.specs.Prelude.{◌≡◌, ◌≢◌, ◌++◌, ◌≤◌, ℕ, [], Err, IfErr, IfOk, IsTrue, OnErr};
+ghost use Rattle.std.specs.Prelude.{OnOk, is_ok, length, pos, ◌≤ℤ◌};
+ghost use Rattle.share_store.specs.OneLog.{Last, max_entries};
+ghost use Rattle.share_core.specs.Host.{AreNumbered};
+ghost use Rattle.share_turns.specs.Exchanges.{AreSent};
+ghost use Rattle.share_turns.specs.HostTurn.{bodies_for, datagrams_of};
+ghost use Rattle.share_turns.specs.Told.{counted};
+ghost use Rattle.share_turns.specs.declared.fault.TurnFault.TheVariants as turn_fault;
+ghost use Rattle.share_logged.specs.declared.fault.LoggedFault.TheVariants as logged_fault;
+ghost use Rattle.share_logged.specs.Making.{IsOfLog};
+ghost use Rattle.share_logged.specs.Notes.{AllNumbered, IsSentInTurn, sent_for_all};
+ghost use Rattle.share_logged.specs.Shown.{Shows};
+ghost use Rattle.share_logged.specs.Turn.{IsLoggedEnd, IsLoggedTurn, failures_after};
+
+use crate::fault::LoggedFault;
+use crate::gather::gather;
+use crate::hosting::LoggedHost;
+use crate::pending::{Note, Pending};
+use share_core::Host;
+use share_entries::Entry;
+use share_store::{AppendFault, Log};
+use share_turns::{Heard, Port, PortFault, TurnFault, send_for};
+
+/// Stores entries, if there are any.
+fn store<L: Log>(log: &mut L, entries: &[Entry]) -> Result<(), AppendFault>
+    requires open { IsTrue (L.is_open log.old) }
+    requires most { length entries.now ≤ max_entries }
+    ensures stored { OnOk result (IsTrue (L.is_clean log.new)
+        → L.known log.new ≡ L.known log.old ++ entries.now) }
+    ensures refused { OnErr result (IsTrue (L.is_clean log.new)
+        → L.known log.new ≡ L.known log.old) }
+    ensures some { OnErr result (entries.now ≢ []) }
+    ensures open { OnOk result (IsTrue (L.is_open log.new)) }
+    ensures clean { IsTrue (L.is_clean log.new) → IsTrue (L.is_clean log.old) }
+    ensures lasts { Last (L.may_leave log.old) (L.known log.old) → IsTrue (L.is_clean log.new)
+        → Last (L.may_leave log.new) (L.known log.new) }
+{
+    if entries.is_empty() {
+        return Ok(());
+    }
+    log.append(entries)
+}
+
+/// Sends the answers to a datagram that was taken.
+fn answer_one<P: Port>(host: &Host, note: &Note, port: &mut P) -> Result<(), PortFault>
+    requires { AreNumbered host.now.part note.now.reply }
+    ensures sent { AreSent (is_ok result) note.now.to (P.told port.old) (P.told port.new)
+        (datagrams_of host.now.mark (bodies_for host.now.part note.now.sender note.now.reply)) }
+    ensures failures { P.failure_count port.new ≡ counted result (P.failure_count port.old) }
+{
+    send_for(host, note.reply, note.sender, note.to, port)
+}
+
+/// Sends the answers to the datagrams that were taken.
+fn answer_all<P: Port>(host: &Host, notes: &[Note], port: &mut P) -> Result<(), PortFault>
+    requires { AllNumbered host.now.part notes.now }
+    ensures sent { IsSentInTurn (is_ok result) (P.told port.old) (P.told port.new)
+        (sent_for_all host.now.mark host.now.part notes.now) }
+    ensures failures { P.failure_count port.new ≡ counted result (P.failure_count port.old) }
+{
+    for note in notes {
+        answer_one(host, note, port)?;
+    }
+    Ok(())
+}
+
+/// Sends the answers to the datagrams that were taken, like `answer_all`.
+fn answer<P: Port>(host: &Host, notes: &[Note], port: &mut P) -> Result<(), LoggedFault>
+    requires { AllNumbered host.now.part notes.now }
+    ensures sent { IsSentInTurn (is_ok result) (P.told port.old) (P.told port.new)
+        (sent_for_all host.now.mark host.now.part notes.now) }
+    ensures fault { OnErr result (result ≡ Err (logged_fault.Turn turn_fault.Port)) }
+    ensures failures { P.failure_count port.new
+        ≡ failures_after result (P.failure_count port.old) }
+{
+    match answer_all(host, notes, port) {
+        Ok(()) => Ok(()),
+        Err(_failed) => Err(LoggedFault::Turn(TurnFault::Port)),
+    }
+}
+
+/// Runs a turn. What is numbered is stored before anything is sent. `last` is the time of the last
+/// input.
+fn turn<L: Log, P: Port>(
+    host: &mut Host,
+    heard: &mut Heard,
+    last: &mut i64,
+    clock: Option<i64>,
+    log: &mut L,
+    port: &mut P,
+) -> Result<(), LoggedFault>
+    requires last { last.old ≡ host.old.part.last }
+    requires from { pos 0 ≤ℤ last.old }
+    requires open { IsTrue (L.is_open log.old) }
+    ensures mark { host.new.mark ≡ host.old.mark }
+    ensures last { OnOk result (last.new ≡ host.new.part.last) }
+    ensures from { OnOk result (pos 0 ≤ℤ last.new) }
+    ensures done { OnOk result (IsLoggedTurn host.old.mark clock (L.is_clean log.new)
+        (L.known log.old) (L.known log.new) (P.told port.old) (P.told port.new) host.old.part
+        host.new.part heard.old heard.new) }
+    ensures ended { IfErr result (λ fault. IsLoggedEnd host.old.mark clock fault
+        (L.is_clean log.new) (L.known log.old) (L.known log.new) (P.told port.old)
+        (P.told port.new) host.old.part heard.old) }
+    ensures open { OnOk result (IsTrue (L.is_open log.new)) }
+    ensures clean { IsTrue (L.is_clean log.new) → IsTrue (L.is_clean log.old) }
+    ensures lasts { Last (L.may_leave log.old) (L.known log.old) → IsTrue (L.is_clean log.new)
+        → Last (L.may_leave log.new) (L.known log.new) }
+    ensures failures { P.failure_count port.new
+        ≡ failures_after result (P.failure_count port.old) }
+{
+    let mut pending = Pending::after(*last);
+    gather(host, clock, heard, &mut pending, port)?;
+    store(log, pending.entries.as_slice())?;
+    *last = pending.last;
+    answer(host, pending.notes.as_slice(), port)
+}
+
+/// Runs a turn of a host over a log, and returns the host. First it numbers the clock, at a time in
+/// microseconds, if there is one, and takes at most 64 datagrams, like `host_turn`. Then it appends
+/// the entries of what it numbered to the log, at once. Only if they are stored it sends the answers
+/// to each datagram's peer, by what the host then holds: to an ask the inputs that were asked for, or
+/// the floor if they are below it, and an ack; to an offer an ack.
+///
+/// Fails with `Turn` and `Memory`, if memory was refused to a clock or to an offer, or `Port`, if a
+/// receive failed: then nothing was stored and nothing was sent. Fails with `Log` if the log refused
+/// the entries or didn't answer: then nothing was sent. Fails with `Turn` and `Port` if a send
+/// failed: then the entries are stored. After each failure the host is dropped, as it may be ahead
+/// of the log: read on, and begin again with `resume`.
+pub fn logged_turn<L: Log, P: Port>(
+    hosting: LoggedHost,
+    clock: Option<i64>,
+    log: &mut L,
+    port: &mut P,
+) -> Result<LoggedHost, LoggedFault>
+    requires open { IsTrue (L.is_open log.old) }
+    ensures mark { IfOk result (λ h. h.mark ≡ hosting.mark) }
+    ensures done { IfOk result (λ h. IsLoggedTurn hosting.mark clock (L.is_clean log.new)
+        (L.known log.old) (L.known log.new) (P.told port.old) (P.told port.new) hosting.part
+        h.part hosting.heard h.heard) }
+    ensures ended { IfErr result (λ fault. IsLoggedEnd hosting.mark clock fault
+        (L.is_clean log.new) (L.known log.old) (L.known log.new) (P.told port.old)
+        (P.told port.new) hosting.part hosting.heard) }
+    // The host stays the one that the log's entries make.
+    ensures current { IfOk result (λ h. (viewers : ℕ) → IsTrue (L.is_clean log.new)
+        → IsOfLog viewers (L.known log.old) hosting.part
+        → IsOfLog viewers (L.known log.new) h.part) }
+    // Each datagram that was sent is of entries that the log has stored.
+    ensures shown { (viewers : ℕ) → IsTrue (L.is_clean log.new)
+        → IsOfLog viewers (L.known log.old) hosting.part
+        → Shows hosting.mark viewers (L.known log.new) (P.told port.old) (P.told port.new) }
+    ensures open { OnOk result (IsTrue (L.is_open log.new)) }
+    ensures clean { IsTrue (L.is_clean log.new) → IsTrue (L.is_clean log.old) }
+    // Whatever a crash leaves has the entries that the log knows.
+    ensures lasts { Last (L.may_leave log.old) (L.known log.old) → IsTrue (L.is_clean log.new)
+        → Last (L.may_leave log.new) (L.known log.new) }
+    ensures failures { P.failure_count port.new
+        ≡ failures_after result (P.failure_count port.old) }
+{
+    let LoggedHost {
+        mut host,
+        mut heard,
+        mut last,
+    } = hosting;
+    match turn(&mut host, &mut heard, &mut last, clock, log, port) {
+        Ok(()) => Ok(LoggedHost { host, heard, last }),
+        Err(fault) => {
+            drop(host);
+            Err(fault)
+        }
+    }
+}

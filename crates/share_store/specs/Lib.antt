@@ -1,0 +1,2 @@
+pub mod OneLog
+pub mod Memory
