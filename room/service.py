@@ -70,7 +70,7 @@ class Service:
         record = Record(text, *(kept or ()))
         room = Room(text)
         if len(record.inputs):
-            room.resume((record.inputs.at(n) for n in range(1, len(record.inputs) + 1)), record.save())
+            room.resume(record.inputs, record.save())
         self.room, self.record, self.orientations = room, record, orientations_of(text.decode())
         self.log_told = record.said
         if self.store:
@@ -94,7 +94,7 @@ class Service:
     def turn(self, now, turn):
         """One turn of the room, and what windows are to be told."""
         self.room.turn(now)
-        self.record.follow(self.room.host, self.room.read, self.person)
+        self.record.follow(self.room, self.person)
         self.renew()
         told = self.tell_log()
         for window in [*self.windows.values()]:

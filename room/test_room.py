@@ -20,6 +20,7 @@ except ImportError:
 import browser
 import tests_examples
 import tests_held
+import tests_log
 import tests_people
 import tests_room
 import tests_server
@@ -75,7 +76,7 @@ def outcome(name, test, begun):
 
 def main():
     core = tests_of(tests_room)
-    tests = {**core, **tests_of(tests_held), **tests_of(tests_server), **tests_of(tests_windows)}
+    tests = {**core, **tests_of(tests_log), **tests_of(tests_held), **tests_of(tests_server), **tests_of(tests_windows)}
     tests |= {**tests_of(tests_viewers), **tests_of(tests_people), **tests_of(tests_examples)}
     names = [word for word in sys.argv[1:] if word != "--quick"]
     if unknown := [name for name in names if name not in tests]:

@@ -207,7 +207,7 @@ class Recorded(Turned):
     def turns(self, count):
         for _ in range(count):
             super().turns(1)
-            self.record.follow(self.room.host, self.room.read, lambda who: ("Ana", "#123456"))
+            self.record.follow(self.room, lambda who: ("Ana", "#123456"))
 
 
 def recorded(turns):
@@ -278,7 +278,7 @@ def test_a_run_is_kept_and_goes_on():
         assert len(kept[0]) == 183 and kept[2][0] == 133, (len(kept[0]), kept[2][0])
         again, room = Record(run.room.text, *kept), Room(run.room.text)
         assert again.world.trace() == run.record.world.trace() and again.log == run.record.log
-        room.resume((again.inputs.at(n) for n in range(1, 184)), again.save())
+        room.resume(again.inputs, again.save())
         assert len(room.host) == 183
         first, second = room.join(), room.join()
         for turn in range(3 * CHECK):
