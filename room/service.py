@@ -9,7 +9,7 @@ from pathlib import Path
 
 from channel import Channel
 from explain import Unshown, read_scene_file
-from people import COLORS, Window, clean, same
+from people import COLORS, NAME, Window, clean, same
 from player import Player
 from record import BOOT, Record
 from room import VIEWERS, Room
@@ -272,16 +272,21 @@ class Service:
         """A window with its person."""
         window = Window(address, outbox)
         window.id = next(self.ids)
-        window.name, window.color = clean(body.get("name")) or f"Guest {window.id}", self.color(body.get("color"))
+        window.name, window.color = self.name_for(window, body.get("name")), self.color(body.get("color"))
         window.trainer = same(body.get("trainer"), self.limits.trainer)
         return window
 
+    def name_for(self, window, wished):
+        """The name that is wished for, with a number where someone else here has it."""
+        taken = {each.name for each in self.windows.values() if each is not window and each.gone is None}
+        name = clean(wished) or window.name or f"Guest {window.id}"
+        numbered = (f"{name[: NAME - 3]} {number}" for number in itertools.count(2))
+        return next(each for each in itertools.chain([name], numbered) if each not in taken)
+
     def color(self, wished):
-        """The color that is wished for, or one that is rare here."""
-        if wished in COLORS:
-            return wished
+        """The color that is wished for, if no one here has it, or else one that is rare."""
         taken = [each.color for each in self.windows.values()]
-        return min(COLORS, key=taken.count)
+        return wished if wished in COLORS and wished not in taken else min(COLORS, key=taken.count)
 
     def welcome(self, window):
         """What a window is sent first."""

@@ -66,7 +66,7 @@ def outcome(name, test, begun):
         return "passed", ""
     except Skipped as skipped:
         return "skipped", str(skipped)
-    except (AssertionError, RuntimeError, OSError) as fault:
+    except Exception as fault:
         lines, trace = [], fault.__traceback__
         while trace:
             lines.append(f"{trace.tb_frame.f_code.co_name}:{trace.tb_lineno}")
