@@ -134,17 +134,19 @@ class Client:
 class Windows:
     """Windows of one room, in one browser; the first is the trainer's."""
 
-    def __init__(self, count=2, job=DOOR, size=(900, 1000), more=("--each", "64")):
-        self.count, self.job, self.size, self.more = count, job, size, more
+    def __init__(self, count=2, job=DOOR, size=(900, 1000), more=("--each", "64"), flags=()):
+        self.count, self.job, self.size, self.more, self.flags = count, job, size, more, flags
 
     def __enter__(self):
         if not browser.installed():
             raise Skipped("no chromium is installed")
         with contextlib.ExitStack() as stack:
             self.served = stack.enter_context(Served(self.job, more=self.more))
-            self.browser = stack.enter_context(contextlib.closing(browser.Browser(self.size)))
+            self.browser = stack.enter_context(contextlib.closing(browser.Browser(self.size, self.flags)))
             self.pages = []
             for number in range(self.count):
+                if not self.fits(number):
+                    break
                 self.pages.append(self.open(number))
                 # People are listed, and have seats, in the order in which they come in.
                 self.pages[-1].wait("window.room && room.state.id")
@@ -156,6 +158,10 @@ class Windows:
                 page.wait("room.state.replay || room.state.status.equal_at > 5")
             self.ends = stack.pop_all()
         return self
+
+    def fits(self, number):
+        """Whether there is place for a window of that number."""
+        return True
 
     def open(self, number):
         """One more window, of a person of that number."""
