@@ -53,7 +53,9 @@ class Room:
                 self.host.take(wire.offer(mark, *offer, each.point))
             else:
                 self.host.clock(each.time)
-        self.newest = newest
+        # What viewers offer from now on is of later boots.
+        last = max((boot for boot, _ in inputs.offered.values()), default=0)
+        self.newest, self.boots = newest, itertools.count(max(int(time.time()), last + 1))
         self.host.drop_below(max(1, newest[0] + 1 - KEPT))
 
     def join(self, *window):

@@ -285,6 +285,11 @@ def test_a_run_is_kept_and_goes_on():
             room.turn(run.time + 33_333 * (turn + 1))
         assert room.seats[first].viewer.applied() == room.seats[second].viewer.applied() == 183 + 3 * CHECK
         assert "Door.translation 1.1 0 0\n" in room.seats[first].viewer.trace()
+        # What is offered then is numbered, though the server was started in the same second.
+        for down in (False, True, False):
+            room.seats[first].viewer.offer(down, x3d.Aim(AT_BUTTON[:3], AT_BUTTON[3:]))
+        room.turn(run.time + 33_333 * (3 * CHECK + 1))
+        assert len(room.host) == 183 + 3 * CHECK + 4, len(room.host)
         assert Store(folder).load(b"#X3D V3.0 utf8\n") is None
 
 
