@@ -305,7 +305,7 @@ def test_a_restarted_server_goes_on():
             mine = {"X-Room-Token": client.seat["token"]}
             stored, job = served.ask("GET", "/door/x3dlog", **mine), served.ask("GET", "/door/job", **mine)
             assert stored[0] == 200 and Writer(read_log(stored[1])[1]).whole(wire.mark_of(scene().encode())) == stored[1], stored[0]
-            assert job[0] == 200 and b"\nscene\n#X3D" in job[1] and b"point 0 1 -1 1.200000 5 0 0 -1\n" in job[1], job[0]
+            assert job[0] == 200 and b"\nscene\n#X3D" in job[1] and b"point 0 1 -1 1.2 5 0 0 -1\n" in job[1], job[0]
         with Served(file, more=more) as served:
             client = served.client()
             log = client.until("log")["log"]
