@@ -101,7 +101,8 @@ def measured(count):
 def main():
     counts = [int(word) for word in sys.argv[1:]] or COUNTS
     where = "in the windows" if (WASM / "x3d.wasm").exists() else "in the server"
-    about = f"{CLICKS} clicks each, {os.cpu_count()} processors, load {os.getloadavg()[0]:.1f} at first, viewers {where}"
+    load = f"load {os.getloadavg()[0]:.1f} at first, of {os.cpu_count()} processors"
+    about = f"{time.strftime('%Y-%m-%d')}, {CLICKS} clicks each, {load}, viewers {where}"
     rows = []
     try:
         for count in counts:
@@ -109,7 +110,7 @@ def main():
     except Skipped as skipped:
         sys.exit(f"room: {skipped}")
     print(f"{about}; library {os.environ.get('X3D_SO', '')}\n")
-    print("\n".join(("| Windows | Median | Worst | Load then |", "|---|---|---|---|", *rows)))
+    print("\n".join((f"| Windows | Median | Worst | Load, on {os.cpu_count()} processors |", "|---|---|---|---|", *rows)))
 
 
 if __name__ == "__main__":

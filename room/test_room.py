@@ -31,6 +31,8 @@ from served import Skipped
 QUICK, BUDGET, END = "--quick" in sys.argv, 40, 55
 # Those of --quick: all of the room without a server before them, and then these, in turn.
 GATE = (
+    "a_log_has_its_bytes",
+    "the_program_recalls_the_log_as_the_job",
     "viewers_in_windows_are_equal_over_a_bad_channel",
     "a_viewer_in_a_window_is_stopped_and_restarts",
     "a_late_window_joins_its_viewer_by_pieces",

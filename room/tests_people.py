@@ -80,6 +80,11 @@ def test_the_trainer_replays_and_begins_again():
         trainer.wait("room.placeOf('Door')[0] > 0.5", LATER)
         trainer.value("const bar = document.getElementById('time'); bar.value = 3; bar.dispatchEvent(new Event('input'))")
         trainer.wait("room.state.replay.n === 3 && room.placeOf('Door')[0] < 0.01", LATER)
+        # What happened is saved, as a job and as a log.
+        trainer.value("window.saved = []; HTMLAnchorElement.prototype.click = function () { saved.push(this.download); }")
+        for kind in ("job", "x3dlog"):
+            trainer.value(f"document.getElementById('{kind}').click()")
+            trainer.wait(f"saved.includes('door.{kind}')", LATER)
         trainer.value("document.getElementById('now').click()")
         trainer.wait("!room.state.replay && room.state.n > 30", LATER)
         trainer.value("document.getElementById('reset').click()")
