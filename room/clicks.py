@@ -69,9 +69,9 @@ def clicked_in_turn(windows, crowd):
     pages, took = windows.pages, []
     note(pages)
     for number in range(CLICKS):
-        page = pages[number * len(pages) // CLICKS]
-        page.wait("room.value('Motor', 'isActive') !== true && room.value('Door', 'translation')[0] === 0")
-        more, pressed = click(pages, page)
+        for page in pages:
+            page.wait("room.value('Motor', 'isActive') !== true && room.value('Door', 'translation')[0] === 0")
+        more, pressed = click(pages, pages[number * len(pages) // CLICKS])
         took += more
         if crowd and not number:
             took += [at - pressed for at in crowd.moved()]

@@ -166,7 +166,7 @@ def test_a_log_is_replayed_by_its_scene():
 
 def program():
     """A program that has `recall`."""
-    found = os.environ.get("X3D_SHARE")
+    found = os.environ.get("PROGRAM")
     places = [found] if found else [TOP / "crates/x3d_share/out/x3d_share", TOP / "out/quick/x3d_share"]
     for place in filter(os.path.exists, places):
         told = subprocess.run([place, "--help"], capture_output=True, text=True, check=False)
@@ -177,7 +177,10 @@ def program():
 
 def test_the_program_recalls_the_log_as_the_job():
     """`recall` of the log that is downloaded is the job that is downloaded, but for its scene."""
-    words = [program(), "recall"]
+    place = program()
+    does = lambda word, given: subprocess.run([place, word], input=given, capture_output=True, check=True).stdout
     for record in (recorded(1200).record, Record(scene().encode()), Record(scene(DRILL).encode())):
-        told = subprocess.run(words, input=record.x3dlog(), capture_output=True, check=True).stdout
+        told = does("recall", record.x3dlog())
         assert told + b"scene\n" + record.text == record.job(), (told[:300], record.job()[:300])
+        world = record.world.trace() + record.world.scene()
+        assert does("run", record.job()).decode() == world, world[:300]
