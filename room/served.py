@@ -7,6 +7,7 @@ import re
 import subprocess
 import sys
 import tempfile
+import time
 from pathlib import Path
 
 import browser
@@ -104,7 +105,9 @@ class Client:
 
     def until(self, *kinds):
         """The next event of one of these kinds; those before it are kept in `events`."""
+        begun = time.monotonic()
         while True:
+            assert time.monotonic() - begun < 3 * LATER, f"not told within {3 * LATER:.0f} s: {' or '.join(kinds)}"
             told = json.loads(self.socket.receive())
             self.note(told)
             if told["kind"] in kinds:

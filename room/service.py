@@ -55,15 +55,17 @@ class Service:
     def __init__(self, name, file, limits, folder=None):
         self.open_windows(name, file, limits)
         self.store = Store(Path(folder, name)) if folder else None
-        text, self.seen = read_scene_file(self.file), self.stamp()
+        # How the file was when it was read, and at the last look.
+        self.seen = self.looked = self.stamp()
+        text = read_scene_file(self.file)
         self.open(text, self.store and self.store.load(text))
 
     def open_windows(self, name, file, limits):
         """A room without windows, and without a world so far."""
         self.name, self.file, self.limits = name, Path(file), limits
         self.windows, self.ids, self.fault, self.runs = {}, itertools.count(1), None, 1
-        # Whether datagrams of windows wait to be carried.
-        self.carries = False
+        # Whether datagrams of windows wait to be carried; one download is written at a time.
+        self.carries, self.writing = False, asyncio.Lock()
 
     def open(self, text, kept=None):
         """Opens the world of a scene, as it was kept or before any input."""
@@ -134,11 +136,11 @@ class Service:
         return news
 
     def look(self):
-        """Looks whether the scene's file is another one."""
-        stamp = self.stamp()
-        if stamp == self.seen:
+        """Looks whether the scene's file is another one, which no one is just writing: it was the same at the last look."""
+        before, self.looked = self.looked, self.stamp()
+        if self.looked == self.seen or self.looked != before:
             return
-        self.seen = stamp
+        self.seen = self.looked
         try:
             text = read_scene_file(self.file)
         except Unshown as unshown:

@@ -138,12 +138,15 @@ class Site:
     async def run(self, request):
         """What happened, as a job or as a world's log, for a window of the room: its token stands in a header."""
         service = self.service(request)
-        if not service.window_of(request.headers.get("X-Room-Token")):
+        window, record = service.window_of(request.headers.get("X-Room-Token")), service.record
+        if not window:
             raise Wrong(403, "no such window")
-        record = service.record
+        if not window.commands.takes():
+            raise Wrong(429, "too many commands a second")
         write = {"job": record.job, "x3dlog": record.x3dlog}[request.match_info["kind"]]
         # A long one takes a while, in which the room goes on.
-        body = await asyncio.get_running_loop().run_in_executor(None, write)
+        async with service.writing:
+            body = await asyncio.get_running_loop().run_in_executor(None, write)
         return web.Response(body=body, content_type="application/octet-stream")
 
     async def link(self, request):
