@@ -1,4 +1,4 @@
--- Seals: by whom a datagram was made, and which way it goes.
+-- Seals: which key a datagram was made with, and which way it goes.
 use Rattle.std.specs.Prelude.{◌≡◌, ℕ, List, ◌∷◌, ◌++◌, take}
 use Rattle.share_keys.specs.Hmac.{hmac}
 use Rattle.share_keys.specs.declared.sealing.Direction.{Direction}
