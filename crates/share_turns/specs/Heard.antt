@@ -1,6 +1,6 @@
 -- What a host has heard of its viewers: the highest number that each has asked from.
 use Rattle.std.specs.Prelude.{ℕ, ◌==◌, List, [], ◌∷◌, get_or, max, min, nat_lt, replicate, slice_set}
-use Rattle.std.specs.Prelude.{if◌then◌else◌, Option, Some, None}
+use Rattle.std.specs.Prelude.{if◌then◌else◌, count_by, Option, Some, None}
 use Rattle.x3d_values.specs.Ranges.{max_viewers}
 
 -- no viewer was heard of; the number of a viewer that hasn't asked is 0
@@ -32,3 +32,7 @@ lower next others = if next == 0 then others else Some (min_with next others)
 abbrev pub lowest : List ℕ → Option ℕ
 lowest [] = None
 lowest (next ∷ others) = lower next (lowest others)
+
+-- how many viewers were heard of
+abbrev pub heard_count : List ℕ → ℕ
+heard_count heard = count_by (λ next. nat_lt 0 next) heard
