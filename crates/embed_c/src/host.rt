@@ -104,6 +104,28 @@ pub extern "C" fn x3d_host_take(
     tell_reply(answer, reply)
 }
 
+/// Takes the bytes of a datagram that came from viewer `who`, and writes what the host did with it
+/// to `reply`. An offer or an ask of another viewer is refused.
+#[unsafe(no_mangle)]
+pub extern "C" fn x3d_host_take_from(
+    alloc: Global,
+    handle: &mut HostHandle,
+    who: u8,
+    bytes: &[u8],
+    reply: &mut ReplyAs,
+) -> u8
+    ensures { CallsOut (λ (h : Embedded). hosts.HostTakesFrom h who bytes.now)
+        (status_by status_of_host) replied handle.old.host result handle.new.host reply.old
+        reply.new }
+{
+    let Some(mut host) = take(handle, alloc) else {
+        return CLOSED;
+    };
+    let answer = host.take_from(who, bytes);
+    put(handle, alloc, host);
+    tell_reply(answer, reply)
+}
+
 /// Copies the datagram of the input with this number.
 #[unsafe(no_mangle)]
 pub extern "C" fn x3d_host_packet(

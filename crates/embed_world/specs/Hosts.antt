@@ -1,16 +1,21 @@
 -- What the calls on an embedded host answer, and the host that they leave.
-use Rattle.std.specs.Prelude.{◌≡◌, ℕ, ℤ, List, slice_get, nat_lt, if◌then◌else◌, Option, None, Some, Result}
+use Rattle.std.specs.Prelude.{◌≡◌, ◌==◌, ◌&&◌, ℕ, ℤ, Bool, true, false, not, List, slice_get, nat_eq, nat_lt, if◌then◌else◌, Option, None, Some, Result, Ok, Err}
+use Rattle.std.specs.Cmp.Lexicographic.{pointwise}
 use Rattle.std.specs.Option.{option_map}
 use Rattle.sha2.specs.Sha256.{sha256}
 use Rattle.x3d_values.specs.Ranges.{max_viewers}
 use Rattle.share_wire.specs.Datagram.{datagram}
 use Rattle.share_wire.specs.Decoding.{decoded}
+use Rattle.share_wire.specs.declared.fault.WireFault.{WireFault}
 use Rattle.share_wire.specs.declared.message.Body.{Body}
+use Rattle.share_wire.specs.declared.message.Body.TheVariants.{Input, Offer, Ask, Ack, Floor, Piece}
+use Rattle.share_wire.specs.declared.message.Message.{Message}
 use Rattle.share_law.specs.Calls.{IsPartClocked, IsPartTakeOf}
 use Rattle.share_law.specs.Host.{ack_of}
 use Rattle.share_law.specs.Parts.{HostPart, new_part, part_drop_below, part_floor_packet, part_packet}
 use Rattle.share_law.specs.declared.fault.FloorFault.{FloorFault}
 use Rattle.share_law.specs.declared.fault.HostFault.{HostFault}
+use Rattle.share_law.specs.declared.fault.HostFault.TheVariants.{BadViewer}
 use Rattle.share_law.specs.declared.fault.NumberFault.{NumberFault}
 use Rattle.share_law.specs.declared.kept.SeatCount.{SeatCount}
 use Rattle.share_law.specs.declared.reply.HostReply.{HostReply}
@@ -36,6 +41,37 @@ abbrev pub HostTakes : EmbeddedHost → List ℕ → Result HostReply HostFault 
 HostTakes old bytes result new =
     IsPartTakeOf old.host.mark old.host.part (decoded bytes) result new.host.part
     × (new ≡ with_part old new.host.part)
+
+-- the viewer that an offer or an ask is of
+abbrev pub sender_in : Body → Option ℕ
+sender_in (Input s) = None
+sender_in (Offer o) = Some o.pointer.who
+sender_in (Ask a) = Some a.who
+sender_in (Ack a) = None
+sender_in (Floor f) = None
+sender_in (Piece p) = None
+
+abbrev pub is_other : ℕ → Option ℕ → Bool
+is_other who None = false
+is_other who (Some sender) = not (sender == who)
+
+-- an offer or an ask, for the scene with this mark, of another viewer than `who`
+abbrev pub is_anothers : (mark : List ℕ) → (who : ℕ) → Result Message WireFault → Bool
+is_anothers mark who (Ok message) =
+    pointwise nat_eq message.mark mark && is_other who (sender_in message.body)
+is_anothers mark who (Err fault) = false
+
+-- bytes are taken, unless they are another's: then nothing changes
+abbrev pub TakesUnless : Bool → EmbeddedHost → List ℕ → Result HostReply HostFault → EmbeddedHost
+    → Type 0
+TakesUnless true old bytes result new = (result ≡ Err BadViewer) × (new ≡ old)
+TakesUnless false old bytes result new = HostTakes old bytes result new
+
+-- bytes that came from viewer `who` are taken
+abbrev pub HostTakesFrom : EmbeddedHost → (who : ℕ) → List ℕ → Result HostReply HostFault
+    → EmbeddedHost → Type 0
+HostTakesFrom old who bytes result new =
+    TakesUnless (is_anothers old.host.mark who (decoded bytes)) old bytes result new
 
 abbrev pub host_datagram : EmbeddedHost → Body → List ℕ
 host_datagram h body = datagram (record { mark = h.host.mark; body = body })

@@ -106,6 +106,11 @@ abbrev pub Asks : {H A : Type 0} → (H → A) → Option H → ℕ → (old new
 Asks asked None status old new = (status ≡ closed) × (new ≡ old)
 Asks asked (Some w) status old new = (status ≡ 0) × (new ≡ asked w)
 
+-- like Asks, with this status
+abbrev pub AsksBy : {H A : Type 0} → (H → A) → (said : ℕ) → Option H → ℕ → (old new : A) → Type 0
+AsksBy asked said None status old new = (status ≡ closed) × (new ≡ old)
+AsksBy asked said (Some w) status old new = (status ≡ said) × (new ≡ asked w)
+
 -- the number of a field is written, if there is one
 abbrev pub IsFound : Option ℕ → (old status new : ℕ) → Type 0
 IsFound None old status new = (status ≡ no_such_field) × (new ≡ old)
