@@ -40,7 +40,7 @@ enum x3d_status {
   X3D_MEMORY = 5,          /* memory ran out; at an input or a load this spoils the world */
   X3D_CLOSED = 10,         /* the handle holds nothing */
   X3D_RANGE = 11,          /* a number that was passed is not one that the call allows */
-  X3D_ROOM = 12,           /* `room` is too small; nothing was copied; `wanted` is the room needed */
+  X3D_ROOM = 12,           /* `room` is too small: nothing was copied, `wanted` is the room needed */
   X3D_SPOILED = 20,        /* memory ran out before: only a snapshot brings the world back */
   X3D_NOT_NEXT = 21,       /* the input's number is not the next one */
   X3D_TIME_NOT_LATER = 22, /* the input's time is not above that of the last one */
