@@ -12,6 +12,14 @@ abbrev pub hear : List ℕ → (who next : ℕ) → List ℕ
 hear heard who next =
     if nat_lt who max_viewers then slice_set heard who (max (get_or heard who 0) next) else heard
 
+-- the number of a place, if its viewer has asked
+abbrev pub number_of : (next : ℕ) → Option ℕ
+number_of next = if next == 0 then None else Some next
+
+-- the highest number that viewer `who` has asked from, if it was heard of
+abbrev pub asked : List ℕ → (who : ℕ) → Option ℕ
+asked heard who = number_of (get_or heard who 0)
+
 abbrev pub min_with : (next : ℕ) → Option ℕ → ℕ
 min_with next None = next
 min_with next (Some other) = min other next

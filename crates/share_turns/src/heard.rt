@@ -1,7 +1,7 @@
 //! The highest number that each viewer has asked from.
 
 ghost use Rattle.std.specs.Prelude.{◌≡◌};
-ghost use Rattle.share_turns.specs.Heard.{hear, lower, lowest, nobody};
+ghost use Rattle.share_turns.specs.Heard.{asked, hear, lower, lowest, nobody, number_of};
 
 use std::marker::Model;
 use x3d_values::MAX_VIEWERS;
@@ -25,6 +25,13 @@ impl Model for Heard {
     ghost view = { λ h. h.nexts };
 
     ghost invariant = { λ h. length h.nexts ≡ max_viewers };
+}
+
+/// Returns the number that a place holds, if its viewer has asked.
+fn number_of(next: u32) -> Option<u32>
+    ensures { result ≡ number_of next }
+{
+    if next == 0 { None } else { Some(next) }
 }
 
 /// Returns the lower of `next` and `others`. A `next` of 0 doesn't count.
@@ -65,6 +72,19 @@ impl Heard {
         let place = who as usize;
         if place < PLACES {
             self.nexts[place] = self.nexts[place].max(next);
+        }
+    }
+
+    /// Returns the highest number that viewer `who` asked from: it has all inputs below it. Returns
+    /// `None` if the viewer wasn't heard of, or if `who` isn't below `MAX_VIEWERS`.
+    pub fn asked(&self, who: u8) -> Option<u32>
+        ensures { result ≡ asked self.now who }
+    {
+        let place = who as usize;
+        if place < PLACES {
+            number_of(self.nexts[place])
+        } else {
+            None
         }
     }
 
