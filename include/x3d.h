@@ -414,6 +414,13 @@ uint8_t x3d_host_packet(struct x3d_host *host, uint32_t number, uint8_t *out, si
 /* Copies the ack of viewer `who`: the datagram that says how many of its offers are numbered. May
  * return: X3D_RANGE if there is no such viewer. */
 uint8_t x3d_host_ack(struct x3d_host *host, uint8_t who, uint8_t *out, size_t room, size_t *wanted);
+/* Writes the highest number that viewer `who` has asked from: it has all inputs below. 0 if it has
+ * not asked. May return: X3D_RANGE if there is no such viewer. */
+uint8_t x3d_host_heard(struct x3d_host *host, uint8_t who, uint32_t *asked);
+/* Drops the inputs that every viewer that has asked has, except the last `count` of them. A viewer
+ * that never asked does not count. If none has asked, or there is nothing to drop, the host stays as
+ * it was. */
+uint8_t x3d_host_keep(struct x3d_host *host, uint32_t count);
 /* Writes the floor: inputs below it have no datagrams. It is 1 at first. */
 uint8_t x3d_host_floor(struct x3d_host *host, uint32_t *number);
 /* Copies the datagram that reports the floor. */

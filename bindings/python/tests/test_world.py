@@ -73,6 +73,10 @@ class Worlds(unittest.TestCase):
             world.clock(1, 1_000_000)
             door = node(world, "Door")
             translation = world.field_named(door, "translation")
+            drawn = [field for field in world.changed() if field.node == door]
+            translation = world.field_named(door, "translation")
+            self.assertEqual(drawn, [(door, translation, "SFVec3f", [0, 2_500_000, 0])])
+            self.assertEqual(world.changed(1), [])
             lines = [change.value for change in world.changes(1) if change.node == door]
             self.assertEqual(lines, ["0.5 0 0"])
             self.assertEqual(world.value(door, translation), "0 2.5 0")

@@ -121,6 +121,16 @@ abbrev pub Finds : {H : Type 0} → (H → Option ℕ) → Option H → ℕ → 
 Finds found None status old new = (status ≡ closed) × (new ≡ old)
 Finds found (Some h) status old new = IsFound (found h) old status new
 
+-- the number of a viewer is written, if there is such a viewer
+abbrev pub IsHeard : Option ℕ → (old status new : ℕ) → Type 0
+IsHeard None old status new = (status ≡ out_of_range) × (new ≡ old)
+IsHeard (Some n) old status new = (status ≡ 0) × (new ≡ n)
+
+-- a viewer is looked up in what the handle holds, which is unchanged
+abbrev pub Hears : {H : Type 0} → (H → Option ℕ) → Option H → ℕ → (old new : ℕ) → Type 0
+Hears found None status old new = (status ≡ closed) × (new ≡ old)
+Hears found (Some h) status old new = IsHeard (found h) old status new
+
 -- bytes or numbers of what the handle holds are copied
 abbrev pub Copies : {H A : Type 0} → (H → List A) → Option H → ℕ → (old : List A)
     → (wanted_old wanted : ℕ) → (new : List A) → Type 0

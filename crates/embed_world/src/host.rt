@@ -2,25 +2,15 @@
 
 ghost use Rattle.std.specs.Prelude.{◌≡◌, nat_eq};
 ghost use Rattle.std.specs.Cmp.Lexicographic.{pointwise};
-ghost use Rattle.embed_world.specs.Hosts.{is_anothers, is_other, sender_in};
+ghost use Rattle.embed_world.specs.Hosts.{is_anothers, is_other};
 
 use share_core::Host;
 use share_law::{FloorFault, HostFault, HostReply, NumberFault};
-use share_wire::{Body, Message, Packet, WireFault, decode};
+use share_turns::{Heard, drop_passed, hear, sender_of};
+use share_wire::{Message, Packet, WireFault, decode};
 use snapshot_core::scene_mark;
 use std::alloc::Global;
 use x3d_values::MAX_VIEWERS;
-
-/// Returns the viewer that an offer or an ask is of.
-fn sender_in(body: Body) -> Option<u8>
-    ensures { result ≡ sender_in body }
-{
-    match body {
-        Body::Offer(offer) => Some(offer.pointer().who()),
-        Body::Ask(ask) => Some(ask.who()),
-        Body::Input(_) | Body::Ack(_) | Body::Floor(_) | Body::Piece(_) => None,
-    }
-}
 
 fn is_other(who: u8, sender: Option<u8>) -> bool
     ensures { result ≡ is_other who sender }
@@ -45,7 +35,7 @@ fn is_anothers(mark: &[u8; 32], who: u8, read: &Result<Message, WireFault>) -> b
     match read {
         Ok(message) => {
             if is_same(&message.mark, mark) {
-                is_other(who, sender_in(message.body))
+                is_other(who, sender_of(read))
             } else {
                 false
             }
@@ -54,10 +44,11 @@ fn is_anothers(mark: &[u8; 32], who: u8, read: &Result<Message, WireFault>) -> b
     }
 }
 
-/// The host of a scene, with the scene's mark.
+/// The host of a scene, with the scene's mark, and what it has heard of its viewers.
 #[derive(Drop)]
 pub struct EmbeddedHost {
     pub(crate) host: Host,
+    pub(crate) heard: Heard,
 }
 
 impl EmbeddedHost {
@@ -80,6 +71,7 @@ impl EmbeddedHost {
         }
         Some(EmbeddedHost {
             host: Host::new(alloc, scene_mark(text), viewers),
+            heard: Heard::nobody(),
         })
     }
 
@@ -95,6 +87,7 @@ impl EmbeddedHost {
     fn take_read(&mut self, read: Result<Message, WireFault>) -> Result<HostReply, HostFault>
         ensures { (bytes : List ℕ) → decoded bytes ≡ read → HostTakes self.old bytes result self.new }
     {
+        hear(&mut self.heard, &read, &self.host.mark(), self.host.viewers());
         match read {
             Ok(message) => self.host.take_message(message),
             Err(fault) => Err(HostFault::Wire(fault)),
@@ -159,6 +152,25 @@ impl EmbeddedHost {
         ensures { Drops self.old floor result self.new }
     {
         self.host.drop_below(floor)
+    }
+
+    /// Returns the highest number that viewer `who` has asked from, or 0 if it hasn't asked: it has
+    /// all inputs below that. `None` if there is no such viewer.
+    pub fn heard(&self, who: u8) -> Option<u32>
+        ensures { result ≡ spec.heard_of self.now who }
+    {
+        if who >= self.host.viewers() {
+            return None;
+        }
+        Some(self.heard.asked(who).unwrap_or(0))
+    }
+
+    /// Drops the inputs that every viewer that asked has, except the last `count` of them. Drops
+    /// nothing if none has asked.
+    pub fn keep(&mut self, count: u32)
+        ensures { self.new ≡ spec.keeping self.old count }
+    {
+        drop_passed(&mut self.host, &self.heard, Some(count));
     }
 
     /// Returns the number of inputs that are numbered.

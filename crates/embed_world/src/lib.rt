@@ -54,7 +54,7 @@ pub use status::{
     status_of_snap,
 };
 pub use tell::{
-    ReplyAs, TakenAs, tell_field, tell_gathered, tell_joined, tell_number, tell_offer, tell_reply,
+    ReplyAs, TakenAs, tell_field, tell_gathered, tell_heard, tell_joined, tell_number, tell_offer, tell_reply,
     tell_rewound, tell_taken,
 };
 pub use texts::{
