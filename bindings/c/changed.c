@@ -52,7 +52,7 @@ static void must(bool holds, const char *what) {
     int64_t numbers[64];                                                                           \
     size_t count = 777, all = 777, found = 0;                                                      \
     must(x3d_##OF##_list_changed(o, 0) == X3D_DONE &&                                              \
-             x3d_##OF##_copy_changed(o, changes, 1, &count) == X3D_ROOM && count > 1 &&            \
+             x3d_##OF##_copy_changed(o, changes, 0, &count) == X3D_ROOM && count == 1 &&           \
              x3d_##OF##_copy_changed(o, changes, 16, &count) == X3D_DONE &&                        \
              x3d_##OF##_copy_numbers(o, numbers, 64, &all) == X3D_DONE,                            \
          "no fields are listed");                                                                  \

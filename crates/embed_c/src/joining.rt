@@ -10,7 +10,8 @@ ghost use Rattle.embed_world.specs.PeerStatus.{gathered_by, number_by, status_by
 use embed_handles::ViewerHandle;
 use embed_handles::viewer_handle::{put, take};
 use embed_world::{
-    CLOSED, DONE, NO_PACKET, hand_out, status_of_save, status_of_size, tell_gathered, tell_joined, tell_rewound,
+    CLOSED, DONE, NO_PACKET, hand_out, status_of_save, status_of_size, tell_gathered, tell_joined,
+    tell_rewound,
 };
 use std::alloc::Global;
 

@@ -16,7 +16,8 @@ use crate::inputs::{direction_of, origin_of};
 use embed_handles::WorldHandle;
 use embed_handles::world_handle::{put, take};
 use embed_world::{
-    Aim, CLOSED, DONE, ListEntry, LookFault, RANGE, copy_numbers, ray_of, status_of_look, tell_field,
+    Aim, CLOSED, DONE, ListEntry, LookFault, RANGE, copy_numbers, ray_of, status_of_look,
+    tell_field,
 };
 use std::alloc::Global;
 

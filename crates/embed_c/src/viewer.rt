@@ -18,7 +18,8 @@ use crate::open::refuse;
 use app_jobs::JobFault;
 use embed_handles::ViewerHandle;
 use embed_handles::viewer_handle::{put, take};
-use embed_world::{Aim, CLOSED, DONE, EmbeddedViewer, NO_PACKET, RANGE, TakenAs, copy_text, hand_out, tell_offer,
+use embed_world::{
+    Aim, CLOSED, DONE, EmbeddedViewer, NO_PACKET, RANGE, TakenAs, copy_text, hand_out, tell_offer,
     tell_taken,
 };
 use share_wire::{is_ordinal, is_viewer};

@@ -14,7 +14,11 @@ use std::alloc::Global;
 
 /// Lists the fields that inputs after number `since` set, and the numbers of their values.
 #[unsafe(no_mangle)]
-pub extern "C" fn x3d_viewer_list_changed(alloc: Global, handle: &mut ViewerHandle, since: u32) -> u8
+pub extern "C" fn x3d_viewer_list_changed(
+    alloc: Global,
+    handle: &mut ViewerHandle,
+    since: u32,
+) -> u8
     ensures { Calls (λ (v : Embedded). ListsChanged (look.changed_in (stage_in v.viewer) since) v)
         status_of_look handle.old.viewer result handle.new.viewer }
 {

@@ -8,8 +8,8 @@ use Rattle.byte_codec.specs.Exact.{IsExact}
 use Rattle.byte_codec.proofs.Laws.{number_exact, pair_exact, some_is, wide16, wide32}
 use Rattle.scene_core.specs.declared.scene.End.{End}
 use Rattle.cascade_trace.specs.declared.trace.TraceLine.{TraceLine}
-use Rattle.embed_changes.specs.OutputBytes.{end_with, output_at, output_bytes, places}
-use Rattle.embed_changes.specs.Outputs.{bytes_after, is_after, noted}
+use Rattle.embed_changes.specs.OutputBytes.{bytes_after, end_with, output_at, output_bytes, places}
+use Rattle.embed_changes.specs.Outputs.{is_after, noted}
 
 -- ---- what is written
 

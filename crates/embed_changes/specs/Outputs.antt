@@ -3,7 +3,6 @@ use Rattle.std.specs.Prelude.{ℕ, Bool, List, [], ◌∷◌, ◌++◌, map, nat
 use Rattle.std.specs.List.{filter, fold}
 use Rattle.cascade_trace.specs.Ends.{has_sent}
 use Rattle.cascade_trace.specs.declared.trace.TraceLine.{TraceLine}
-use Rattle.embed_changes.specs.OutputBytes.{output_bytes}
 use Rattle.scene_core.specs.declared.scene.End.{End}
 
 -- the line is of a later input
@@ -17,7 +16,3 @@ noted outputs e = if has_sent outputs e then outputs else outputs ++ e ∷ []
 -- the outputs of the lines of later inputs, each once, in the order of their first lines
 abbrev pub outputs_after : (since : ℕ) → List TraceLine → List End
 outputs_after since lines = fold noted [] (map (λ l. l.source) (filter (is_after since) lines))
-
--- the output of a line of a later input as bytes, and nothing for another line
-abbrev pub bytes_after : (since : ℕ) → TraceLine → List ℕ
-bytes_after since line = if is_after since line then output_bytes line.source else []

@@ -32,8 +32,8 @@ pub(crate) fn push_output(source: End, out: &mut Vec<u8>) -> Result<(), AllocErr
     push_places(source.node, source.field, out)
 }
 
-/// Reads the output at the front of bytes, and returns the bytes after it. Returns `None` if there
-/// is none.
+/// Reads the output at the front of bytes, and returns the bytes after it. Returns `None` if no
+/// output is there.
 pub(crate) fn output_at(bytes: &[u8]) -> Option<(End, &[u8])>
     ensures { option_map (λ x. (x.0, x.1.now)) result ≡ output_at bytes.now }
 {

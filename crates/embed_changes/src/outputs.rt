@@ -2,8 +2,8 @@
 
 ghost use Rattle.std.specs.Prelude.{◌≡◌, List, OnOk};
 ghost use Rattle.std.specs.List.{flat_map, fold};
-ghost use Rattle.embed_changes.specs.OutputBytes.{output_bytes};
-ghost use Rattle.embed_changes.specs.Outputs.{bytes_after, noted, outputs_after};
+ghost use Rattle.embed_changes.specs.OutputBytes.{bytes_after, output_bytes};
+ghost use Rattle.embed_changes.specs.Outputs.{noted, outputs_after};
 ghost use Rattle.scene_core.specs.declared.scene.End.{End as EndView};
 
 use crate::output_bytes::{output_at, push_output};

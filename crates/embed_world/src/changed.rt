@@ -60,6 +60,11 @@ impl EmbeddedViewer {
         ensures { ListsChanged (spec.changed_in (stage_in self.old.viewer) since) self.old result
             self.new }
     {
-        write_changed(self.viewer.stage(), since, &mut self.changed, &mut self.numbers)
+        write_changed(
+            self.viewer.stage(),
+            since,
+            &mut self.changed,
+            &mut self.numbers,
+        )
     }
 }

@@ -85,9 +85,14 @@ impl EmbeddedHost {
 
     /// Takes a datagram that was decoded.
     fn take_read(&mut self, read: Result<Message, WireFault>) -> Result<HostReply, HostFault>
-        ensures { (bytes : List ℕ) → decoded bytes ≡ read → HostTakes self.old bytes result self.new }
+        ensures { (bytes : List ℕ) → read ≡ decoded bytes → HostTakes self.old bytes result self.new }
     {
-        hear(&mut self.heard, &read, &self.host.mark(), self.host.viewers());
+        hear(
+            &mut self.heard,
+            &read,
+            &self.host.mark(),
+            self.host.viewers(),
+        );
         match read {
             Ok(message) => self.host.take_message(message),
             Err(fault) => Err(HostFault::Wire(fault)),
@@ -159,7 +164,8 @@ impl EmbeddedHost {
     pub fn heard(&self, who: u8) -> Option<u32>
         ensures { result ≡ spec.heard_of self.now who }
     {
-        if who >= self.host.viewers() {
+        let viewers = self.host.viewers();
+        if who >= viewers {
             return None;
         }
         Some(self.heard.asked(who).unwrap_or(0))

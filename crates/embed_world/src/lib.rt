@@ -54,8 +54,8 @@ pub use status::{
     status_of_snap,
 };
 pub use tell::{
-    ReplyAs, TakenAs, tell_field, tell_gathered, tell_heard, tell_joined, tell_number, tell_offer, tell_reply,
-    tell_rewound, tell_taken,
+    ReplyAs, TakenAs, tell_field, tell_gathered, tell_heard, tell_joined, tell_number, tell_offer,
+    tell_reply, tell_rewound, tell_taken,
 };
 pub use texts::{
     write_changes, write_field, write_label, write_scene, write_trace, write_type, write_value,

@@ -3,7 +3,9 @@
 ghost use Rattle.std.specs.Prelude.{◌≡◌, length};
 ghost use Rattle.embed_world.specs.PeerStatus as spec;
 
-use crate::status::{BAD_VERSION, DONE, MEMORY, SPOILED, TIME_NOT_LATER, WRONG_SCENE, status_of_snap};
+use crate::status::{
+    BAD_VERSION, DONE, MEMORY, SPOILED, TIME_NOT_LATER, WRONG_SCENE, status_of_snap,
+};
 use share_law::{
     FloorFault, GatherFault, HostFault, JoinFault, NumberFault, OfferFault, TakeFault,
 };

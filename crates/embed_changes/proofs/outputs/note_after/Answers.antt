@@ -2,7 +2,8 @@ use Rattle.std.proofs.Common.{◌≡◌, ◌∙◌, ◌++◌, ℕ, List, map, ap
 use Rattle.std.specs.Prelude.{OnOk}
 use Rattle.std.specs.List.{filter, flat_map, fold}
 use Rattle.cascade_trace.specs.declared.trace.TraceLine.{TraceLine}
-use Rattle.embed_changes.specs.Outputs.{bytes_after, is_after, noted}
+use Rattle.embed_changes.specs.OutputBytes.{bytes_after}
+use Rattle.embed_changes.specs.Outputs.{is_after, noted}
 use Rattle.embed_changes.proofs.Noting.{written}
 use Rattle.embed_changes.proofs.outputs.note_after.Goals as goal
 use Rattle.scene_core.specs.declared.scene.End.{End}
