@@ -135,9 +135,10 @@ class Nodes(unittest.TestCase):
 
     def test_a_viewer_lists_what_was_set(self):
         host, one = Host(DOOR, 1), Viewer(DOOR, 0, 1)
-        one.offer(True, AIM)
-        host.take(one.resend()[0])
-        host.clock(1_000_001)
+        for down in (True, False):
+            one.offer(down, AIM)
+        for offer in one.resend():
+            host.take(offer)
         Carrier(host).turn(one, 0)
         self.assertEqual(one.applied(), 2)
         names = {one.label(field.node) + "." + one.field_name(field.node, field.field) for field in one.changed()}
