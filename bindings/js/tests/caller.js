@@ -185,10 +185,10 @@ export class Caller {
   }
 }
 
-/** Structs whose unused bytes are 0: what a call leaves there is not said. */
+/** Structs whose unused bytes are fillers: what a call leaves there is not said. */
 function withoutUnused(bytes, type) {
   const [size, places] = UNUSED[type] ?? [bytes.length, []];
-  for (let at = 0; at < bytes.length; at += size) places.forEach((place) => (bytes[at + place] = 0));
+  for (let at = 0; at < bytes.length; at += size) places.forEach((place) => (bytes[at + place] = FILLER));
   return bytes;
 }
 
