@@ -24,6 +24,12 @@ use std::time::Clock;
 /// them are lost once in 50,000 times.
 const LAST_ASKS: u32 = 8;
 
+/// How many viewers a host has by default.
+const VIEWERS: u8 = 2;
+
+/// How many turns a host without a log takes by default.
+const TURNS: u32 = 1_000_000;
+
 /// Reads the job of a command in which several peers take part.
 fn read_shared<R: AllocGlobal + Input>(rt: &R, order: &Order) -> Result<SharedJob, JobFault> {
     let bytes = read_whole(rt.alloc(), &mut rt.reader())?;
@@ -119,16 +125,18 @@ fn hosted<R: AllocGlobal + Net + Eprint + Clock>(
 {
     let bound = bound(rt, asked.port)?;
     tell_port(rt, asked.verbose, &bound);
-    let watch = Watch::new(job.mark, Peer::Host(asked.viewers));
+    let viewers = asked.viewers.unwrap_or(VIEWERS);
+    let turns = asked.turns.unwrap_or(TURNS);
+    let watch = Watch::new(job.mark, Peer::Host(viewers));
     let mut port = PatientPort::new(TellingPort::new(bound, rt, asked.verbose, watch), rt);
     let plan = host_plan(asked);
     let mut count = 0;
     let done = host_job(
         rt.alloc(),
         job,
-        asked.viewers,
+        viewers,
         &plan,
-        asked.turns,
+        turns,
         &mut port,
         &mut count,
     );
