@@ -1,1 +1,5 @@
-
+mod Lines
+mod Running
+mod Heads
+mod Bytes
+mod Recalls

@@ -111,16 +111,16 @@ pub fn log_run<L: Log, P: Port>(
         → Last (L.may_leave log.new) (L.known log.new) }
     ensures failures { P.failure_count port.new ≡ failures_in result (P.failure_count port.old) }
 {
-    let mut hosting = hosting;
+    let mut current = hosting;
     for turn in 0..plan.turns {
-        if is_over(&hosting, plan.until) {
-            drop(hosting);
+        if is_over(&current, plan.until) {
+            drop(current);
             return Ok(());
         }
-        hosting = rested_turn(hosting, clock_at(clocks, turn), log, port)?;
+        current = rested_turn(current, clock_at(clocks, turn), log, port)?;
     }
-    let over = is_over(&hosting, plan.until);
-    drop(hosting);
+    let over = is_over(&current, plan.until);
+    drop(current);
     if over {
         return Ok(());
     }

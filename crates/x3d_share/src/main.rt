@@ -14,12 +14,8 @@ use crate::end::{End, refuse};
 use crate::logs::{host_over_log, recall};
 use crate::peers::{agree, host, rehearse, view};
 use crate::stack::has_room;
-use app_program::{
-    Failure, RunFault, StreamFault, check_text, format_text, run_job, write_whole,
-};
-use app_words::{
-    HostOrder, LogUse, Order, OrderFault, Request, hint_of, log_file_of, request_of,
-};
+use app_program::{Failure, RunFault, StreamFault, check_text, format_text, run_job, write_whole};
+use app_words::{HostOrder, LogUse, Order, OrderFault, Request, hint_of, log_file_of, request_of};
 use std::alloc::{AllocError, Global};
 use std::io::{self, Eprint};
 use std::process::ExitCode;
@@ -63,12 +59,7 @@ fn print_text<R: Print>(rt: &R, text: &str) -> Result<(), Failure> {
 }
 
 /// Runs a host, over the log that the words name if they name one.
-fn host_as(
-    rt: &HostRuntime,
-    words: &[&str],
-    order: &Order,
-    asked: &HostOrder,
-) -> Result<(), End>
+fn host_as(rt: &HostRuntime, words: &[&str], order: &Order, asked: &HostOrder) -> Result<(), End>
     requires { HostInRange asked.now }
 {
     if asked.log == LogUse::Without {
