@@ -24,11 +24,11 @@ pub struct LogPlan {
     pub turns: u64,
 }
 
-/// Returns the clock of a turn, counted from 0, if there is one.
-fn clock_at(clocks: &[i64], turn: u64) -> Option<i64>
-    ensures { result ≡ slice_get clocks.now turn }
+/// Returns the item at a place, counted from 0, if there is one.
+fn item_at<T: Copy>(items: &[T], place: u64) -> Option<T>
+    ensures { result ≡ slice_get items.now place }
 {
-    clocks.get(turn as usize).copied()
+    items.get(place as usize).copied()
 }
 
 /// Reports whether the host is done.
@@ -117,7 +117,7 @@ pub fn log_run<L: Log, P: Port>(
             drop(current);
             return Ok(());
         }
-        current = rested_turn(current, clock_at(clocks, turn), log, port)?;
+        current = rested_turn(current, item_at(clocks, turn), log, port)?;
     }
     let over = is_over(&current, plan.until);
     drop(current);

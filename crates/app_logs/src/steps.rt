@@ -34,6 +34,13 @@ fn push_vector(v: Vec3, out: &mut Vec<u8>) -> Result<(), AllocError>
     push_word(v.z, out)
 }
 
+/// Returns the digit that says whether a button is down.
+fn down_digit(down: bool) -> u8
+    ensures { result ≡ down_digit down }
+{
+    if down { b'1' } else { b'0' }
+}
+
 /// Appends the number of a viewer, and whether its button is down.
 fn push_hand(who: u8, down: bool, out: &mut Vec<u8>) -> Result<(), AllocError>
     ensures { OnOk result
@@ -41,7 +48,7 @@ fn push_hand(who: u8, down: bool, out: &mut Vec<u8>) -> Result<(), AllocError>
 {
     let mut buffer = itoa::Buffer::new();
     out.extend_from_slice(buffer.format(who).as_bytes())?;
-    out.extend_from_slice(&[b' ', if down { b'1' } else { b'0' }])
+    out.extend_from_slice(&[b' ', down_digit(down)])
 }
 
 fn push_point(pointer: Pointer, out: &mut Vec<u8>) -> Result<(), AllocError>
