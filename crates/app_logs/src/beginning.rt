@@ -47,7 +47,7 @@ pub(crate) fn resumed(alloc: Global, head: &Head, entries: &[Entry]) -> Result<L
 }
 
 /// Creates the host of a log that was opened.
-fn begun<D: Disk>(alloc: Global, opened: Opened<D>) -> Result<Begun<D>, (LogFault, D)>
+fn with_host<D: Disk>(alloc: Global, opened: Opened<D>) -> Result<Begun<D>, (LogFault, D)>
     ensures log { IfOk result (λ b. b.log ≡ opened.log) }
     ensures head { IfOk result (λ b. b.head ≡ opened.head) }
     ensures cut { IfOk result (λ b. b.cut ≡ opened.cut) }
@@ -114,7 +114,7 @@ pub fn go_on<D: Disk>(
         → IsNotBegun (contents_of expected.now (D.seen disk)) f.0) }
 {
     match open(alloc, disk, expected) {
-        Ok(opened) => begun(alloc, opened),
+        Ok(opened) => with_host(alloc, opened),
         Err((fault, disk)) => Err((open_fault_of(fault), disk)),
     }
 }
@@ -143,13 +143,13 @@ pub fn make_log<D: Disk>(alloc: Global, disk: D, head: &Head) -> Result<Begun<D>
         × (D.seen f.1 ≡ D.seen disk)))) }
 {
     match create(alloc, disk, head) {
-        Ok(log) => begun_new(alloc, log, head),
+        Ok(log) => with_new_host(alloc, log, head),
         Err((fault, disk)) => Err((open_fault_of(fault), disk)),
     }
 }
 
 /// Creates the host of a log that was made.
-fn begun_new<D: Disk>(
+fn with_new_host<D: Disk>(
     alloc: Global,
     log: FileLog<D>,
     head: &Head,

@@ -81,7 +81,7 @@ fn memory_fault_of(fault: OpenFault) -> LogFault
 }
 
 /// Finds the log of a file in memory, of the scene with this mark.
-fn opened(alloc: Global, file: Memory, mark: [u8; 32]) -> Result<FoundLog, LogFault>
+fn find_log(alloc: Global, file: Memory, mark: [u8; 32]) -> Result<FoundLog, LogFault>
     requires usable { IsTrue (memory_is_usable file) }
     requires mark { mark ≡ mark_of (head_among (frames_of (memory_bytes file))) }
     ensures found { IfOk result (λ f. (v : FileView) × (log_in (memory_bytes file) ≡ Ok v)
@@ -119,7 +119,7 @@ fn found_in(alloc: Global, bytes: &[u8]) -> Result<FoundLog, LogFault>
 {
     let mut file = file_of(alloc, bytes)?;
     let mark = mark_in(alloc, &mut file)?;
-    opened(alloc, file, mark)
+    find_log(alloc, file, mark)
 }
 
 /// Checks that a host wrote the entries of a log.
