@@ -1,8 +1,7 @@
 -- The head of a log that was found.
-use Rattle.std.proofs.Common.{◌≡◌, ◌⊎◌, inl, inr, ℕ, ◌+◌, ◌-◌, Bool, true, false, List, [], ◌∷◌, length, drop, Result, Ok, Err, refl, sym, ◌∙◌, ap, absurd}
+use Rattle.std.proofs.Common.{◌≡◌, ◌⊎◌, inl, inr, ℕ, ◌+◌, ◌-◌, Bool, true, false, List, [], ◌∷◌, length, drop, Result, Ok, Err, refl, sym, ◌∙◌, ap}
 use Rattle.std.specs.Prelude.{Option, Some, None, if◌then◌else◌, nat_eq, IsTrue, codes, take, ◌&&◌, ◌==◌}
 use Rattle.std.specs.Cmp.Lexicographic.{pointwise}
-use Rattle.byte_codec.specs.Codec.{Codec}
 use Rattle.share_entries.specs.declared.head.Head.{Head}
 use Rattle.share_entries.specs.declared.head.HeadFault.{HeadFault}
 use Rattle.share_entries.specs.declared.head.HeadFault.TheVariants.{BadViewers, BadSum, BadVersion, BadMagic}
@@ -39,11 +38,14 @@ headed_head expected frames tail v head is = go (pointwise nat_eq head.mark expe
     go false is = cc
     go true is = within (has_seats expected.viewers head.viewers) is
 
-among_fits : (expected : Expected) (payload : List ℕ) (frames : List (List ℕ)) (tail : List ℕ) (v : FileView) (r : Result Head HeadFault)
+abbrev after_head : Expected → List (List ℕ) → List ℕ → Result Head HeadFault → Result FileView OpenFault
+after_head expected frames tail r = elim r [ | Ok head ↦ headed expected frames tail head | Err fault ↦ Err (BadHead fault) ]
+
+among_fits : (expected : Expected) (frames : List (List ℕ)) (tail : List ℕ) (v : FileView) (r : Result Head HeadFault)
     → ((h : Head) → r ≡ Ok h → is_viewer_count h.viewers ≡ true)
-    → elim r [ | Ok head ↦ headed expected frames tail head | Err fault ↦ Err (BadHead fault) ] ≡ Ok v → is_viewer_count v.head.viewers ≡ true
-among_fits expected payload frames tail v (Err fault) fits is = cc
-among_fits expected payload frames tail v (Ok head) fits is =
+    → after_head expected frames tail r ≡ Ok v → is_viewer_count v.head.viewers ≡ true
+among_fits expected frames tail v (Err fault) fits is = cc
+among_fits expected frames tail v (Ok head) fits is =
     ap (λ (h : Head). is_viewer_count h.viewers) (headed_head expected frames tail v head is) ∙ fits head refl
 
 -- ---- of its bytes
@@ -84,7 +86,7 @@ head_fits_in bytes h is = head_of_fits bytes h (head_fields.read bytes) is
 
 in_fits : (expected : Expected) (frames : List (List ℕ)) (tail : List ℕ) (v : FileView) → contents_in expected frames tail ≡ Ok v → is_viewer_count v.head.viewers ≡ true
 in_fits expected [] tail v is = cc
-in_fits expected (payload ∷ frames) tail v is = among_fits expected payload frames tail v (head_in payload) (λ h read. head_fits_in payload h read) is
+in_fits expected (payload ∷ frames) tail v is = among_fits expected frames tail v (head_in payload) (λ h read. head_fits_in payload h read) is
 
 -- the log of a file has a number of viewers in its range
 pub found_fits : (expected : Expected) (file : List ℕ) (v : FileView) → contents_of expected file ≡ Ok v → is_viewer_count v.head.viewers ≡ true

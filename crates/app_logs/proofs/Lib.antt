@@ -1,5 +1,4 @@
 mod Lines
 mod Running
 mod Heads
-mod Bytes
 mod Recalls

@@ -17,5 +17,5 @@ pub passed_more : {A B : Type 0} (p : B → Bool) (f : A → B) (xs : List A) (i
     → new ≡ filter p (map f (take (i + 1) xs))
 passed_more p f xs i x now new lt is so_far here =
     here ∙ ap (λ ys. ys ++ cond (p (f x)) (f x ∷ []) []) so_far
-    ∙ sym (filter-append (map f (take i xs)) (f x ∷ []))
+    ∙ sym (filter-append p (map f (take i xs)) (f x ∷ []))
     ∙ ap (filter p) (sym (ap (map f) (take_more xs i x lt ∙ ap (λ y. take i xs ++ y ∷ []) (sym is)) ∙ map-append f (take i xs) (x ∷ [])))

@@ -1,5 +1,5 @@
 -- Turns of a host over a log, one after another.
-use Rattle.std.proofs.Common.{◌≡◌, ℕ, suc, ◌+◌, ◌≤◌, ◌<◌, Bool, true, false, List, subst, inl, inr, arith, absurd}
+use Rattle.std.proofs.Common.{◌≡◌, ℕ, suc, ◌+◌, ◌≤◌, ◌<◌, Bool, true, false, List, refl, subst, inl, inr, arith}
 use Rattle.std.specs.Prelude.{ℤ, Option, Result, Ok, Err, IfErr, OnOk, is_none, slice_get}
 use Rattle.share_entries.specs.Entry.{EntryView}
 use Rattle.share_turns.specs.declared.traffic.Traffic.{Traffic}

@@ -17,11 +17,12 @@ pub(crate) fn last_of(entries: &[Entry]) -> i64
     }
 }
 
-/// Appends a time if it is later than `last`.
-fn push_later(last: i64, time: i64, out: &mut Vec<i64>) -> Result<(), AllocError>
-    ensures { OnOk result
-        (out.new.items ≡ out.old.items ++ (if int_lt last time then time ∷ [] else [])) }
+/// Appends the time of an input if it is later than `last`.
+fn push_later(last: i64, input: &Stamped, out: &mut Vec<i64>) -> Result<(), AllocError>
+    ensures { OnOk result (out.new.items ≡ out.old.items
+        ++ (if int_lt last input.now.time then input.now.time ∷ [] else [])) }
 {
+    let time = input.time();
     if last < time {
         out.push(time)?;
     }
@@ -35,7 +36,7 @@ pub fn times_after(alloc: Global, last: i64, inputs: &[Stamped]) -> Result<Vec<i
 {
     let mut times = Vec::new(alloc);
     for input in inputs {
-        push_later(last, input.time(), &mut times)?;
+        push_later(last, input, &mut times)?;
     }
     Ok(times)
 }
