@@ -1,6 +1,6 @@
 -- The head of a log that was found.
-use Rattle.std.proofs.Common.{◌≡◌, ◌⊎◌, inl, inr, ℕ, ◌+◌, ◌-◌, Bool, true, false, List, [], ◌∷◌, length, drop, Result, Ok, Err, refl, sym, ◌∙◌, ap}
-use Rattle.std.specs.Prelude.{Option, Some, None, if◌then◌else◌, nat_eq, IsTrue, codes, take, ◌&&◌, ◌==◌}
+use Rattle.std.proofs.Common.{◌≡◌, ℕ, ◌+◌, ◌-◌, Bool, true, false, List, [], ◌∷◌, length, drop, Result, Ok, Err, refl, sym, ◌∙◌, ap}
+use Rattle.std.specs.Prelude.{Option, Some, None, if◌then◌else◌, nat_eq, codes, take, ◌&&◌, ◌==◌}
 use Rattle.std.specs.Cmp.Lexicographic.{pointwise}
 use Rattle.share_entries.specs.declared.head.Head.{Head}
 use Rattle.share_entries.specs.declared.head.HeadFault.{HeadFault}
@@ -39,7 +39,7 @@ headed_head expected frames tail v head is = go (pointwise nat_eq head.mark expe
     go true is = within (has_seats expected.viewers head.viewers) is
 
 abbrev after_head : Expected → List (List ℕ) → List ℕ → Result Head HeadFault → Result FileView OpenFault
-after_head expected frames tail r = elim r [ | Ok head ↦ headed expected frames tail head | Err fault ↦ Err (BadHead fault) ]
+after_head expected frames tail r = elim r [ Ok head ↦ headed expected frames tail head | Err fault ↦ Err (BadHead fault) ]
 
 among_fits : (expected : Expected) (frames : List (List ℕ)) (tail : List ℕ) (v : FileView) (r : Result Head HeadFault)
     → ((h : Head) → r ≡ Ok h → is_viewer_count h.viewers ≡ true)

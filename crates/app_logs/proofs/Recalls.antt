@@ -1,5 +1,5 @@
 -- Why a file isn't recalled, and why a host doesn't go on with it.
-use Rattle.std.proofs.Common.{◌≡◌, ◌⊎◌, ◌∙◌, inl, inr, ℕ, List, true, false, Result, Ok, Err, refl, sym, ap, true≢false}
+use Rattle.std.proofs.Common.{◌≡◌, ◌⊎◌, ◌∙◌, inl, inr, ℕ, List, Result, Ok, refl, sym, ap, true≢false}
 use Rattle.share_file.specs.declared.fault.OpenFault.{OpenFault}
 use Rattle.share_file.specs.declared.fault.OpenFault.TheVariants as file_fault
 use Rattle.share_file.specs.declared.contents.Expected.{Expected}

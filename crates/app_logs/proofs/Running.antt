@@ -1,12 +1,10 @@
 -- Turns of a host over a log, one after another.
-use Rattle.std.proofs.Common.{◌≡◌, ℕ, suc, ◌+◌, ◌≤◌, ◌<◌, Bool, true, false, List, refl, subst, inl, inr, arith}
+use Rattle.std.proofs.Common.{◌≡◌, ℕ, suc, ◌+◌, ◌≤◌, true, false, List, refl, subst, inl, inr, arith}
 use Rattle.std.specs.Prelude.{ℤ, Option, Result, Ok, Err, IfErr, OnOk, is_none, slice_get}
-use Rattle.share_entries.specs.Entry.{EntryView}
-use Rattle.share_turns.specs.declared.traffic.Traffic.{Traffic}
 use Rattle.app_logs.specs.declared.fault.RunFault.{RunFault}
 use Rattle.app_logs.specs.declared.fault.RunFault.TheVariants as run
 use Rattle.app_logs.specs.declared.hosting.LogPlan.{LogPlan}
-use Rattle.app_logs.specs.Hosting.{IsInVain, IsLogRun, IsLogRunEnd, IsTurn, LogTurns, Moment, failures_in, is_over}
+use Rattle.app_logs.specs.Hosting.{IsLogRun, IsLogRunEnd, IsTurn, LogTurns, Moment, failures_in, is_over}
 
 -- one turn more
 pub turned_more : (mark : List ℕ) (clocks : List ℤ) (until : Option ℕ) (n : ℕ) (old mid new : Moment) → LogTurns mark clocks until n old mid

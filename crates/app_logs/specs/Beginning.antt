@@ -1,5 +1,5 @@
 -- A host that makes a log, or goes on with one.
-use Rattle.std.specs.Prelude.{◌≡◌, ◌⊎◌, ℕ, ◌<◌, List, [], length, false, Result, Ok, Err}
+use Rattle.std.specs.Prelude.{◌≡◌, ◌⊎◌, ℕ, List, false, Result, Ok, Err}
 use Rattle.share_entries.specs.declared.head.Head.{Head}
 use Rattle.share_entries.specs.Entry.{EntryView}
 use Rattle.share_entries.specs.Head.{is_viewer_count}
@@ -12,7 +12,7 @@ use Rattle.share_logged.specs.Hosting.{LoggedView}
 use Rattle.share_logged.specs.Logged.{logged}
 use Rattle.share_logged.specs.Resuming.{BreaksAt}
 use Rattle.app_logs.specs.declared.fault.LogFault.{LogFault}
-use Rattle.app_logs.specs.declared.fault.LogFault.TheVariants.{BadHead, Device, Memory, NotALog, NotEmpty}
+use Rattle.app_logs.specs.declared.fault.LogFault.TheVariants.{BadHead, Device, Memory, NotALog}
 use Rattle.app_logs.specs.Faults.{open_fault_of}
 
 -- the host that entries make, with all its inputs, which has heard of no viewer

@@ -1,6 +1,6 @@
 -- Turns of a host over a log, one after another.
 use Rattle.std.specs.Prelude.{◌≡◌, ◌⊎◌, ℕ, zero, suc, ◌≤◌, ◌<◌, ℤ, Bool, true, false, IsTrue, List, slice_get}
-use Rattle.std.specs.Prelude.{Option, None, Some, is_none, Result, Ok, Err}
+use Rattle.std.specs.Prelude.{Option, is_none, Result, Ok, Err}
 use Rattle.share_entries.specs.Entry.{EntryView}
 use Rattle.share_law.specs.Parts.{HostPart}
 use Rattle.share_turns.specs.Ends.{is_served}

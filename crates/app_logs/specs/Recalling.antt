@@ -1,5 +1,5 @@
 -- The file of a log, of whatever scene, as the steps of a job.
-use Rattle.std.specs.Prelude.{◌≡◌, ◌⊎◌, ℕ, List, [], take, replicate, Option, None, Some, Result, Ok, Err}
+use Rattle.std.specs.Prelude.{◌≡◌, ◌⊎◌, ℕ, List, take, replicate, Option, None, Some, Result, Ok, Err}
 use Rattle.share_entries.specs.declared.head.Head.{Head}
 use Rattle.share_entries.specs.declared.head.HeadFault.{HeadFault}
 use Rattle.share_entries.specs.Entry.{EntryView}
@@ -10,7 +10,7 @@ use Rattle.share_file.specs.Contents.{FileView, contents_of}
 use Rattle.share_logged.specs.Making.{IsLogOf}
 use Rattle.share_logged.specs.Resuming.{BreaksAt}
 use Rattle.app_logs.specs.declared.fault.LogFault.{LogFault}
-use Rattle.app_logs.specs.declared.fault.LogFault.TheVariants.{NotALog, Memory}
+use Rattle.app_logs.specs.declared.fault.LogFault.TheVariants.{NotALog}
 use Rattle.app_logs.specs.Faults.{open_fault_of}
 use Rattle.app_logs.specs.Steps.{steps_text}
 

@@ -1,9 +1,7 @@
 //! The commands of a log: a host that makes one or goes on with one, and the inputs of a log as the
 //! steps of a job.
 
-ghost use Rattle.std.specs.Prelude.{◌≡◌, IfSome, IsTrue};
-ghost use Rattle.app_words.specs.Words.{HostInRange};
-
+use crate::defaults::VIEWERS;
 use crate::end::End;
 use crate::ends::{tell_host_end, tell_log, tell_port};
 use crate::files::{LogDisk, disk_at, drawn_run};
@@ -19,9 +17,6 @@ use share_turns::{TurnFault, UdpPort};
 use sqlite_disk::Disk;
 use std::alloc::Global;
 use std::io;
-
-/// How many viewers a world has by default.
-const VIEWERS: u8 = 2;
 
 /// Returns why turns ended early.
 fn turn_end(fault: TurnFault) -> End {

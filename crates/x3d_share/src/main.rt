@@ -1,6 +1,7 @@
 //! The program: its words, its input, and what it prints.
 #![tactic(auto)]
 
+mod defaults;
 mod end;
 mod ends;
 mod files;

@@ -5,6 +5,7 @@ ghost use Rattle.std.specs.Prelude.{◌≡◌, ◌≤◌, IfOk, length};
 ghost use Rattle.x3d_values.specs.Ranges.{max_viewers};
 ghost use Rattle.app_words.specs.Words.{HostInRange, ViewInRange};
 
+use crate::defaults::{turns_of, viewers_of};
 use crate::ends::{tell_host_end, tell_port, tell_view_end};
 use app_commands::{
     ExactPort, JointJob, PatientPort, Peer, Seat, SharedJob, TellingPort, Watch, agree_job, bound,
@@ -23,12 +24,6 @@ use std::time::Clock;
 /// How often a viewer that is done repeats its last ask. With 30 % of the datagrams lost, all of
 /// them are lost once in 50,000 times.
 const LAST_ASKS: u32 = 8;
-
-/// How many viewers a host has by default.
-const VIEWERS: u8 = 2;
-
-/// How many turns a host without a log takes by default.
-const TURNS: u32 = 1_000_000;
 
 /// Reads the job of a command in which several peers take part.
 fn read_shared<R: AllocGlobal + Input>(rt: &R, order: &Order) -> Result<SharedJob, JobFault> {
@@ -125,8 +120,7 @@ fn hosted<R: AllocGlobal + Net + Eprint + Clock>(
 {
     let bound = bound(rt, asked.port)?;
     tell_port(rt, asked.verbose, &bound);
-    let viewers = asked.viewers.unwrap_or(VIEWERS);
-    let turns = asked.turns.unwrap_or(TURNS);
+    let viewers = viewers_of(asked);
     let watch = Watch::new(job.mark, Peer::Host(viewers));
     let mut port = PatientPort::new(TellingPort::new(bound, rt, asked.verbose, watch), rt);
     let plan = host_plan(asked);
@@ -136,7 +130,7 @@ fn hosted<R: AllocGlobal + Net + Eprint + Clock>(
         job,
         viewers,
         &plan,
-        turns,
+        turns_of(asked),
         &mut port,
         &mut count,
     );

@@ -1,4 +1,4 @@
-use Rattle.std.proofs.Common.{rules, ◌≡◌, ◌∙◌, sym, arith, IsTrue}
+use Rattle.std.proofs.Common.{◌≡◌, ◌∙◌, sym, arith}
 use Rattle.app_logs.specs.Hosting.{moment}
 use Rattle.app_logs.proofs.Running.{turned_in_vain, turned_more}
 use Rattle.app_logs.proofs.hosting.log_run.Goals as goal
@@ -29,6 +29,6 @@ pub returns-clause-ended : goal.returns-clause-ended
 returns-clause-ended g c =
     let all : c.loop-turn.turn ≡ c.args.plan.now.turns = omega (arith, c.loop-turn-test.false) in
     turned_in_vain c.used_up.result c.args.hosting.mark c.args.clocks.now c.args.plan.now c.loop-turn.turn
-        (moment c.args.hosting.part c.args.hosting.heard (g.L.Log.known c.args.log.now) (g.L.Log.is_clean c.args.log.now) (g.P.Port.told c.args.port.now))
-        (moment c.loop-turn.current.part c.loop-turn.current.heard (g.L.Log.known c.loop-turn.log) (g.L.Log.is_clean c.loop-turn.log) (g.P.Port.told c.loop-turn.port))
-        all c.loop-turn.invariant.0 (sym c.is_over-over.ensures ∙ c.if-over.false) c.used_up.ensures.err
+    (moment c.args.hosting.part c.args.hosting.heard (g.L.Log.known c.args.log.now) (g.L.Log.is_clean c.args.log.now) (g.P.Port.told c.args.port.now))
+    (moment c.loop-turn.current.part c.loop-turn.current.heard (g.L.Log.known c.loop-turn.log) (g.L.Log.is_clean c.loop-turn.log) (g.P.Port.told c.loop-turn.port))
+    all c.loop-turn.invariant.0 (sym c.is_over-over.ensures ∙ c.if-over.false) c.used_up.ensures.err

@@ -1,5 +1,5 @@
-use Rattle.std.proofs.Common.{◌≡◌, refl, sym, ℕ, List, Ok, subst}
-use Rattle.std.specs.Prelude.{Option, None}
+use Rattle.std.proofs.Common.{◌≡◌, refl, ℕ, List, Ok, subst}
+use Rattle.std.specs.Prelude.{None}
 use Rattle.sqlite_disk.specs.Memory.{memory_bytes}
 use Rattle.share_file.specs.Contents.{FileView, contents_of}
 use Rattle.app_logs.proofs.recalling.find_log.Goals as goal

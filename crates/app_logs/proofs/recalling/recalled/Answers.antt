@@ -1,8 +1,5 @@
-use Rattle.std.proofs.Common.{rules, ◌≡◌, ◌⊎◌, Err, subst}
-use Rattle.app_logs.specs.declared.fault.LogFault.{LogFault}
-use Rattle.app_logs.specs.declared.fault.LogFault.TheVariants.{Memory}
+use Rattle.std.proofs.Common.{rules, ◌≡◌, Err}
 use Rattle.app_logs.specs.Beginning.{IsNotResumed}
-use Rattle.app_logs.specs.Recalling.{IsNoLog}
 use Rattle.app_logs.proofs.Recalls.{not_written}
 use Rattle.app_logs.proofs.recalling.recalled.Goals as goal
 
