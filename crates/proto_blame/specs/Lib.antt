@@ -1,3 +1,4 @@
-pub mod Marked
-pub mod Marks
+pub mod Instance
+pub mod Blamed
+pub mod Blames
 pub mod Relined

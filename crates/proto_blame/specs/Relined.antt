@@ -9,9 +9,9 @@ use Rattle.classic_tree.specs.declared.tree.RawValue.TheVariants as value
 use Rattle.proto_flat.specs.declared.flat.Flat.{Flat}
 use Rattle.proto_flat.specs.declared.flat.FlatField.{FlatField}
 use Rattle.proto_flat.specs.declared.flat.FlatNode.{FlatNode}
-use Rattle.proto_blame.specs.Marks.{line_in}
+use Rattle.proto_blame.specs.Blames.{line_in}
 
--- ---- the line that a value of a marked document says
+-- ---- the line that a value of a blamed document says
 
 -- of a node by its name
 abbrev pub name_line : Option (List ℕ) → ℕ
@@ -41,13 +41,13 @@ with_next f others made x = made ++ f (slice_get others (length made)) x ∷ []
 abbrev pub side_by_side : {A B : Type 0} → (Option B → A → A) → List B → List A → List A
 side_by_side f others xs = fold (with_next f others) [] xs
 
--- the nodes of the marked document come first
+-- the nodes of the blamed document come first
 abbrev pub field_line : List FlatNode → Option FlatField → ℕ
 field_line nodes None = 0
-field_line nodes (Some marked) = value_line nodes marked.value
+field_line nodes (Some blamed) = value_line nodes blamed.value
 
 abbrev pub relined_field : List FlatNode → Option FlatField → FlatField → FlatField
-relined_field nodes marked f = record f { line = field_line nodes marked }
+relined_field nodes blamed f = record f { line = field_line nodes blamed }
 
 abbrev pub fields_of : Option FlatNode → List FlatField
 fields_of None = []
@@ -57,14 +57,14 @@ abbrev pub unlined : Declaration ℕ → Declaration ℕ
 unlined d = record d { line = 0 }
 
 abbrev pub relined_node : List FlatNode → Option FlatNode → FlatNode → FlatNode
-relined_node nodes marked n =
+relined_node nodes blamed n =
     record n {
       line = 0;
-      fields = side_by_side (relined_field nodes) (fields_of marked) n.fields;
+      fields = side_by_side (relined_field nodes) (fields_of blamed) n.fields;
       interface = map unlined n.interface;
     }
 
--- a flat document with the lines of instances, by that of the marked document
+-- a flat document with the lines of instances, by that of the blamed document
 abbrev pub relined : Flat → Flat → Flat
-relined marked f =
-    record f { nodes = side_by_side (relined_node marked.nodes) marked.nodes f.nodes }
+relined blamed f =
+    record f { nodes = side_by_side (relined_node blamed.nodes) blamed.nodes f.nodes }

@@ -4,10 +4,10 @@ ghost use Rattle.std.specs.Prelude.{◌≡◌, ◌++◌, Some, IfOk, OnOk};
 ghost use Rattle.std.specs.Option.{option_to_list};
 ghost use Rattle.classic_tree.specs.declared.tree.BodyItem.TheVariants as item;
 ghost use Rattle.classic_tree.specs.declared.tree.NodeText.TheVariants as node;
-ghost use Rattle.proto_blame.specs.Marked as spec;
-ghost use Rattle.proto_blame.specs.Marks as marks;
+ghost use Rattle.proto_blame.specs.Blamed as spec;
+ghost use Rattle.proto_blame.specs.Blames as blames;
 
-use crate::marks::mark;
+use crate::blames::blame;
 use classic_tree::{BodyItem, Declaration, Given, NodeText, ProtoText, RawValue, Statement};
 use std::alloc::{AllocError, Global};
 use x3d_lists::{Duplicate, Items, Text};
@@ -34,45 +34,45 @@ pub(crate) fn holder(line: u32, word: &str) -> u32
     }
 }
 
-/// Returns the mark of a line as a value.
-pub(crate) fn marking(alloc: Global, line: u32) -> Result<RawValue<NodeText>, AllocError>
-    ensures { IfOk result (λ v. v ≡ spec.marking (marks.mark line)) }
+/// Returns the blame of a line as a value.
+pub(crate) fn blaming(alloc: Global, line: u32) -> Result<RawValue<NodeText>, AllocError>
+    ensures { IfOk result (λ v. v ≡ spec.blaming (blames.blame line)) }
 {
-    match mark(alloc, line)? {
+    match blame(alloc, line)? {
         None => Ok(RawValue::Null),
         Some(text) => Ok(RawValue::String(text)),
     }
 }
 
-/// Returns a node as a value, or the mark of the line.
-pub(crate) fn one_or_mark(
+/// Returns a node as a value, or the blame of the line.
+pub(crate) fn one_or_blame(
     alloc: Global,
     line: u32,
     node: Option<NodeText>,
 ) -> Result<RawValue<NodeText>, AllocError>
-    ensures { IfOk result (λ v. v ≡ spec.one_or_mark line node) }
+    ensures { IfOk result (λ v. v ≡ spec.one_or_blame line node) }
 {
     match node {
-        None => marking(alloc, line),
+        None => blaming(alloc, line),
         Some(node) => Ok(RawValue::Node(node)),
     }
 }
 
-/// Returns nodes as a value, or the mark of the line.
-pub(crate) fn list_or_mark(
+/// Returns nodes as a value, or the blame of the line.
+pub(crate) fn list_or_blame(
     alloc: Global,
     line: u32,
     nodes: Items<NodeText>,
 ) -> Result<RawValue<NodeText>, AllocError>
-    ensures { IfOk result (λ v. v ≡ spec.list_or_mark line nodes) }
+    ensures { IfOk result (λ v. v ≡ spec.list_or_blame line nodes) }
 {
     if nodes.is_empty() {
-        return marking(alloc, line);
+        return blaming(alloc, line);
     }
     Ok(RawValue::NodeList(nodes))
 }
 
-/// Returns a node with these items, whose name is the mark of a line.
+/// Returns a node with these items, whose name is the blame of a line.
 pub(crate) fn full_node(
     alloc: Global,
     at: u32,
@@ -80,13 +80,13 @@ pub(crate) fn full_node(
     word: &Text,
     items: Items<BodyItem>,
 ) -> Result<Option<NodeText>, AllocError>
-    ensures { IfOk result (λ r. r ≡ Some (node.Full at (marks.mark line) word.now items)) }
+    ensures { IfOk result (λ r. r ≡ Some (node.Full at (blames.blame line) word.now items)) }
 {
     let Ok(word) = word.duplicate(alloc) else {
         drop(items);
         return Err(AllocError);
     };
-    let Ok(name) = mark(alloc, line) else {
+    let Ok(name) = blame(alloc, line) else {
         drop(items);
         return Err(AllocError);
     };

@@ -3,7 +3,7 @@
 ghost use Rattle.std.specs.Prelude.{◌≡◌, IfOk, OnOk, map, slice_get};
 ghost use Rattle.proto_blame.specs.Relined as spec;
 
-use crate::marks::line_in;
+use crate::blames::line_in;
 use classic_tree::{Declaration, RawValue};
 use proto_flat::{Flat, FlatField, FlatNode};
 use std::alloc::{AllocError, Global};
@@ -37,7 +37,7 @@ fn list_line(nodes: &[FlatNode], numbers: &[u32]) -> u32
     }
 }
 
-/// Returns the line that a value of a marked document says.
+/// Returns the line that a value of a blamed document says.
 fn value_line(nodes: &[FlatNode], value: &RawValue<u32>) -> u32
     ensures { result ≡ spec.value_line nodes.now value.now }
 {
@@ -49,7 +49,7 @@ fn value_line(nodes: &[FlatNode], value: &RawValue<u32>) -> u32
     }
 }
 
-/// Returns the line that a field of a marked document says, if there is one.
+/// Returns the line that a field of a blamed document says, if there is one.
 fn field_line(nodes: &[FlatNode], fields: &[FlatField], at: usize) -> u32
     ensures { result ≡ spec.field_line nodes.now (slice_get fields.now at) }
 {
@@ -59,17 +59,17 @@ fn field_line(nodes: &[FlatNode], fields: &[FlatField], at: usize) -> u32
     }
 }
 
-/// Appends a field with the line that the marked one at its place says.
+/// Appends a field with the line that the blamed one at its place says.
 fn push_field(
     field: FlatField,
     nodes: &[FlatNode],
-    marked: &[FlatField],
+    blamed: &[FlatField],
     made: &mut Items<FlatField>,
 ) -> Result<(), AllocError>
     ensures { OnOk result
-        (made.new ≡ spec.with_next (spec.relined_field nodes.now) marked.now made.old field) }
+        (made.new ≡ spec.with_next (spec.relined_field nodes.now) blamed.now made.old field) }
 {
-    let line = field_line(nodes, marked, made.len());
+    let line = field_line(nodes, blamed, made.len());
     made.push(FlatField {
         line,
         number: field.number,
@@ -77,19 +77,19 @@ fn push_field(
     })
 }
 
-/// Returns fields with the lines that the marked ones say.
+/// Returns fields with the lines that the blamed ones say.
 fn relined_fields(
     alloc: Global,
     fields: Items<FlatField>,
     nodes: &[FlatNode],
-    marked: &[FlatField],
+    blamed: &[FlatField],
 ) -> Result<Items<FlatField>, AllocError>
     ensures { IfOk result
-        (λ r. r ≡ spec.side_by_side (spec.relined_field nodes.now) marked.now fields) }
+        (λ r. r ≡ spec.side_by_side (spec.relined_field nodes.now) blamed.now fields) }
 {
     let mut made = Items::new(alloc);
     for field in fields.into_vec() {
-        push_field(field, nodes, marked, &mut made)?;
+        push_field(field, nodes, blamed, &mut made)?;
     }
     Ok(made)
 }
@@ -119,7 +119,7 @@ fn unlined_all(
     Ok(made)
 }
 
-/// Returns the fields of the node at a place of the marked document.
+/// Returns the fields of the node at a place of the blamed document.
 fn fields_at(nodes: &[FlatNode], at: usize) -> &[FlatField]
     ensures { result.now ≡ spec.fields_of (slice_get nodes.now at) }
 {
@@ -129,7 +129,7 @@ fn fields_at(nodes: &[FlatNode], at: usize) -> &[FlatField]
     }
 }
 
-/// Returns a node with the lines that the marked one at a place says.
+/// Returns a node with the lines that the blamed one at a place says.
 fn relined_node(
     alloc: Global,
     node: FlatNode,
@@ -165,7 +165,7 @@ fn relined_node(
     })
 }
 
-/// Appends a node with the lines that the marked one at its place says.
+/// Appends a node with the lines that the blamed one at its place says.
 fn push_node(
     alloc: Global,
     node: FlatNode,
@@ -195,10 +195,10 @@ fn relined_nodes(
 }
 
 /// Returns a flat document with the lines of instances for its own, by the flat document of the
-/// marked document: the line of a field is that of the instance whose braces hold its value, and 0
+/// blamed document: the line of a field is that of the instance whose braces hold its value, and 0
 /// if no instance's do. Fails if memory runs out.
-pub fn relined(alloc: Global, marked: &Flat, flat: Flat) -> Result<Flat, AllocError>
-    ensures { IfOk result (λ f. f ≡ spec.relined marked.now flat) }
+pub(crate) fn relined(alloc: Global, blamed: &Flat, flat: Flat) -> Result<Flat, AllocError>
+    ensures { IfOk result (λ f. f ≡ spec.relined blamed.now flat) }
 {
     let Flat {
         header,
@@ -207,7 +207,7 @@ pub fn relined(alloc: Global, marked: &Flat, flat: Flat) -> Result<Flat, AllocEr
         helpers,
         routes,
     } = flat;
-    let Ok(nodes) = relined_nodes(alloc, nodes, marked.nodes.as_slice()) else {
+    let Ok(nodes) = relined_nodes(alloc, nodes, blamed.nodes.as_slice()) else {
         drop(header);
         drop(roots);
         drop(helpers);

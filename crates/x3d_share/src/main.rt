@@ -3,17 +3,20 @@
 
 mod ends;
 mod peers;
+mod refused;
 mod stack;
 
 ghost use Rattle.app_words.specs.Words.{IsInRange};
 
 use crate::peers::{agree, host, rehearse, view};
+use crate::refused::{Refused, refused_job, refused_scene};
 use crate::stack::has_room;
 use app_program::{
-    Failure, RunFault, StreamFault, check_text, format_text, refusal_line, run_job, status_of,
-    write_whole,
+    Failure, RunFault, StreamFault, check_text, format_text, read_whole, refusal_line, run_job,
+    status_of, write_whole,
 };
 use app_words::{Order, OrderFault, Request, hint_of, request_of};
+use proto_blame::instance_words;
 use std::alloc::{AllocError, Global};
 use std::io::{self, Eprint};
 use std::net::Net;
@@ -31,14 +34,24 @@ fn views<'a>(alloc: Global, words: &'a [String]) -> Result<Vec<&'a str>, AllocEr
     words.iter().map(|word| word.as_str()).collect(alloc)
 }
 
-/// Returns a fault of the output as a failure of the run.
-fn output_failure(fault: StreamFault) -> Failure {
+/// Returns a fault of a stream as a failure of the run.
+fn stream_failure(fault: StreamFault) -> Failure {
     Failure::Run(RunFault::from(fault))
 }
 
+/// Reads the input whole: what is refused is read once more.
+fn read_own<R: AllocGlobal + Input>(rt: &R) -> Result<Vec<u8>, Failure> {
+    read_whole(rt.alloc(), &mut rt.reader()).map_err(stream_failure)
+}
+
 /// Reads a job, runs it with boxes of the stock, and prints the trace and the scene.
-fn run_own<R: AllocGlobal + Input + Print>(rt: &R) -> Result<(), Failure> {
-    run_job(rt.alloc(), &mut rt.reader(), &mut io::writer(rt))
+fn run_own<R: AllocGlobal + Input + Print>(rt: &R) -> Result<(), Refused> {
+    let job = read_own(rt)?;
+    let mut reader = job.as_slice();
+    match run_job(rt.alloc(), &mut reader, &mut io::writer(rt)) {
+        Ok(()) => Ok(()),
+        Err(failure) => Err(refused_job(rt.alloc(), failure, job.as_slice())),
+    }
 }
 
 /// Reads a scene and prints its text.
@@ -48,31 +61,38 @@ fn format_scene<R: AllocGlobal + Input + Print>(rt: &R) -> Result<(), Failure> {
 }
 
 /// Reads a scene and prints how many nodes and routes it has.
-fn check_scene<R: AllocGlobal + Input + Print>(rt: &R) -> Result<(), Failure> {
-    check_text(rt.alloc(), &mut rt.reader(), &mut io::writer(rt))?;
-    Ok(())
+fn check_scene<R: AllocGlobal + Input + Print>(rt: &R) -> Result<(), Refused> {
+    let scene = read_own(rt)?;
+    let mut reader = scene.as_slice();
+    match check_text(rt.alloc(), &mut reader, &mut io::writer(rt)) {
+        Ok(()) => Ok(()),
+        Err(fault) => {
+            let failure = Failure::Job(fault);
+            Err(refused_scene(rt.alloc(), failure, scene.as_slice()))
+        }
+    }
 }
 
 /// Prints a text of help.
 fn print_text<R: Print>(rt: &R, text: &str) -> Result<(), Failure> {
-    write_whole(&mut io::writer(rt), text.as_bytes()).map_err(output_failure)
+    write_whole(&mut io::writer(rt), text.as_bytes()).map_err(stream_failure)
 }
 
 /// Carries out a command.
 fn obey<R: AllocGlobal + Input + Print + Net + Eprint + Clock>(
     rt: &R,
     order: Order,
-) -> Result<(), Failure>
+) -> Result<(), Refused>
     requires { IsInRange order }
 {
     match order {
         Order::Run => run_own(rt),
-        Order::Format => format_scene(rt),
+        Order::Format => Ok(format_scene(rt)?),
         Order::Check => check_scene(rt),
-        Order::Rehearse { viewers } => rehearse(rt, viewers),
-        Order::Agree { viewers, turns } => agree(rt, &order, viewers, turns),
-        Order::Host(asked) => host(rt, &order, &asked),
-        Order::View(asked) => view(rt, &order, &asked),
+        Order::Rehearse { viewers } => Ok(rehearse(rt, viewers)?),
+        Order::Agree { viewers, turns } => Ok(agree(rt, &order, viewers, turns)?),
+        Order::Host(asked) => Ok(host(rt, &order, &asked)?),
+        Order::View(asked) => Ok(view(rt, &order, &asked)?),
     }
 }
 
@@ -80,9 +100,9 @@ fn obey<R: AllocGlobal + Input + Print + Net + Eprint + Clock>(
 fn answer<R: AllocGlobal + Input + Print + Net + Eprint + Clock>(
     rt: &R,
     words: &[&str],
-) -> Result<(), Failure> {
-    match request_of(rt.alloc(), words)? {
-        Request::Text(text) => print_text(rt, text.as_str()),
+) -> Result<(), Refused> {
+    match request_of(rt.alloc(), words).map_err(Failure::Order)? {
+        Request::Text(text) => Ok(print_text(rt, text.as_str())?),
         Request::Order(order) => obey(rt, order),
     }
 }
@@ -90,19 +110,19 @@ fn answer<R: AllocGlobal + Input + Print + Net + Eprint + Clock>(
 fn answer_own<R: AllocGlobal + Input + Print + Net + Eprint + Clock>(
     rt: &R,
     own: &[String],
-) -> Result<(), Failure> {
+) -> Result<(), Refused> {
     let Ok(words) = views(rt.alloc(), own) else {
-        return Err(Failure::Order(OrderFault::Memory));
+        return Err(Refused::from(Failure::Order(OrderFault::Memory)));
     };
     answer(rt, words.as_slice())
 }
 
 fn work<R: Env + AllocGlobal + Input + Print + Net + Eprint + Clock>(
     rt: &R,
-) -> Result<(), Failure> {
-    let own = own_words(rt)?;
+) -> Result<(), Refused> {
+    let own = own_words(rt).map_err(Failure::Order)?;
     if !has_room(own.len()) {
-        return Err(Failure::Order(OrderFault::Memory));
+        return Err(Refused::from(Failure::Order(OrderFault::Memory)));
     }
     answer_own(rt, own.as_slice())
 }
@@ -140,10 +160,21 @@ fn refuse_words<R: Env + AllocGlobal + Eprint>(rt: &R) -> ExitCode {
     }
 }
 
+/// Like `refuse`. A second line says which instance's braces hold the value at fault.
+fn refuse_with<R: Eprint>(rt: &R, refused: &Refused) -> ExitCode {
+    let status = refuse(rt, &refused.failure);
+    if refused.instance != 0 {
+        let _told = rt.eprintln(instance_words(refused.instance).as_str());
+    }
+    status
+}
+
 fn main(rt: HostRuntime) -> ExitCode {
     match work(&rt) {
         Ok(()) => ExitCode::SUCCESS,
-        Err(Failure::Order(OrderFault::Words)) => refuse_words(&rt),
-        Err(failure) => refuse(&rt, &failure),
+        Err(refused) => match refused.failure {
+            Failure::Order(OrderFault::Words) => refuse_words(&rt),
+            _ => refuse_with(&rt, &refused),
+        },
     }
 }

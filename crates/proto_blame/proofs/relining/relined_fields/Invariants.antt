@@ -6,5 +6,5 @@ use Rattle.proto_blame.proofs.relining.relined_fields.Given as goal
 
 abbrev pub invariant-loop-field : goal.invariant-loop-field
 invariant-loop-field l =
-    side_by_side (relined_field l.nodes) l.marked l.fn.fields
-    ≡ fold (with_next (relined_field l.nodes) l.marked) l.made (into_iter_items l.field-iterator)
+    side_by_side (relined_field l.nodes) l.blamed l.fn.fields
+    ≡ fold (with_next (relined_field l.nodes) l.blamed) l.made (into_iter_items l.field-iterator)
