@@ -1,7 +1,7 @@
 # `make run` shows the program at work, `make test` is the gate.
 SHELL := bash
 .SHELLFLAGS := -eu -o pipefail -c
-.PHONY: run try unproved quick picture room test-room test-room-quick room-library \
+.PHONY: run try unproved quick picture room test-room test-room-quick measure-room room-library \
         share soak fuzz test cases prefixes refusals check definitions calls \
         bench growth format install library library-unproved bindings fuzz-library wasm \
         dist test-dist abi site
@@ -65,6 +65,10 @@ room:
 # Tests that, in a real browser where chromium is installed. No part of `make test`.
 test-room: room-library
 	@$(found_so); $(found_wasm); echo "room: by $$so $$wasm"; X3D_SO=$$(realpath "$$so") X3D_WASM="$$wasm" room/test_room.py
+
+# How long it takes from a click until a door moves in each of 2, 16 and 64 windows: some four minutes, on an idle machine.
+measure-room: room-library
+	@$(found_so); $(found_wasm); X3D_SO=$$(realpath "$$so") X3D_WASM="$$wasm" room/clicks.py
 
 # Some of these, in less than a minute, for a gate: nothing is built for them, and what is missing is said.
 test-room-quick:

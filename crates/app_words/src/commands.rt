@@ -105,8 +105,10 @@ const HOST_HELP: &str = "A job of clocks is read from standard input; nothing is
 
 With --until N the host ends once N inputs are numbered, at least one viewer was heard, and each
 viewer that was heard has asked for the input after the last. Without it the host takes all its
-turns. With --keep N it drops the inputs that all those viewers have, except the last N. A viewer
-that comes later joins by the snapshot of another viewer (`view --join`), or never catches up.
+turns. With --keep N it drops the inputs that all those viewers have, except the last N, but none
+before K viewers were heard or 30 seconds have passed. A viewer that comes later joins by the
+snapshot of another viewer (`view --join`), or never catches up. A viewer that hasn't asked for 10
+seconds doesn't count until it asks again.
 A turn takes up to 64 datagrams. If nothing comes, the host rests between turns for 1 to 50
 milliseconds, so 1000000 turns last up to 14 hours.
 

@@ -18,18 +18,18 @@ fn is_past(until: u32, lowest: Option<u32>) -> bool
 {
     match lowest {
         Some(lowest) => until < lowest,
-        None => false,
+        None => true,
     }
 }
 
-/// Reports whether a host that has numbered `count` inputs is done: `until` inputs are numbered,
-/// and every viewer it heard of, at least one, has asked past them. Without `until` it is never
-/// done.
-pub fn is_served(until: Option<u32>, lowest: Option<u32>, count: u32) -> bool
-    ensures { result ≡ is_served until lowest count }
+/// Reports whether a host that has numbered `count` inputs is done: it has heard of a viewer,
+/// `until` inputs are numbered, and every viewer that it counts has asked past them. `lowest` is the
+/// lowest number that these asked from, if it counts one. Without `until` it is never done.
+pub fn is_served(until: Option<u32>, is_any: bool, lowest: Option<u32>, count: u32) -> bool
+    ensures { result ≡ is_served until is_any lowest count }
 {
     match until {
-        Some(until) => until <= count && is_past(until, lowest),
-        None => false,
+        Some(until) if is_any => until <= count && is_past(until, lowest),
+        _ => false,
     }
 }

@@ -7,9 +7,9 @@ ghost use Rattle.app_words.specs.Words.{HostInRange, ViewInRange};
 
 use crate::ends::{tell_host_end, tell_port, tell_view_end};
 use app_commands::{
-    ExactPort, JointJob, PatientPort, Peer, Seat, SharedJob, TellingPort, Watch, agree_job, bound,
-    bound_free, first_boot, give_job, host_job, joint_job, number_of, rehearse_job, seated_job,
-    shared_job, view_job,
+    AskingPort, ExactPort, JointJob, PatientPort, Peer, Seat, SharedJob, TellingPort, Watch,
+    agree_job, bound, bound_free, first_boot, give_job, host_job, joint_job, number_of,
+    rehearse_job, seated_job, shared_job, view_job,
 };
 use app_jobs::JobFault;
 use app_program::{Failure, RunFault, ShareFault, read_whole, write_whole};
@@ -248,12 +248,13 @@ fn viewed<R: AllocGlobal + Print + Net + Eprint + Clock>(
     let text = view_job(rt.alloc(), seat, asked.port, &plan, &mut port);
     let mut port = port.into_port();
     let done = printed(rt, seat, asked.port, text, &mut port);
-    let mut port = PatientPort::new(port, rt);
+    let asking = AskingPort::new(port, rt, asked.port, seat.viewer.ask());
+    let mut port = PatientPort::new(asking, rt);
     let done = match done {
         Ok(()) => given(rt.alloc(), seat, asked, &mut port),
         Err(failure) => Err(failure),
     };
-    let counts = port.port().port().counts();
+    let counts = port.port().port().port().counts();
     tell_view_end(rt, asked.verbose, seat.viewer.applied(), counts);
     done
 }
