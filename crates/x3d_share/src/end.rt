@@ -3,6 +3,7 @@
 use app_logs::{LogFault, log_refusal_line, log_status_of};
 use app_program::{Failure, JobFault, RunFault, ShareFault, refusal_line, status_of};
 use app_words::OrderFault;
+use proto_blame::instance_words;
 use std::io::Eprint;
 use std::process::ExitCode;
 
@@ -10,6 +11,8 @@ use std::process::ExitCode;
 #[derive(Clone, Copy)]
 pub enum End {
     Failure(Failure),
+    /// A scene is refused for a value in the braces of the instance on this line.
+    Instance(Failure, u32),
     /// The file of a log isn't used.
     Log(LogFault),
     /// The last inputs are in the log or not, and no viewer was sent them.
@@ -58,12 +61,20 @@ fn refuse_log<R: Eprint>(rt: &R, fault: LogFault) -> ExitCode {
     ExitCode::from(log_status_of(fault))
 }
 
-/// Prints the line of a refusal on standard error, and returns its status.
+fn refuse_failure<R: Eprint>(rt: &R, failure: &Failure) -> ExitCode {
+    let _told = rt.eprintln(refusal_line(failure).as_str());
+    ExitCode::from(status_of(failure))
+}
+
+/// Prints the line of a refusal on standard error, and a second one where there is more to say.
+/// Returns its status.
 pub fn refuse<R: Eprint>(rt: &R, end: &End) -> ExitCode {
     match end {
-        End::Failure(failure) => {
-            let _told = rt.eprintln(refusal_line(failure).as_str());
-            ExitCode::from(status_of(failure))
+        End::Failure(failure) => refuse_failure(rt, failure),
+        End::Instance(failure, line) => {
+            let status = refuse_failure(rt, failure);
+            let _told = rt.eprintln(instance_words(*line).as_str());
+            status
         }
         End::Log(fault) => refuse_log(rt, *fault),
         End::InDoubt => {

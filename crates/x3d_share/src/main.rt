@@ -7,6 +7,7 @@ mod ends;
 mod files;
 mod logs;
 mod peers;
+mod refused;
 mod stack;
 
 ghost use Rattle.app_words.specs.Words.{HostInRange, IsInRange};
@@ -14,8 +15,11 @@ ghost use Rattle.app_words.specs.Words.{HostInRange, IsInRange};
 use crate::end::{End, refuse};
 use crate::logs::{host_over_log, recall};
 use crate::peers::{agree, host, rehearse, view};
+use crate::refused::{refused_job, refused_scene};
 use crate::stack::has_room;
-use app_program::{Failure, RunFault, StreamFault, check_text, format_text, run_job, write_whole};
+use app_program::{
+    Failure, RunFault, StreamFault, check_text, format_text, read_whole, run_job, write_whole,
+};
 use app_words::{HostOrder, LogUse, Order, OrderFault, Request, hint_of, log_file_of, request_of};
 use std::alloc::{AllocError, Global};
 use std::io::{self, Eprint};
@@ -32,14 +36,24 @@ fn views<'a>(alloc: Global, words: &'a [String]) -> Result<Vec<&'a str>, AllocEr
     words.iter().map(|word| word.as_str()).collect(alloc)
 }
 
-/// Returns a fault of the output as a failure of the run.
-fn output_failure(fault: StreamFault) -> Failure {
+/// Returns a fault of a stream as a failure of the run.
+fn stream_failure(fault: StreamFault) -> Failure {
     Failure::Run(RunFault::from(fault))
 }
 
+/// Reads the input whole: what is refused is read once more.
+fn read_own<R: AllocGlobal + Input>(rt: &R) -> Result<Vec<u8>, Failure> {
+    read_whole(rt.alloc(), &mut rt.reader()).map_err(stream_failure)
+}
+
 /// Reads a job, runs it with boxes of the stock, and prints the trace and the scene.
-fn run_own<R: AllocGlobal + Input + Print>(rt: &R) -> Result<(), Failure> {
-    run_job(rt.alloc(), &mut rt.reader(), &mut io::writer(rt))
+fn run_own<R: AllocGlobal + Input + Print>(rt: &R) -> Result<(), End> {
+    let job = read_own(rt)?;
+    let mut reader = job.as_slice();
+    match run_job(rt.alloc(), &mut reader, &mut io::writer(rt)) {
+        Ok(()) => Ok(()),
+        Err(failure) => Err(refused_job(rt.alloc(), failure, job.as_slice())),
+    }
 }
 
 /// Reads a scene and prints its text.
@@ -49,14 +63,21 @@ fn format_scene<R: AllocGlobal + Input + Print>(rt: &R) -> Result<(), Failure> {
 }
 
 /// Reads a scene and prints how many nodes and routes it has.
-fn check_scene<R: AllocGlobal + Input + Print>(rt: &R) -> Result<(), Failure> {
-    check_text(rt.alloc(), &mut rt.reader(), &mut io::writer(rt))?;
-    Ok(())
+fn check_scene<R: AllocGlobal + Input + Print>(rt: &R) -> Result<(), End> {
+    let scene = read_own(rt)?;
+    let mut reader = scene.as_slice();
+    match check_text(rt.alloc(), &mut reader, &mut io::writer(rt)) {
+        Ok(()) => Ok(()),
+        Err(fault) => {
+            let failure = Failure::Job(fault);
+            Err(refused_scene(rt.alloc(), failure, scene.as_slice()))
+        }
+    }
 }
 
 /// Prints a text of help.
 fn print_text<R: Print>(rt: &R, text: &str) -> Result<(), Failure> {
-    write_whole(&mut io::writer(rt), text.as_bytes()).map_err(output_failure)
+    write_whole(&mut io::writer(rt), text.as_bytes()).map_err(stream_failure)
 }
 
 /// Runs a host, over the log that the words name if they name one.
