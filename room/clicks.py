@@ -99,6 +99,8 @@ def measured(count):
 
 
 def main():
+    if not all(map(str.isdigit, sys.argv[1:])):
+        sys.exit(__doc__)
     counts = [int(word) for word in sys.argv[1:]] or COUNTS
     where = "in the windows" if (WASM / "x3d.wasm").exists() else "in the server"
     load = f"load {os.getloadavg()[0]:.1f} at first, of {os.cpu_count()} processors"
