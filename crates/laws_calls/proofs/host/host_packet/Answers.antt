@@ -1,0 +1,6 @@
+use Rattle.std.specs.Option.{option_map}
+use Rattle.laws_calls.proofs.Hosts.{packet}
+use Rattle.laws_calls.proofs.host.host_packet.Goals as goal
+
+pub returns : goal.returns
+returns c = packet c.steps_law.ensures.calls c.args.host.now c.args.number (option_map (λ p. p.items) c.packet.result) c.packet.ensures.again

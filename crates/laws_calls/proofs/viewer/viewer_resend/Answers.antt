@@ -1,0 +1,6 @@
+use Rattle.std.specs.Option.{option_map}
+use Rattle.laws_calls.proofs.Viewers.{resend}
+use Rattle.laws_calls.proofs.viewer.viewer_resend.Goals as goal
+
+pub returns : goal.returns
+returns g c = resend c.steps_law.ensures.calls c.args.viewer.now c.args.place (option_map (λ p. p.items) c.resend.result) c.resend.ensures.again

@@ -1,0 +1,7 @@
+pub mod Hosts
+pub mod HostTurns
+pub mod Viewers
+pub mod ViewerTurns
+pub mod Joining
+pub mod Giving
+pub mod ViewerRuns

@@ -1,0 +1,3 @@
+pub mod HostDoings
+pub mod ViewerDoings
+pub mod Turns
