@@ -19,14 +19,11 @@ use Rattle.share_law.proofs.Effects.{Effect, packet, saves, IsStep-effect}
 use Rattle.share_core.specs.Viewer.{ViewerView}
 use Rattle.laws_calls.specs.Peers.{Peers, AreIn, machine_for, viewer_at}
 use Rattle.laws_calls.specs.Begins.{AreNew, NewPeersBegin, SentStays, ViewersAgree, ViewersHold, viewer_before}
-use Rattle.laws_calls.specs.Moves.{Has}
+use Rattle.laws_calls.specs.Moves.{HasViewer}
+use Rattle.laws_calls.proofs.Places.{twice}
 use Rattle.laws_calls.proofs.Viewers.{seat_of}
 
 -- ---- the start
-
-twice : {A B C : Type 0} (f : A → B) (g : B → C) (o : Option A) → option_map (λ a. g (f a)) o ≡ option_map g (option_map f o)
-twice f g None = refl
-twice f g (Some a) = refl
 
 pub begins : NewPeersBegin
 begins ps boots new = record {
@@ -42,7 +39,7 @@ begins ps boots new = record {
     run = refl;
   };
   host = new.host;
-  viewers = λ who. new.viewers who ∙ twice (seated (machine_for ps)) (viewer_at ps who) (slice_get boots who)
+  viewers = λ who. new.viewers who ∙ sym (twice (slice_get boots who) (seated (machine_for ps)) (viewer_at ps who))
       ∙ ap (option_map (viewer_at ps who)) (sym (slice_get-map (seated (machine_for ps)) boots who));
   boots = λ s shot at. absurd (none-some shot at);
 }

@@ -25,3 +25,8 @@ mapped_from f (Some x) y e = (x, refl, same_Some (f x) y (sym e))
 pub last_there : {X : Type 0} (xs : List X) (x : X) → slice_get (xs ++ x ∷ []) (length xs) ≡ Some x
 last_there [] x = refl
 last_there (y ∷ xs) x = last_there xs x
+
+-- an answer that is mapped twice
+pub twice : {A B C : Type 0} (o : Option A) (f : A → B) (g : B → C) → option_map g (option_map f o) ≡ option_map (λ a. g (f a)) o
+twice None f g = refl
+twice (Some a) f g = refl

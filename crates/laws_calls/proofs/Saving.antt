@@ -24,7 +24,7 @@ use Rattle.share_core.specs.Viewer.{IfRunning, IfSpoiled, ViewerView}
 use Rattle.laws_worlds.proofs.NetworksWorlds.{saved_have}
 use Rattle.laws_calls.specs.Peers.{Peers, AreIn, machine_for, viewer_at}
 use Rattle.laws_calls.specs.Leads.{Leads, SavesAny, SendsAny, TakesSnapshot}
-use Rattle.laws_calls.specs.Moves.{Has, PieceSends, ViewerSaves}
+use Rattle.laws_calls.specs.Moves.{HasViewer, PieceSends, ViewerSaves}
 use Rattle.laws_calls.proofs.Hosts.{Law, calls, sends}
 use Rattle.laws_calls.proofs.Places.{last_there}
 use Rattle.laws_calls.proofs.Viewers.{seat_of}

@@ -28,12 +28,12 @@ use Rattle.share_core.specs.Viewer.{ViewerView, machine_of, with_gathering, with
 use Rattle.laws_worlds.proofs.NetworksWorlds.{saved_have}
 use Rattle.laws_calls.specs.Peers.{Peers, AreIn, machine_for, viewer_at, with_viewer}
 use Rattle.laws_calls.specs.Leads.{Leads, SendsAny}
-use Rattle.laws_calls.specs.Moves.{Has, ViewerMoves, ViewerMovesBy, ViewerMovesTo, ViewerSends}
+use Rattle.laws_calls.specs.Moves.{HasViewer, ViewerMoves, ViewerMovesBy, ViewerMovesTo, ViewerSends}
 use Rattle.laws_calls.proofs.Hosts.{Law, calls, m, sends}
 use Rattle.laws_calls.proofs.Places.{mapped_from, set_both}
 
 -- the viewer's seat
-pub seat_of : (ps : Peers) (net : Network Scripted) (viewer : ViewerView) → Has ps net viewer → (x : Seat Scripted) × (slice_get net.viewers viewer.who ≡ Some x) × (viewer_at ps viewer.who x ≡ viewer)
+pub seat_of : (ps : Peers) (net : Network Scripted) (viewer : ViewerView) → HasViewer ps net viewer → (x : Seat Scripted) × (slice_get net.viewers viewer.who ≡ Some x) × (viewer_at ps viewer.who x ≡ viewer)
 seat_of ps net viewer has = mapped_from (viewer_at ps viewer.who) (slice_get net.viewers viewer.who) viewer (sym has.at ∙ has.are.viewers viewer.who)
 
 module _ (law : Law) (ps : Peers) (net : Network Scripted) (are : AreIn ps net) (who : ℕ) where

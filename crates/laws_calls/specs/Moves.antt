@@ -39,21 +39,21 @@ HostSends host step bytes =
 -- ---- a viewer
 
 -- the viewer is one of the peers of a network
-pub record Has (ps : Peers) (net : Network Scripted) (viewer : ViewerView) : Type 0 where
+pub record HasViewer (ps : Peers) (net : Network Scripted) (viewer : ViewerView) : Type 0 where
   pub are : AreIn ps net
   pub at : slice_get ps.viewers viewer.who ≡ Some viewer
 
 -- a call on a viewer
 abbrev pub ViewerMoves : (old new : ViewerView) → Step → Answer → Type 0
 ViewerMoves old new step answer =
-    (ps : Peers) (net : Network Scripted) → Has ps net old
+    (ps : Peers) (net : Network Scripted) → HasViewer ps net old
     → Leads net step answer (with_viewer ps new)
 
 -- the viewer takes or gathers what decodes so: packet p of the network, whichever that is
 abbrev pub ViewerMovesBy : (old new : ViewerView) → Result Message WireFault → (step : ℕ → Step)
     → Answer → Type 0
 ViewerMovesBy old new decoded step answer =
-    (ps : Peers) (net : Network Scripted) → Has ps net old
+    (ps : Peers) (net : Network Scripted) → HasViewer ps net old
     → (p : ℕ) → IsPacket ps.mark net p decoded
     → Leads net (step p) answer (with_viewer ps new)
 
@@ -61,19 +61,19 @@ ViewerMovesBy old new decoded step answer =
 abbrev pub ViewerMovesTo : (old new : ViewerView) → (bytes : List ℕ) → (step : ℕ → Step) → Answer
     → Type 0
 ViewerMovesTo old new bytes step answer =
-    (ps : Peers) (net : Network Scripted) → Has ps net old
+    (ps : Peers) (net : Network Scripted) → HasViewer ps net old
     → (s : ℕ) (shot : Shot Scripted) → IsShot (machine_for ps) net s shot bytes
     → Leads net (step s) answer (with_viewer ps new)
 
 -- the viewer sends these bytes, or nothing
 abbrev pub ViewerSends : ViewerView → Step → Option (List ℕ) → Type 0
 ViewerSends viewer step bytes =
-    (ps : Peers) (net : Network Scripted) → Has ps net viewer → SendsAny net step bytes ps
+    (ps : Peers) (net : Network Scripted) → HasViewer ps net viewer → SendsAny net step bytes ps
 
 -- the viewer appends a snapshot, or is refused
 abbrev pub ViewerSaves : ViewerView → Result (Unit {0}) SaveFault → (old new : List ℕ) → Type 0
 ViewerSaves viewer result old new =
-    (ps : Peers) (net : Network Scripted) → Has ps net viewer
+    (ps : Peers) (net : Network Scripted) → HasViewer ps net viewer
     → SavesAny net viewer.who result old new ps
 
 -- ---- pieces

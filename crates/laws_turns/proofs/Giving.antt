@@ -39,7 +39,7 @@ module _ (v : ViewerView) (w : Scripted) (window : List (Option StampedView)) (r
 
   made-piece : (k : ℕ) (o : Option Body) → piece_of bytes k ≡ o → Made v (listed o)
   made-piece k None e = tt
-  made-piece k (Some b) e = (λ peer sent same. (doing.Gives k (record { peer = peer; bytes = sent }), (refl, (w, window, runs, ap (option_map (datagram_of v.mark)) e ∙ ap Some (sym same))), refl), tt)
+  made-piece k (Some b) e = ((λ peer sent same. (doing.Gives k (record { peer = peer; bytes = sent }), (refl, (w, window, runs, ap (option_map (datagram_of v.mark)) e ∙ ap Some (sym same))), refl)), tt)
 
   made-given : (count : Option ℕ) (n : ℕ) → Made v (listed (piece_among count bytes n))
   made-given None n = tt

@@ -12,6 +12,7 @@ use Rattle.share_turns.specs.Exchanges.{Exchange, IsEnd, all_traffic, most_taken
 use Rattle.share_turns.specs.HostTurn.{AreAnswered, IsBegun, IsHeardTurn, is_whole, is_whole_before}
 use Rattle.share_turns.specs.Runs.{AreHosted, HostTurns, Hosting, IsHostEnd, dropped_below, hosting, kept_by, next_floor}
 use Rattle.share_turns.specs.Heard.{lowest, nobody}
+use Rattle.share_turns.proofs.Sending.{grows_none}
 use Rattle.laws_turns.specs.HostDoings.{HostDoes}
 use Rattle.laws_turns.specs.HostDoings as doing
 use Rattle.laws_turns.specs.Turns.{HostRunsAreCalls, HostTurnsAreCalls}
@@ -41,10 +42,10 @@ heard-turn : (result : Result (Unit {0}) TurnFault) (mark : List ℕ) (clock : O
     → IsHeardTurn result mark clock a b old new before after → HostDoes mark a b old new
 heard-turn result mark clock a b old new before after t =
     let first = begun mark old clock t.refused t.begun t.clocked in
-    let then = answered (is_whole result) mark t.begun t.exchanges new t.answered in
+    let next = answered (is_whole result) mark t.begun t.exchanges new t.answered in
     let last = ended mark new (is_ok result) (length t.exchanges) t.rest t.ended in
     does_did mark a b old new (all_traffic t.exchanges ++ t.rest)
-    (did_then mark old t.begun new [] _ first (did_then mark t.begun new new (all_traffic t.exchanges) t.rest then last)) t.told
+    (did_then mark old t.begun new [] (all_traffic t.exchanges ++ t.rest) first (did_then mark t.begun new new (all_traffic t.exchanges) t.rest next last)) t.told
 
 pub host_turns_are_calls : HostTurnsAreCalls
 host_turns_are_calls result mark clock a b old new t = heard-turn result mark clock a b old new t.0 t.1 t.2
@@ -62,17 +63,18 @@ turns mark clocks plan (suc n) a b old new t =
     let kept = t.4 in
     let turn = heard-turn (Ok tt) mark (slice_get clocks n) t.0 b t.1.part kept.0 t.1.heard new.heard kept.1 in
     let floor = next_floor plan.keep (lowest new.heard) kept.0 in
-    let left = does_did mark b b kept.0 (dropped_below floor kept.0) [] (drops mark floor kept.0) (does_none mark b b kept.0 kept.0 refl refl).told in
+    let left = does_did mark b b kept.0 (dropped_below floor kept.0) [] (drops mark floor kept.0) (grows_none b) in
     subst (λ (p : HostPart). HostDoes mark a b old p) (sym kept.2) (does_then mark a b b old kept.0 (dropped_below floor kept.0) (does_then mark a t.0 b old t.1.part kept.0 before turn) left)
+
+ends : (mark : List ℕ) (clocks : List ℤ) (plan : HostPlan) (n : ℕ) (a b : Option (List Traffic)) (old new : HostPart) (fault : SeriesFault) → IsHostEnd mark clocks plan n a b old fault new → HostDoes mark a b old new
+ends mark clocks plan n a b old new series.TurnsUsedUp r = turns mark clocks plan n a b old (hosting new r.heard) r.turned
+ends mark clocks plan n a b old new (series.Turn fault) r =
+    does_then mark a r.between b old r.mid.part new (turns mark clocks plan r.done a r.between old r.mid r.before)
+    (heard-turn (Err fault) mark (slice_get clocks r.done) r.between b r.mid.part new r.mid.heard r.heard r.last)
+ends mark clocks plan n a b old new (series.Join fault) r = absurd r
 
 pub host_runs_are_calls : HostRunsAreCalls
 host_runs_are_calls = record {
   done = λ mark clocks plan n a b old new r. turns mark clocks plan r.done a b old (hosting new r.heard) r.turned;
   ended = ends;
-} where
-  ends : (mark : List ℕ) (clocks : List ℤ) (plan : HostPlan) (n : ℕ) (a b : Option (List Traffic)) (old new : HostPart) (fault : SeriesFault) → IsHostEnd mark clocks plan n a b old fault new → HostDoes mark a b old new
-  ends mark clocks plan n a b old new series.TurnsUsedUp r = turns mark clocks plan n a b old (hosting new r.heard) r.turned
-  ends mark clocks plan n a b old new (series.Turn fault) r =
-      does_then mark a r.between b old r.mid.part new (turns mark clocks plan r.done a r.between old r.mid r.before)
-      (heard-turn (Err fault) mark (slice_get clocks r.done) r.between b r.mid.part new r.mid.heard r.heard r.last)
-  ends mark clocks plan n a b old new (series.Join fault) r = absurd r
+}

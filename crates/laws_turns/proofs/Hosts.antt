@@ -49,7 +49,7 @@ did_then mark a b c t u x y = (
 )
 
 pub does_did : (mark : List ℕ) (a b : Option (List Traffic)) (old new : HostPart) (t : List Traffic) → Did mark old new t → Grows a b t → HostDoes mark a b old new
-does_did mark a b old new t x told = record { doings = x.0; calls = x.1; told = subst (Grows a b) (sym x.2) told }
+does_did mark a b old new t x told = record { doings = x.0; calls = x.1; told = subst (λ (u : List Traffic). Grows a b u) (sym x.2) told }
 
 pub does_then : (mark : List ℕ) (a b c : Option (List Traffic)) (x y z : HostPart) → HostDoes mark a b x y → HostDoes mark b c y z → HostDoes mark a c x z
 does_then mark a b c x y z one two =
@@ -106,8 +106,7 @@ sends mark peer p [] made (x ∷ xs) lost e = absurd (no-first x (xs ++ lost) e)
 sends mark peer p (b ∷ bs) made (x ∷ xs) lost e =
     let more = sends mark peer p bs made.1 xs lost (rest-of x (datagram_of mark b) (xs ++ lost) (datagrams_of mark bs) e) in
     let head : x ≡ datagram_of mark b = first-of x (datagram_of mark b) (xs ++ lost) (datagrams_of mark bs) e in
-    let one : Datagram = record { peer = peer; bytes = x } in
-    (
+    let one : Datagram = record { peer = peer; bytes = x } in (
       doing.Sends made.0.0 one ∷ more.0,
       (p, (refl, ap (option_map (datagram_of mark)) made.0.1 ∙ ap Some (sym head)), more.1),
       ap (λ (t : List Traffic). Sent one ∷ t) more.2,

@@ -12,6 +12,7 @@ use Rattle.share_turns.specs.declared.traffic.Traffic.{Traffic}
 use Rattle.share_turns.specs.declared.traffic.Traffic.TheVariants.{Received}
 use Rattle.share_turns.specs.Gathers.{AreGathered, GatherTurns, Gathers, HasJoined, IsBeginning, IsGatherTurn, IsGathered, IsJoinCut, IsJoinEnd, with_both}
 use Rattle.share_turns.specs.ViewerTurn.{Taking, received}
+use Rattle.share_turns.proofs.Sending.{grows_none}
 use Rattle.laws_turns.specs.ViewerDoings.{ViewerDoes}
 use Rattle.laws_turns.specs.ViewerDoings as doing
 use Rattle.laws_turns.proofs.Viewers.{Did, did_none, did_then, does_did, does_none, does_then, ended}
@@ -35,7 +36,7 @@ gather-turns v (suc n) a b held new t =
 
 begins : (a : Option (List Traffic)) (v : ViewerView) (boot : ℕ) (result : Result Bool SeriesFault) (state : ViewerState Scripted) (held : Option Gathering) → IsBeginning v boot result state held → ViewerDoes a a v (with_both v state held)
 begins a v boot result state held b =
-    does_did a a v (with_both v state held) [] (doing.Joins boot b.answer ∷ [], (with_both v state held, (refl, b.joined, b.law), refl), refl) (does_none a a v v refl refl).told
+    does_did a a v (with_both v state held) [] (doing.Joins boot b.answer ∷ [], (with_both v state held, (refl, b.joined, b.law), refl), refl) (grows_none a)
 
 one-gathered : (v : ViewerView) (boot : ℕ) (result : Result Bool SeriesFault) (a b : Option (List Traffic)) (state : ViewerState Scripted) (held : Option Gathering) → IsGathered v boot result a b state held → ViewerDoes a b v (with_both v state held)
 one-gathered v boot result a b state held g =

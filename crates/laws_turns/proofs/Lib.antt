@@ -5,3 +5,4 @@ pub mod ViewerTurns
 pub mod Joining
 pub mod Giving
 pub mod ViewerRuns
+pub mod Rounds

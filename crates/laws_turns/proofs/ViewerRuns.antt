@@ -62,12 +62,11 @@ viewer-runs-ended : (v : ViewerView) (host : ℕ) (points : List Point) (plan : 
     → (held : Option Gathering) × ViewerDoes a b v (with_both v new.state held)
 viewer-runs-ended v host points plan a b fault new (inl e) = (new.gathering, begin-end v plan.join plan.turns a b fault new e)
 viewer-runs-ended v host points plan a b fault new (inr (inl c)) =
-    let same = ap (λ (x : ViewerView). with_state x new.state) (kept v plan.join plan.turns c.joining a c.between c.begun c.joined) in
-    (
+    let same = ap (λ (x : ViewerView). with_state x new.state) (kept v plan.join plan.turns c.joining a c.between c.begun c.joined) in (
       c.begun.gathering,
       subst (ViewerDoes a b v) same
-      (does_then a c.between b v c.begun (with_state c.begun new.state) (begun v plan.join plan.turns c.joining a c.between c.begun c.joined)
-      (view_end c.begun host points plan.until (plan.turns - c.joining) c.between b fault new.state c.ended)),
+          (does_then a c.between b v c.begun (with_state c.begun new.state) (begun v plan.join plan.turns c.joining a c.between c.begun c.joined)
+          (view_end c.begun host points plan.until (plan.turns - c.joining) c.between b fault new.state c.ended)),
     )
 viewer-runs-ended v host points plan a b fault new (inr (inr c)) =
     let h = c.viewed in

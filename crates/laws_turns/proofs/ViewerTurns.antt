@@ -5,8 +5,6 @@ use Rattle.std.specs.Option.{option_map}
 use Rattle.x3d_values.specs.declared.pointing.Point.{Point}
 use Rattle.cascade_core.specs.Course.{Scripted}
 use Rattle.share_wire.specs.declared.message.Body.{Body}
-use Rattle.share_law.specs.declared.step.Step.{Step}
-use Rattle.share_law.specs.declared.step.Step.TheVariants.{ViewerAsk, ViewerResend}
 use Rattle.share_law.specs.Viewer.{ViewerWorld, Running, Spoiled, ViewerState, viewer_ask, viewer_resend}
 use Rattle.share_core.specs.Viewer.{IfRunning, IfSpoiled, ViewerView, machine_of, with_state}
 use Rattle.share_turns.specs.declared.fault.SeriesFault.{SeriesFault}
@@ -21,7 +19,7 @@ use Rattle.share_turns.specs.HostTurn.{listed}
 use Rattle.share_turns.specs.ViewerTurn.{AreTaken, IsCut, IsOffered, IsViewerTurn, Taking, received, requests}
 use Rattle.share_turns.specs.Views.{AreViewed, IsTurnOf, IsViewEnd, ViewerTurns}
 use Rattle.laws_turns.specs.HostDoings.{datagram_of}
-use Rattle.laws_turns.specs.ViewerDoings.{ViewerDoes, ViewerDoing, IsViewerDoing, packet_from, viewer_traffic}
+use Rattle.laws_turns.specs.ViewerDoings.{ViewerDoes, ViewerDoing, IsViewerDoing, viewer_traffic}
 use Rattle.laws_turns.specs.ViewerDoings as doing
 use Rattle.laws_turns.specs.Turns.{ViewerTurnsAreCalls}
 use Rattle.laws_turns.proofs.Viewers.{Did, Made, did_none, did_then, does_did, does_none, does_then, ended, front, made_append, not_waited, sends}
@@ -36,19 +34,23 @@ taken v x (t ∷ ts) y a =
     let more = taken v a.0 ts y a.2 in
     (doing.Takes t.came a.1.0 ∷ more.0, (with_state v a.0, (refl, a.1.1), more.1), ap (λ (u : List Traffic). Received t.came ∷ u) more.2)
 
--- a packet of a step
-sent-by : (v : ViewerView) (s : Step) (b : Body) → packet_from v s ≡ Some b → (peer : ℕ) (bytes : List ℕ) → bytes ≡ datagram_of v.mark b
+-- a waiting offer, and an ask
+resent : (v : ViewerView) (b : Body) → viewer_resend v.who v.state 0 ≡ Some b → (peer : ℕ) (bytes : List ℕ) → bytes ≡ datagram_of v.mark b
     → (d : ViewerDoing) × IsViewerDoing v d v × (viewer_traffic d ≡ Sent (record { peer = peer; bytes = bytes }) ∷ [])
-sent-by v s b from peer bytes e = (doing.Sends s (record { peer = peer; bytes = bytes }), (refl, ap (option_map (datagram_of v.mark)) from ∙ ap Some (sym e)), refl)
+resent v b from peer bytes e = (doing.Resends 0 (record { peer = peer; bytes = bytes }), (refl, ap (option_map (datagram_of v.mark)) from ∙ ap Some (sym e)), refl)
+
+asked : (v : ViewerView) (peer : ℕ) (bytes : List ℕ) → bytes ≡ datagram_of v.mark (viewer_ask (machine_of v) v.who v.state)
+    → (d : ViewerDoing) × IsViewerDoing v d v × (viewer_traffic d ≡ Sent (record { peer = peer; bytes = bytes }) ∷ [])
+asked v peer bytes e = (doing.Asks (record { peer = peer; bytes = bytes }), (refl, e), refl)
 
 made-resend : (v : ViewerView) (o : Option Body) → viewer_resend v.who v.state 0 ≡ o → Made v (listed o)
 made-resend v None e = tt
-made-resend v (Some b) e = (sent-by v (ViewerResend v.who 0) b e, tt)
+made-resend v (Some b) e = (resent v b e, tt)
 
 made-requests : (v : ViewerView) → Made v (listed (viewer_resend v.who v.state 0) ++ viewer_ask (machine_of v) v.who v.state ∷ [])
 made-requests v =
     made_append v (listed (viewer_resend v.who v.state 0)) (viewer_ask (machine_of v) v.who v.state ∷ []) (made-resend v (viewer_resend v.who v.state 0) refl)
-    (sent-by v (ViewerAsk v.who) (viewer_ask (machine_of v) v.who v.state) refl, tt)
+    (asked v, tt)
 
 -- the receives end, or the turn is cut
 waits : (v : ViewerView) (n : ℕ) (rest : List Traffic) (sent : List (List ℕ)) (result : Result Bool TurnFault) → IsEnd true n rest ⊎ IsCut result rest sent → Did v v rest
@@ -62,12 +64,12 @@ running v host point a b result new t =
     let x = with_state v t.begun in
     let y = with_state v new in
     let first = offers v point t.offered t.begun t.offers in
-    let then = taken v t.begun t.takings new t.taken in
+    let next = taken v t.begun t.takings new t.taken in
     let rest = waits y (length t.takings) t.rest t.sent result t.ended in
     let f = front (is_ok result) t.sent (requests (machine_of v) v.mark v.who new) t.of_wanted in
     let last = sends host y (listed (viewer_resend v.who new 0) ++ viewer_ask (machine_of v) v.who new ∷ []) (made-requests y) t.sent f.0 f.1 in
     does_did a b v y ((received t.takings ++ t.rest) ++ sent_to host t.sent)
-    (did_then v y y (received t.takings ++ t.rest) (sent_to host t.sent) (did_then v y y (received t.takings) t.rest (did_then v x y [] (received t.takings) first then) rest) last) t.told
+    (did_then v y y (received t.takings ++ t.rest) (sent_to host t.sent) (did_then v y y (received t.takings) t.rest (did_then v x y [] (received t.takings) first next) rest) last) t.told
 
 turn-by : (v : ViewerView) (host : ℕ) (point : Option Point) (a b : Option (List Traffic)) (result : Result Bool TurnFault) (new : ViewerState Scripted) (view : ViewerWorld Scripted)
     → IfSpoiled view ((result ≡ Err turn_fault.Spoiled) × (new ≡ v.state) × (b ≡ a))

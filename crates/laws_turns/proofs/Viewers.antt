@@ -38,7 +38,7 @@ did_then a b c t u x y = (
 )
 
 pub does_did : (a b : Option (List Traffic)) (old new : ViewerView) (t : List Traffic) → Did old new t → Grows a b t → ViewerDoes a b old new
-does_did a b old new t x told = record { doings = x.0; calls = x.1; told = subst (Grows a b) (sym x.2) told }
+does_did a b old new t x told = record { doings = x.0; calls = x.1; told = subst (λ (u : List Traffic). Grows a b u) (sym x.2) told }
 
 pub does_then : (a b c : Option (List Traffic)) (x y z : ViewerView) → ViewerDoes a b x y → ViewerDoes b c y z → ViewerDoes a c x z
 does_then a b c x y z one two =
@@ -85,8 +85,7 @@ sends peer v bodies made [] lost e = ([], refl, refl)
 sends peer v [] made (x ∷ xs) lost e = absurd (no-first x (xs ++ lost) e)
 sends peer v (b ∷ bs) made (x ∷ xs) lost e =
     let more = sends peer v bs made.1 xs lost (rest-of x (datagram_of v.mark b) (xs ++ lost) (datagrams_of v.mark bs) e) in
-    let one = made.0 peer x (first-of x (datagram_of v.mark b) (xs ++ lost) (datagrams_of v.mark bs) e) in
-    (
+    let one = made.0 peer x (first-of x (datagram_of v.mark b) (xs ++ lost) (datagrams_of v.mark bs) e) in (
       one.0 ∷ more.0,
       (v, one.1, more.1),
       ap (λ (t : List Traffic). t ++ all_viewer_traffic more.0) one.2 ∙ ap (λ (t : List Traffic). Sent (record { peer = peer; bytes = x }) ∷ t) more.2,

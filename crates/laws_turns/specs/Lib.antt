@@ -1,3 +1,4 @@
 pub mod HostDoings
 pub mod ViewerDoings
 pub mod Turns
+pub mod Rounds

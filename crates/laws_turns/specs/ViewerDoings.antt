@@ -6,15 +6,12 @@ use Rattle.x3d_values.specs.Stamp.{StampedView}
 use Rattle.cascade_core.specs.Course.{Scripted}
 use Rattle.snapshot_core.specs.Shot.{shot}
 use Rattle.share_wire.specs.Decoding.{decoded}
-use Rattle.share_wire.specs.declared.message.Body.{Body}
 use Rattle.share_law.specs.declared.fault.GatherFault.{GatherFault}
 use Rattle.share_law.specs.declared.fault.JoinFault.{JoinFault}
 use Rattle.share_law.specs.declared.fault.OfferFault.{OfferFault}
 use Rattle.share_law.specs.declared.fault.TakeFault.{TakeFault}
 use Rattle.share_law.specs.declared.reply.Gathered.{Gathered}
 use Rattle.share_law.specs.declared.reply.Taken.{Taken}
-use Rattle.share_law.specs.declared.step.Step.{Step}
-use Rattle.share_law.specs.declared.step.Step.TheVariants.{ViewerAsk, ViewerResend}
 use Rattle.share_law.specs.Calls.{IsGatherOf, IsTakeOf}
 use Rattle.share_law.specs.Pieces.{whole_of}
 use Rattle.share_law.specs.Viewer.{Running, viewer_ask, viewer_offer, viewer_resend}
@@ -27,24 +24,19 @@ use Rattle.share_turns.specs.declared.traffic.Traffic.TheVariants.{Nothing, Rece
 use Rattle.share_turns.specs.Told.{Grows}
 use Rattle.laws_turns.specs.HostDoings.{datagram_of}
 
--- a point that is offered, a datagram that is taken, gathered or discarded, the packet of a step or
--- a piece of the viewer's own snapshot that is sent, a join, and a receive for which nothing had
--- arrived
+-- a point that is offered; a datagram that is taken, gathered or discarded; the waiting offer at a
+-- place, an ask, or a piece of the viewer's own snapshot, that is sent; a join; and a receive for
+-- which nothing had arrived
 pub data ViewerDoing : Type 0 where
   Offers : Point → Result ℕ OfferFault → ViewerDoing
   Takes : (came : Datagram) → Result Taken TakeFault → ViewerDoing
   Gathers : (came : Datagram) → Result Gathered GatherFault → ViewerDoing
   Discards : (came : Datagram) → ViewerDoing
-  Sends : (step : Step) → (sent : Datagram) → ViewerDoing
+  Resends : (place : ℕ) → (sent : Datagram) → ViewerDoing
+  Asks : (sent : Datagram) → ViewerDoing
   Gives : (piece : ℕ) → (sent : Datagram) → ViewerDoing
   Joins : (boot : ℕ) → Result ℕ JoinFault → ViewerDoing
   Waits : ViewerDoing
-
--- the packet that the step of this viewer sends
-abbrev pub packet_from : ViewerView → Step → Option Body
-packet_from v (ViewerResend who place) = viewer_resend v.who v.state place
-packet_from v (ViewerAsk who) = Some (viewer_ask (machine_of v) v.who v.state)
-packet_from v step = None
 
 -- what the call's contract ensures of the viewer
 abbrev pub IsViewerDoing : ViewerView → ViewerDoing → ViewerView → Type 0
@@ -57,8 +49,13 @@ IsViewerDoing old (Takes came result) new =
 IsViewerDoing old (Gathers came result) new =
     (new ≡ with_gathering old new.gathering)
     × IsGatherOf old.mark old.gathering (decoded came.bytes) result new.gathering
-IsViewerDoing old (Sends step sent) new =
-    (new ≡ old) × (option_map (datagram_of old.mark) (packet_from old step) ≡ Some sent.bytes)
+IsViewerDoing old (Resends place sent) new =
+    (new ≡ old)
+    × (option_map (datagram_of old.mark) (viewer_resend old.who old.state place)
+    ≡ Some sent.bytes)
+IsViewerDoing old (Asks sent) new =
+    (new ≡ old)
+    × (sent.bytes ≡ datagram_of old.mark (viewer_ask (machine_of old) old.who old.state))
 IsViewerDoing old (Gives piece sent) new =
     (new ≡ old)
     × ((w : Scripted) × (window : List (Option StampedView)) × (old.state.view ≡ Running w window)
@@ -83,7 +80,8 @@ viewer_traffic (Offers point result) = []
 viewer_traffic (Takes came result) = Received came ∷ []
 viewer_traffic (Gathers came result) = Received came ∷ []
 viewer_traffic (Discards came) = Received came ∷ []
-viewer_traffic (Sends step sent) = Sent sent ∷ []
+viewer_traffic (Resends place sent) = Sent sent ∷ []
+viewer_traffic (Asks sent) = Sent sent ∷ []
 viewer_traffic (Gives piece sent) = Sent sent ∷ []
 viewer_traffic (Joins boot result) = []
 viewer_traffic Waits = Nothing ∷ []

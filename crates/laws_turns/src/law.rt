@@ -2,6 +2,10 @@
 
 ghost use Rattle.laws_turns.specs.Turns.{HostRunsAreCalls, HostTurnsAreCalls};
 ghost use Rattle.laws_turns.specs.Turns.{ViewerRunsAreCalls, ViewerTurnsAreCalls};
+ghost use Rattle.share_turns.specs.Seats.{ways_of};
+ghost use Rattle.laws_turns.specs.Rounds.{RoundsAreCalls};
+
+use share_turns::Port;
 
 /// States that turns, and runs of turns, are calls one after another. The port records exactly the
 /// datagrams that these calls took and made.
@@ -14,4 +18,9 @@ pub fn turns_law()
     ensures viewer_turns { ViewerTurnsAreCalls }
     // What `view_run` does.
     ensures viewer_runs { ViewerRunsAreCalls }
+{}
+
+/// States that rounds, over any port, are such calls: on the host and on each viewer.
+pub fn rounds_law<P: Port>()
+    ensures { RoundsAreCalls (ways_of P.told P.failure_count) }
 {}
