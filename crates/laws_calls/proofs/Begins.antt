@@ -1,6 +1,6 @@
 -- New peers, and what follows for real peers from the law of the network.
-use Rattle.std.proofs.Common.{◌≡◌, ℕ, ◌≤◌, List, [], ◌∷◌, ◌++◌, length, refl, ap, sym, ◌∙◌, subst, append-nil}
-use Rattle.std.specs.Prelude.{slice_get, Option, None, Some}
+use Rattle.std.proofs.Common.{◌≡◌, ℕ, List, [], ◌∷◌, refl, ap, sym, ◌∙◌, append-nil}
+use Rattle.std.specs.Prelude.{slice_get, Option, Some}
 use Rattle.std.specs.Option.{option_map}
 use Rattle.std.proofs.lemmas.Option.{none-some, slice_get-map}
 use Rattle.x3d_values.specs.Stamp.{StampedView}
@@ -8,18 +8,16 @@ use Rattle.scene_core.specs.declared.scene.Route.{Route}
 use Rattle.scene_core.specs.Scene.{SceneView}
 use Rattle.cascade_core.specs.Course.{Scripted}
 use Rattle.cascade_core.specs.Held.{StageView}
-use Rattle.share_law.specs.declared.step.Step.{Step}
 use Rattle.share_law.specs.Agreement.{Agreement, TwoViewersAgree}
 use Rattle.share_law.specs.Lists.{IsPrefixOf}
 use Rattle.share_law.specs.Machine.{Machine}
-use Rattle.share_law.specs.Network.{Network, Seat, Answer, IsStep, seated, start}
+use Rattle.share_law.specs.Network.{Network, seated}
 use Rattle.share_law.specs.Reached.{IsRunning}
-use Rattle.share_law.specs.Viewer.{Running, ViewerState}
+use Rattle.share_law.specs.Viewer.{Running}
 use Rattle.share_law.proofs.Effects.{Effect, packet, saves, IsStep-effect}
 use Rattle.share_core.specs.Viewer.{ViewerView}
 use Rattle.laws_calls.specs.Peers.{Peers, AreIn, machine_for, viewer_at}
-use Rattle.laws_calls.specs.Begins.{AreNew, NewPeersBegin, SentStays, ViewersAgree, ViewersHold, viewer_before}
-use Rattle.laws_calls.specs.Moves.{HasViewer}
+use Rattle.laws_calls.specs.Begins.{NewPeersBegin, SentStays, ViewersAgree, ViewersHold, viewer_before}
 use Rattle.laws_calls.proofs.Places.{twice}
 use Rattle.laws_calls.proofs.Viewers.{seat_of}
 

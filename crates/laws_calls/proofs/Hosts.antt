@@ -1,13 +1,12 @@
 -- The host of a network after a call on it, and packets that any peer sends.
-use Rattle.std.proofs.Common.{◌≡◌, ℕ, ℤ, ◌++◌, ◌∷◌, [], List, length, refl, ap, sym, ◌∙◌, subst}
-use Rattle.std.specs.Prelude.{slice_get, Option, None, Some, Result, Ok, Err}
+use Rattle.std.proofs.Common.{◌≡◌, ℕ, ℤ, List, ap, sym, ◌∙◌, subst}
+use Rattle.std.specs.Prelude.{slice_get, Option, None, Some, Result}
 use Rattle.std.specs.Option.{option_map}
 use Rattle.scene_core.specs.declared.scene.Route.{Route}
 use Rattle.scene_core.specs.Scene.{SceneView}
 use Rattle.cascade_core.specs.Course.{Scripted}
 use Rattle.share_wire.specs.Decoding.{decoded}
 use Rattle.share_wire.specs.declared.fault.WireFault.{WireFault}
-use Rattle.share_wire.specs.declared.message.Body.{Body}
 use Rattle.share_wire.specs.declared.message.Message.{Message}
 use Rattle.share_law.specs.declared.fault.FloorFault.{FloorFault}
 use Rattle.share_law.specs.declared.fault.HostFault.{HostFault}
@@ -16,9 +15,9 @@ use Rattle.share_law.specs.declared.reply.HostReply.{HostReply}
 use Rattle.share_law.specs.declared.step.Step.{Step}
 use Rattle.share_law.specs.declared.step.Step.TheVariants.{HostClock, HostPacket, HostAck, HostTake, HostDropBelow, HostFloorPacket}
 use Rattle.share_law.specs.Calls.{IsPartClocked, IsPartTakeOf}
-use Rattle.share_law.specs.CallSteps.{CallsAreSteps, EachCallIsAStep, IsPacket, LeavesPart, Sends, packet_of}
+use Rattle.share_law.specs.CallSteps.{CallsAreSteps, EachCallIsAStep, LeavesPart, Sends, packet_of}
 use Rattle.share_law.specs.Cascade.{cascade}
-use Rattle.share_law.specs.Host.{HostState, ack_of}
+use Rattle.share_law.specs.Host.{ack_of}
 use Rattle.share_law.specs.Machine.{Machine}
 use Rattle.share_law.specs.Network.{Network, Answer, Clocked, HostTook, Dropped, with_host as net_with_host, with_packet}
 use Rattle.share_law.specs.Parts.{HostPart, part_of, part_drop_below, part_floor_packet, part_packet}

@@ -1,6 +1,6 @@
 -- Snapshots that a viewer takes, and the pieces that are sent of them.
-use Rattle.std.proofs.Common.{◌≡◌, ◌⊎◌, ℕ, ◌<◌, ◌^◌, inl, inr, List, [], ◌∷◌, ◌++◌, length, refl, ap, sym, ◌∙◌, subst}
-use Rattle.std.specs.Prelude.{slice_get, Option, None, Some, Result, Ok, Err, OnOk, OnErr}
+use Rattle.std.proofs.Common.{◌≡◌, ℕ, ◌<◌, ◌^◌, inl, inr, List, [], ◌∷◌, ◌++◌, length, refl, ap, sym, ◌∙◌, subst}
+use Rattle.std.specs.Prelude.{slice_get, Option, Some, Result, Ok, Err, OnOk, OnErr}
 use Rattle.std.proofs.lemmas.Option.{none-some, same_Some}
 use Rattle.std.specs.Option.{option_map}
 use Rattle.cascade_core.specs.Course.{Scripted}
@@ -11,20 +11,19 @@ use Rattle.snapshot_core.specs.declared.fault.SaveFault.TheVariants as save_faul
 use Rattle.snapshot_core.specs.declared.head.ShotHead.{ShotHead}
 use Rattle.snapshot_core.specs.Shot.{shot}
 use Rattle.snapshot_core.proofs.ShotHeads.{head_of_shot}
-use Rattle.share_law.specs.declared.step.Step.{Step}
 use Rattle.share_law.specs.declared.step.Step.TheVariants.{PiecePacket, ViewerSave}
-use Rattle.share_law.specs.CallSteps.{IsSave, IsShot, Saves, packet_of}
+use Rattle.share_law.specs.CallSteps.{IsSave, Saves, packet_of}
 use Rattle.share_law.specs.Machine.{Machine}
 use Rattle.share_law.specs.Network.{Network, Seat, Answer, Saved, IsStep, refused_save, step, viewer_saves, viewer_step, with_shot}
-use Rattle.share_law.specs.Pieces.{piece_packet, shot_text}
+use Rattle.share_law.specs.Pieces.{piece_packet}
 use Rattle.share_law.specs.Viewer.{ViewerWorld, Running, Spoiled, Shot}
 use Rattle.share_law.proofs.Elements.{slice_get_push}
 use Rattle.share_core.specs.Pieces.{piece_of, piece_with}
 use Rattle.share_core.specs.Viewer.{IfRunning, IfSpoiled, ViewerView}
 use Rattle.laws_worlds.proofs.NetworksWorlds.{saved_have}
 use Rattle.laws_calls.specs.Peers.{Peers, AreIn, machine_for, viewer_at}
-use Rattle.laws_calls.specs.Leads.{Leads, SavesAny, SendsAny, TakesSnapshot}
-use Rattle.laws_calls.specs.Moves.{HasViewer, PieceSends, ViewerSaves}
+use Rattle.laws_calls.specs.Leads.{SavesAny}
+use Rattle.laws_calls.specs.Moves.{PieceSends, ViewerSaves}
 use Rattle.laws_calls.proofs.Hosts.{Law, calls, sends}
 use Rattle.laws_calls.proofs.Places.{last_there}
 use Rattle.laws_calls.proofs.Viewers.{seat_of}

@@ -1,6 +1,6 @@
 -- The viewer in a seat after a call on it.
 use Rattle.std.proofs.Common.{◌≡◌, ℕ, ◌<◌, ◌^◌, List, refl, ap, sym, ◌∙◌, subst}
-use Rattle.std.specs.Prelude.{slice_get, slice_set, Option, None, Some, Result, Ok, Err}
+use Rattle.std.specs.Prelude.{slice_get, slice_set, Option, None, Some, Result}
 use Rattle.std.specs.Option.{option_map}
 use Rattle.x3d_values.specs.declared.pointing.Point.{Point}
 use Rattle.cascade_core.specs.Course.{Scripted}

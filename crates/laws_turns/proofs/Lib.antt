@@ -6,3 +6,4 @@ pub mod Joining
 pub mod Giving
 pub mod ViewerRuns
 pub mod Rounds
+pub mod Steps

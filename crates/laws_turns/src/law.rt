@@ -2,9 +2,11 @@
 
 ghost use Rattle.laws_turns.specs.Turns.{HostRunsAreCalls, HostTurnsAreCalls};
 ghost use Rattle.laws_turns.specs.Turns.{ViewerRunsAreCalls, ViewerTurnsAreCalls};
+ghost use Rattle.laws_turns.specs.Steps.{HostDoingsAreSteps, ViewerDoingsAreSteps};
 ghost use Rattle.share_turns.specs.Seats.{ways_of};
 ghost use Rattle.laws_turns.specs.Rounds.{RoundsAreCalls};
 
+use share_law::steps_law;
 use share_turns::Port;
 
 /// States that turns, and runs of turns, are calls one after another. The port records exactly the
@@ -24,3 +26,12 @@ pub fn turns_law()
 pub fn rounds_law<P: Port>()
     ensures { RoundsAreCalls (ways_of P.told P.failure_count) }
 {}
+
+/// States that each of these calls is its step of the network of share_law, in every network that
+/// has the peer, if what it takes is a packet of that network.
+pub fn doings_law()
+    ensures host { HostDoingsAreSteps }
+    ensures viewer { ViewerDoingsAreSteps }
+{
+    steps_law();
+}

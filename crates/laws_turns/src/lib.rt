@@ -3,4 +3,4 @@
 
 mod law;
 
-pub use law::{rounds_law, turns_law};
+pub use law::{doings_law, rounds_law, turns_law};
