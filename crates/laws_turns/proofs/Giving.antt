@@ -1,5 +1,5 @@
 -- A viewer that gives: it sends the pieces of its snapshot, and discards what comes.
-use Rattle.std.proofs.Common.{◌≡◌, ◌⊎◌, inl, inr, ℕ, zero, suc, List, [], ◌∷◌, ◌++◌, length, true, false, Bool, refl, ap, sym, ◌∙◌, subst}
+use Rattle.std.proofs.Common.{◌≡◌, inl, inr, ℕ, zero, suc, List, [], ◌∷◌, ◌++◌, length, true, false, Bool, refl, ap, sym, ◌∙◌}
 use Rattle.std.specs.Prelude.{Option, None, Some, Result, Ok, Err, is_ok}
 use Rattle.std.specs.Option.{option_map}
 use Rattle.x3d_values.specs.Stamp.{StampedView}
@@ -12,9 +12,9 @@ use Rattle.share_core.specs.Viewer.{IfRunning, IfSpoiled, ViewerView}
 use Rattle.share_turns.specs.declared.fault.TurnFault.{TurnFault}
 use Rattle.share_turns.specs.declared.fault.TurnFault.TheVariants as turn_fault
 use Rattle.share_turns.specs.declared.traffic.Traffic.{Traffic}
-use Rattle.share_turns.specs.declared.traffic.Traffic.TheVariants.{Received, Sent}
+use Rattle.share_turns.specs.declared.traffic.Traffic.TheVariants.{Received}
 use Rattle.share_turns.specs.Exchanges.{AreSent, sent_to}
-use Rattle.share_turns.specs.Gives.{GiveTurns, GiveTurnsEnd, Gives, IsGiveCut, IsGiveEnd, IsGiveTurn, IsPassedOver, given_in, piece_among, piece_in_turn}
+use Rattle.share_turns.specs.Gives.{GiveTurns, GiveTurnsEnd, Gives, IsGiveCut, IsGiveEnd, IsPassedOver, given_in, piece_among, piece_in_turn}
 use Rattle.share_turns.specs.HostTurn.{listed}
 use Rattle.share_turns.specs.ViewerTurn.{Taking, received}
 use Rattle.laws_turns.specs.HostDoings.{datagram_of}

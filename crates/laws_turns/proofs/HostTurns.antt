@@ -1,5 +1,5 @@
 -- Turns of a host are calls on it, one after another.
-use Rattle.std.proofs.Common.{◌≡◌, ◌⊎◌, inl, inr, ℕ, zero, suc, ℤ, List, [], ◌∷◌, ◌++◌, length, true, false, Bool, refl, ap, sym, ◌∙◌, subst}
+use Rattle.std.proofs.Common.{◌≡◌, inl, inr, ℕ, zero, suc, ℤ, List, [], ◌∷◌, ◌++◌, length, true, false, Bool, refl, ap, sym, subst}
 use Rattle.std.specs.Prelude.{slice_get, Option, None, Some, Result, Ok, Err, is_ok}
 use Rattle.share_law.specs.Parts.{HostPart, part_drop_below}
 use Rattle.share_turns.specs.declared.fault.SeriesFault.{SeriesFault}
@@ -8,10 +8,10 @@ use Rattle.share_turns.specs.declared.fault.TurnFault.{TurnFault}
 use Rattle.share_turns.specs.declared.runs.HostPlan.{HostPlan}
 use Rattle.share_turns.specs.declared.traffic.Traffic.{Traffic}
 use Rattle.share_turns.specs.declared.traffic.Traffic.TheVariants.{Nothing}
-use Rattle.share_turns.specs.Exchanges.{Exchange, IsEnd, all_traffic, most_taken, traffic_of}
+use Rattle.share_turns.specs.Exchanges.{Exchange, IsEnd, all_traffic, traffic_of}
 use Rattle.share_turns.specs.HostTurn.{AreAnswered, IsBegun, IsHeardTurn, is_whole, is_whole_before}
-use Rattle.share_turns.specs.Runs.{AreHosted, HostTurns, Hosting, IsHostEnd, dropped_below, hosting, kept_by, next_floor}
-use Rattle.share_turns.specs.Heard.{lowest, nobody}
+use Rattle.share_turns.specs.Runs.{HostTurns, Hosting, IsHostEnd, dropped_below, hosting, next_floor}
+use Rattle.share_turns.specs.Heard.{lowest}
 use Rattle.share_turns.proofs.Sending.{grows_none}
 use Rattle.laws_turns.specs.HostDoings.{HostDoes}
 use Rattle.laws_turns.specs.HostDoings as doing

@@ -1,10 +1,10 @@
 -- A viewer that joins: it gathers, turn after turn, and starts from what it gathered.
-use Rattle.std.proofs.Common.{◌≡◌, ◌⊎◌, inl, inr, ℕ, zero, suc, List, [], ◌∷◌, ◌++◌, length, true, false, Bool, refl, ap, sym, ◌∙◌, subst}
-use Rattle.std.specs.Prelude.{Option, None, Some, Result, Ok, Err, is_ok}
+use Rattle.std.proofs.Common.{inl, inr, ℕ, zero, suc, List, [], ◌∷◌, ◌++◌, length, true, Bool, refl, ap, sym, subst}
+use Rattle.std.specs.Prelude.{Option, Result, Ok, Err, is_ok}
 use Rattle.cascade_core.specs.Course.{Scripted}
 use Rattle.share_law.specs.Pieces.{Gathering}
 use Rattle.share_law.specs.Viewer.{ViewerState}
-use Rattle.share_core.specs.Viewer.{ViewerView, with_gathering, with_state}
+use Rattle.share_core.specs.Viewer.{ViewerView, with_gathering}
 use Rattle.share_turns.specs.declared.fault.SeriesFault.{SeriesFault}
 use Rattle.share_turns.specs.declared.fault.SeriesFault.TheVariants as series
 use Rattle.share_turns.specs.declared.fault.TurnFault.{TurnFault}

@@ -1,5 +1,5 @@
 -- Each doing is its step, by the laws of calls.
-use Rattle.std.proofs.Common.{◌≡◌, ℕ, List, length, refl, ap, sym, ◌∙◌, subst}
+use Rattle.std.proofs.Common.{◌≡◌, ℕ, List, refl, ap, sym, ◌∙◌, subst}
 use Rattle.std.specs.Prelude.{slice_get, Option, None, Some, Result, Ok, Err}
 use Rattle.std.specs.Option.{option_map}
 use Rattle.std.proofs.lemmas.Option.{none-some, same_Some}
@@ -15,12 +15,11 @@ use Rattle.share_law.specs.Calls.{IsPartTakeOf}
 use Rattle.share_law.specs.CallSteps.{Sends, packet_of}
 use Rattle.share_law.specs.Host.{ack_of}
 use Rattle.share_law.specs.Network.{Network, Seat, with_packet}
-use Rattle.share_law.specs.Parts.{HostPart, part_ack, part_floor_packet, part_of, part_packet}
+use Rattle.share_law.specs.Parts.{HostPart, part_floor_packet, part_of, part_packet}
 use Rattle.share_law.specs.Viewer.{viewer_ask, viewer_resend}
 use Rattle.share_core.specs.Host.{HostView}
 use Rattle.share_core.specs.Viewer.{ViewerView, machine_of}
-use Rattle.laws_calls.specs.Moves.{HasViewer}
-use Rattle.laws_calls.specs.Peers.{AreIn, Peers, machine_for, viewer_at}
+use Rattle.laws_calls.specs.Peers.{AreIn, Peers, machine_for}
 use Rattle.laws_calls.proofs.Hosts as hosts
 use Rattle.laws_calls.proofs.Hosts.{Law, calls, m}
 use Rattle.laws_calls.proofs.Places.{last_there}
@@ -30,7 +29,7 @@ use Rattle.laws_turns.specs.HostDoings as host
 use Rattle.laws_turns.specs.HostDoings.{HostDoing, IsHostDoing, datagram_of, packet_by}
 use Rattle.laws_turns.specs.ViewerDoings as viewer
 use Rattle.laws_turns.specs.ViewerDoings.{IsViewerDoing, ViewerDoing}
-use Rattle.laws_turns.specs.Steps.{HostBrings, HostDoingsAreSteps, SendsBody, ViewerBrings, ViewerDoingsAreSteps}
+use Rattle.laws_turns.specs.Steps.{HostBrings, HostDoingsAreSteps, SendsBody, ViewerDoingsAreSteps}
 
 -- the body of a datagram that was made
 made-from : (mark : List ℕ) (o : Option Body) (bytes : List ℕ) → option_map (datagram_of mark) o ≡ Some bytes → (body : Body) × (o ≡ Some body) × (bytes ≡ datagram_of mark body)

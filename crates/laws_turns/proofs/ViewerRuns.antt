@@ -1,17 +1,15 @@
 -- A whole run of a viewer: it joins, views and gives.
-use Rattle.std.proofs.Common.{◌≡◌, ◌⊎◌, inl, inr, ℕ, ◌-◌, List, refl, ap, sym, ◌∙◌, subst}
+use Rattle.std.proofs.Common.{◌≡◌, inl, inr, ℕ, ◌-◌, List, refl, ap, sym, ◌∙◌, subst}
 use Rattle.std.specs.Prelude.{Option, None, Some}
 use Rattle.x3d_values.specs.declared.pointing.Point.{Point}
-use Rattle.cascade_core.specs.Course.{Scripted}
 use Rattle.share_law.specs.Pieces.{Gathering}
-use Rattle.share_law.specs.Viewer.{ViewerState}
 use Rattle.share_core.specs.Viewer.{ViewerView, with_state}
 use Rattle.share_turns.specs.declared.fault.SeriesFault.{SeriesFault}
 use Rattle.share_turns.specs.declared.fault.TurnFault.{TurnFault}
 use Rattle.share_turns.specs.declared.traffic.Traffic.{Traffic}
 use Rattle.share_turns.specs.declared.view.ViewPlan.{ViewPlan}
 use Rattle.share_turns.specs.Gathers.{with_both}
-use Rattle.share_turns.specs.Views.{HasGiven, HasViewed, IsBeginEnd, IsBegunAs, IsGivenEnd, IsLateCut, IsRun, IsRunEnd, IsViewCut}
+use Rattle.share_turns.specs.Views.{HasGiven, HasViewed, IsBeginEnd, IsBegunAs, IsGivenEnd, IsLateCut, IsRun, IsRunEnd}
 use Rattle.laws_turns.specs.ViewerDoings.{ViewerDoes}
 use Rattle.laws_turns.specs.Turns.{ViewerRunsAreCalls}
 use Rattle.laws_turns.proofs.Viewers.{does_none, does_then}

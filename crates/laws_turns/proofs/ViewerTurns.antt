@@ -1,5 +1,5 @@
 -- Turns of a viewer are calls on it, one after another.
-use Rattle.std.proofs.Common.{◌≡◌, ◌⊎◌, inl, inr, ℕ, zero, suc, List, [], ◌∷◌, ◌++◌, length, true, false, Bool, refl, ap, sym, ◌∙◌, subst}
+use Rattle.std.proofs.Common.{◌≡◌, ◌⊎◌, inl, inr, ℕ, zero, suc, List, [], ◌∷◌, ◌++◌, length, true, Bool, refl, ap, sym, ◌∙◌}
 use Rattle.std.specs.Prelude.{slice_get, Option, None, Some, Result, Ok, Err, is_ok}
 use Rattle.std.specs.Option.{option_map}
 use Rattle.x3d_values.specs.declared.pointing.Point.{Point}
@@ -11,13 +11,12 @@ use Rattle.share_turns.specs.declared.fault.SeriesFault.{SeriesFault}
 use Rattle.share_turns.specs.declared.fault.SeriesFault.TheVariants as series
 use Rattle.share_turns.specs.declared.fault.TurnFault.{TurnFault}
 use Rattle.share_turns.specs.declared.fault.TurnFault.TheVariants as turn_fault
-use Rattle.share_turns.specs.declared.traffic.Datagram.{Datagram}
 use Rattle.share_turns.specs.declared.traffic.Traffic.{Traffic}
 use Rattle.share_turns.specs.declared.traffic.Traffic.TheVariants.{Received, Sent}
 use Rattle.share_turns.specs.Exchanges.{IsEnd, sent_to}
 use Rattle.share_turns.specs.HostTurn.{listed}
 use Rattle.share_turns.specs.ViewerTurn.{AreTaken, IsCut, IsOffered, IsViewerTurn, Taking, received, requests}
-use Rattle.share_turns.specs.Views.{AreViewed, IsTurnOf, IsViewEnd, ViewerTurns}
+use Rattle.share_turns.specs.Views.{IsViewEnd, ViewerTurns}
 use Rattle.laws_turns.specs.HostDoings.{datagram_of}
 use Rattle.laws_turns.specs.ViewerDoings.{ViewerDoes, ViewerDoing, IsViewerDoing, viewer_traffic}
 use Rattle.laws_turns.specs.ViewerDoings as doing
