@@ -1,6 +1,6 @@
 -- The line on one thing that was left out (our choice).
-use Rattle.std.specs.Prelude.{ℕ, List, [], ◌∷◌, ◌++◌, ◌==◌, length, codes, decimal, if◌then◌else◌}
-use Rattle.classic_lenient.specs.Pieces.{bytes_at as bytes_of}
+use Rattle.std.specs.Prelude.{ℕ, List, [], ◌∷◌, ◌++◌, ◌==◌, codes, decimal, if◌then◌else◌}
+use Rattle.classic_lenient.specs.Pieces.{bytes_at}
 use Rattle.classic_lenient.specs.declared.scan.Unread.{Unread}
 use Rattle.classic_part.specs.declared.notes.Note.{Note}
 use Rattle.app_jobs.specs.declared.fault.JobFault.{JobFault}
@@ -38,9 +38,6 @@ ending note faults = reason note faults ++ place note.field ++ line_feed
 -- `line 12: node Teapot left out (field geometry)`, `line 40: ROUTE left out: TypesDiffer`
 unfoldable pub note_line : List JobFault → Note → List ℕ
 note_line faults note = head note.line ++ words note ++ ending note faults
-
-abbrev pub bytes_at : List ℕ → ℕ → ℕ → List ℕ
-bytes_at text start end = bytes_of text start end
 
 abbrev pub unread_words : Unread → List ℕ → List ℕ
 unread_words unread name = before_unread unread.kind ++ name ++ after_unread unread.kind

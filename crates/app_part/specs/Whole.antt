@@ -44,7 +44,8 @@ pub record IsStuck (document : Document) (fault : JobFault) : Type 0 where
 
 -- memory ran out, or the tries have no end, or nothing is left to refuse
 abbrev pub IsUnmended : Document → JobFault → Type 0
-IsUnmended document fault = (fault ≡ Memory) ⊎ (fault ≡ endless) ⊎ IsStuck document fault
+IsUnmended document fault =
+    (fault ≡ Memory) ⊎ ((fault ≡ endless) ⊎ IsStuck document fault)
 
 -- the part of a text's document, and what was left out
 pub record IsPartOf (lenient : Lenient) (part : ScenePart) : Type 0 where

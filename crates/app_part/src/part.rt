@@ -1,6 +1,6 @@
 //! The part of a text that is a scene.
 
-ghost use Rattle.std.specs.Prelude.{◌≡◌, ◌⊎◌, [], IfOk, IfErr, Some, None};
+ghost use Rattle.std.specs.Prelude.{◌≡◌, ◌⊎◌, IfOk, IfErr};
 ghost use Rattle.app_jobs.specs.declared.fault.JobFault.TheVariants.{Memory};
 ghost use Rattle.app_part.specs.Parts as spec;
 ghost use Rattle.app_part.specs.Whole as whole;
@@ -30,9 +30,9 @@ pub struct ScenePart {
 
 /// What is refused of a document, and the faults for which.
 #[derive(Drop)]
-struct Mends {
-    refused: Items<Refusal>,
-    faults: Items<JobFault>,
+pub(crate) struct Mends {
+    pub refused: Items<Refusal>,
+    pub faults: Items<JobFault>,
 }
 
 /// Refuses one thing more for a fault. Fails with that fault if nothing is left to refuse.
@@ -56,7 +56,7 @@ fn mended(alloc: Global, document: &Document, mends: &mut Mends) -> Result<Made,
     ensures made { IfOk result (λ m. whole.IsMended document.now mends.new m) }
     ensures refused { IfErr result (whole.IsUnmended document.now) }
 {
-    for _try in 0..MAX_TRIES {
+    for _turn in 0..MAX_TRIES {
         match tried(alloc, document, mends.refused.as_slice()) {
             Ok(made) => return Ok(made),
             Err(fault) => refuse_more(mends, fault)?,

@@ -7,7 +7,7 @@ use crate::mends::line_of;
 use crate::words::{after_name, after_unread, before_name, before_unread, is_refused};
 use app_jobs::JobFault;
 use app_program::job_fault_name;
-use classic_lenient::Unread;
+use classic_lenient::{Unread, bytes_at};
 use classic_part::Note;
 use itoa::Buffer;
 use std::alloc::AllocError;
@@ -106,17 +106,6 @@ pub(crate) fn push_note(
     push_end(note, faults, out)
 }
 
-/// Returns the bytes of a text from `start` up to `end`; no bytes if that place isn't in the text.
-fn bytes_at(text: &[u8], start: u32, end: u32) -> &[u8]
-    ensures { result.now ≡ spec.bytes_at text.now start end }
-{
-    let (start, end) = (start as usize, end as usize);
-    if start <= end && end <= text.len() {
-        return &text[start..end];
-    }
-    &[]
-}
-
 /// Appends what is said of a statement that isn't read.
 fn push_unread_words(unread: &Unread, name: &[u8], out: &mut Vec<u8>) -> Result<(), AllocError>
     ensures { OnOk result
@@ -132,11 +121,7 @@ fn push_unread_words(unread: &Unread, name: &[u8], out: &mut Vec<u8>) -> Result<
 
 /// Appends the line of a statement of a text that isn't read.
 #[tactic(auto, unfolding(crate::specs::Told::unread_line))]
-pub(crate) fn push_unread(
-    text: &[u8],
-    unread: &Unread,
-    out: &mut Vec<u8>,
-) -> Result<(), AllocError>
+pub(crate) fn push_unread(text: &[u8], unread: &Unread, out: &mut Vec<u8>) -> Result<(), AllocError>
     ensures { OnOk result
         (out.new.items ≡ out.old.items ++ spec.unread_line text.now unread.now) }
 {

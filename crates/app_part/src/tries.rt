@@ -1,6 +1,6 @@
 //! One try: the part of a document without what is refused, and whether it is a scene.
 
-ghost use Rattle.std.specs.Prelude.{◌≡◌, ◌⊎◌, [], ◌×◌, IfOk, IfErr, OnOk};
+ghost use Rattle.std.specs.Prelude.{◌≡◌, ◌⊎◌, [], IfOk, IfErr, OnOk};
 ghost use Rattle.app_jobs.specs.declared.fault.JobFault.TheVariants.{Memory};
 ghost use Rattle.app_part.specs.Parts as spec;
 ghost use Rattle.classic_tree.specs.Writing.{document_text};

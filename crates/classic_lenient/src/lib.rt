@@ -19,5 +19,6 @@ mod reading;
 mod scan;
 
 pub use laws::texts_that_are_read_stay;
+pub use pieces::bytes_at;
 pub use reading::{Lenient, read_lenient};
 pub use scan::{Unread, UnreadKind};

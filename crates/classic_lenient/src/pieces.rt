@@ -18,7 +18,7 @@ pub(crate) struct Piece {
 }
 
 /// Returns the bytes of a text from `start` up to `end`; no bytes if that place isn't in the text.
-fn bytes_at(text: &[u8], start: u32, end: u32) -> &[u8]
+pub fn bytes_at(text: &[u8], start: u32, end: u32) -> &[u8]
     ensures { result.now ≡ spec.bytes_at text.now start end }
 {
     let (start, end) = (start as usize, end as usize);
