@@ -1,5 +1,6 @@
 pub mod Listing
 pub mod Mends
+pub mod Order
 pub mod Parts
 pub mod Streams
 pub mod Told

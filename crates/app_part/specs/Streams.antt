@@ -3,14 +3,17 @@ use Rattle.std.specs.Prelude.{◌≡◌, ℕ, List, Option}
 use Rattle.std.specs.Io.KnownBytes.{Consumes, IsAtEnd}
 use Rattle.app_jobs.specs.declared.fault.JobFault.{JobFault}
 use Rattle.app_part.specs.Listing.{told_text}
+use Rattle.app_part.specs.Order.{IsOrdered}
 use Rattle.app_part.specs.Whole.{IsPartOfText, IsRefused, IsScene}
 use Rattle.app_part.specs.declared.part.ScenePart.{ScenePart}
 use Rattle.app_part.specs.declared.streams.PartTexts.{PartTexts}
 
--- the text of a part, and the lines on what was left out of these bytes
-abbrev pub AreTexts : List ℕ → ScenePart → PartTexts → Type 0
-AreTexts bytes part made =
-    (made.text.items ≡ part.text.items) × (made.told.items ≡ told_text bytes part)
+-- the text of a part, and the lines on what was left out of these bytes, in their order
+pub record AreTexts (bytes : List ℕ) (part : ScenePart) (made : PartTexts) : Type 0 where
+  pub shown : ScenePart
+  pub ordered : IsOrdered part shown
+  pub text : made.text.items ≡ part.text.items
+  pub told : made.told.items ≡ told_text bytes shown
 
 -- the text of the part of these bytes, which is a scene, and the lines on what was left out
 pub record ArePartTexts (bytes : List ℕ) (made : PartTexts) : Type 0 where

@@ -4,12 +4,13 @@
 //! |---|---|
 //! | `mends` | which parts of a line are left out for a fault |
 //! | `tries`, `part` | parts without those, again and again until one is a scene |
-//! | `words`, `told`, `list` | the lines on what was left out |
+//! | `order`, `words`, `told`, `list` | the lines on what was left out |
 //! | `streams` | from a reader to both texts |
 #![tactic(auto)]
 
 mod list;
 mod mends;
+mod order;
 mod part;
 mod streams;
 mod told;

@@ -7,6 +7,7 @@ ghost use Rattle.app_part.specs.Streams as spec;
 ghost use Rattle.app_part.specs.Whole.{IsRefused};
 
 use crate::list::told_text;
+use crate::order::ordered;
 use crate::part::{ScenePart, part_of_text};
 use app_jobs::JobFault;
 use app_program::read_whole;
@@ -25,6 +26,7 @@ fn with_told(alloc: Global, bytes: &[u8], part: ScenePart) -> Result<PartTexts, 
     ensures texts { IfOk result (spec.AreTexts bytes.now part) }
     ensures refused { IfErr result (λ f. f ≡ Memory) }
 {
+    let part = ordered(part)?;
     let Ok(told) = told_text(alloc, bytes, &part) else {
         drop(part);
         return Err(JobFault::Memory);

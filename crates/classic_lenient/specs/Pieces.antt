@@ -4,7 +4,7 @@ use Rattle.classic_lex.specs.declared.token.Token.{Token}
 use Rattle.classic_lenient.specs.declared.pieces.Piece.{Piece}
 use Rattle.classic_lenient.specs.Marks.{mark_of}
 
--- a place from a byte up to another, within so many bytes
+-- a place from a byte up to another, within a number of bytes
 abbrev pub is_place : ℕ → ℕ → ℕ → Bool
 is_place len start end = nat_le start end && nat_le end len
 

@@ -5,7 +5,7 @@
 //! |---|---|
 //! | `mark`, `pieces` | what each token is to such statements |
 //! | `lengths`, `scan` | how long a statement is, and where one begins |
-//! | `blanks`, `header` | the text with spaces for what is left out, and under a header of X3D |
+//! | `blanks`, `header` | the text with spaces for such statements, and under a header of X3D |
 //! | `reading`, `laws` | from a text to its document |
 #![tactic(auto)]
 

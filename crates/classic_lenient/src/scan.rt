@@ -9,7 +9,7 @@ use crate::pieces::Piece;
 use std::alloc::{AllocError, Global};
 use x3d_values::Items;
 
-/// What is left out of a text.
+/// A statement that goes out of a text.
 #[derive(Clone, Copy)]
 pub enum UnreadKind {
     ExternProto,
