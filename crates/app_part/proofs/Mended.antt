@@ -1,11 +1,11 @@
 -- One fault after another, for each of which one thing more is refused.
-use Rattle.std.proofs.Common.{◌≡◌, ◌⊎◌, ◌++◌, ◌∷◌, [], ◌∙◌, Some, None, inl, inr, ap, sym, subst}
+use Rattle.std.proofs.Common.{List, ◌≡◌, ◌⊎◌, ◌++◌, ◌∷◌, [], ◌∙◌, Some, None, inl, inr, ap, sym, subst}
 use Rattle.classic_tree.specs.declared.tree.Document.{Document}
 use Rattle.classic_part.specs.declared.knowing.Refusal.{Refusal}
 use Rattle.app_jobs.specs.declared.fault.JobFault.{JobFault}
 use Rattle.app_jobs.specs.declared.fault.JobFault.TheVariants.{Memory}
 use Rattle.app_part.specs.Mends.{mend}
-use Rattle.app_part.specs.Parts.{Mending, more, IsNoTry, IsTurnedDown, endless}
+use Rattle.app_part.specs.Parts.{Mending, begun, more, IsNoTry, IsTurnedDown, endless}
 use Rattle.app_part.specs.Whole.{IsOneMore, IsLast, IsStuck, IsUnmended}
 use Rattle.app_part.specs.declared.part.Mends.{Mends}
 
@@ -40,3 +40,10 @@ stuck d old new fault answer before (inr down) (inr last) =
       turned_down = down;
       none = last.none;
     })))
+
+-- at first nothing is refused
+pub begun_at : (d : Document) (refused : List Refusal) (faults : List JobFault)
+    → refused ≡ [] → faults ≡ [] → Mending d refused faults
+begun_at d refused faults none no_fault =
+    subst (λ r. Mending d r faults) (sym none)
+      (subst (λ f. Mending d [] f) (sym no_fault) begun)
