@@ -17,22 +17,26 @@ no_mend : (old new : Mends) (fault : JobFault) → IsNoTry fault → IsOneMore o
 no_mend old new fault (inl is) one = none_some (ap (λ f. mend old.refused f) (sym is) ∙ one.found)
 no_mend old new fault (inr is) one = none_some (ap (λ f. mend old.refused f) (sym is) ∙ one.found)
 
-pub mended_more : (d : Document) (old new : Mends) (fault : JobFault)
-    → Mending d old.refused old.faults → IsNoTry fault ⊎ IsTurnedDown d old.refused fault
-    → IsOneMore old new fault → Mending d new.refused new.faults
-mended_more d old new fault before (inl none) one = absurd (no_mend old new fault none one)
-mended_more d old new fault before (inr down) one =
+pub mended_more : (d : Document) (old new : Mends) (seen : List Refusal) (fault : JobFault)
+    → seen ≡ old.refused → Mending d old.refused old.faults
+    → IsNoTry fault ⊎ IsTurnedDown d seen fault → IsOneMore old new fault
+    → Mending d new.refused new.faults
+mended_more d old new seen fault same before (inl none) one = absurd (no_mend old new fault none one)
+mended_more d old new seen fault same before (inr turned) one =
+    let down : IsTurnedDown d old.refused fault = subst (λ r. IsTurnedDown d r fault) same turned in
     subst (λ r. Mending d r new.faults) (sym one.refused)
     (subst (λ f. Mending d (old.refused ++ one.refusal ∷ []) f) (sym one.faults)
     (more before down one.found))
 
-pub stuck : (d : Document) (old new : Mends) (fault answer : JobFault)
-    → Mending d old.refused old.faults → IsNoTry fault ⊎ IsTurnedDown d old.refused fault
+pub stuck : (d : Document) (old new : Mends) (seen : List Refusal) (fault answer : JobFault)
+    → seen ≡ old.refused → Mending d old.refused old.faults
+    → IsNoTry fault ⊎ IsTurnedDown d seen fault
     → (answer ≡ Memory) ⊎ IsLast old new fault answer → IsUnmended d answer
-stuck d old new fault answer before why (inl is) = inl is
-stuck d old new fault answer before (inl (inl is)) (inr last) = inl (last.is ∙ is)
-stuck d old new fault answer before (inl (inr is)) (inr last) = inr (inl (last.is ∙ is))
-stuck d old new fault answer before (inr down) (inr last) =
+stuck d old new seen fault answer same before why (inl is) = inl is
+stuck d old new seen fault answer same before (inl (inl is)) (inr last) = inl (last.is ∙ is)
+stuck d old new seen fault answer same before (inl (inr is)) (inr last) = inr (inl (last.is ∙ is))
+stuck d old new seen fault answer same before (inr turned) (inr last) =
+    let down : IsTurnedDown d old.refused fault = subst (λ r. IsTurnedDown d r fault) same turned in
     inr (inr (subst (λ f. IsStuck d f) (sym last.is) (record {
       refused = old.refused;
       faults = old.faults;

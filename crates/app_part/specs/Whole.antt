@@ -62,10 +62,10 @@ pub record IsScene (text : List ℕ) : Type 0 where
 abbrev pub IsNoScene : ScenePart → JobFault → Type 0
 IsNoScene part fault = opened part.text.items ≡ Err fault
 
-pub record IsPartOfText (text : List ℕ) (part : ScenePart) : Type 0 where
+pub record IsPartOfText (text : List ℕ) (made : ScenePart) : Type 0 where
   pub lenient : Lenient
   pub read : IsLenient text lenient
-  pub part : IsPartOf lenient part
+  pub part : IsPartOf lenient made
 
 -- the text is no document
 pub record IsNoDocument (text : List ℕ) (fault : JobFault) : Type 0 where
