@@ -5,7 +5,7 @@ use Rattle.classic_part.specs.declared.knowing.Refusal.{Refusal}
 use Rattle.app_jobs.specs.declared.fault.JobFault.{JobFault}
 use Rattle.app_jobs.specs.declared.fault.JobFault.TheVariants.{Memory}
 use Rattle.app_part.specs.Mends.{mend}
-use Rattle.app_part.specs.Parts.{Mending, begun, more, IsNoTry, IsTurnedDown, endless}
+use Rattle.app_part.specs.Parts.{Mending, begun, more, IsNoTry, IsTurnedDown}
 use Rattle.app_part.specs.Whole.{IsOneMore, IsLast, IsStuck, IsUnmended}
 use Rattle.app_part.specs.declared.part.Mends.{Mends}
 
@@ -50,4 +50,4 @@ pub begun_at : (d : Document) (refused : List Refusal) (faults : List JobFault)
     → refused ≡ [] → faults ≡ [] → Mending d refused faults
 begun_at d refused faults none no_fault =
     subst (λ r. Mending d r faults) (sym none)
-      (subst (λ f. Mending d [] f) (sym no_fault) begun)
+    (subst (λ f. Mending d [] f) (sym no_fault) begun)

@@ -17,7 +17,7 @@ pub by_line_of : (notes old new made : List Note) → old ≡ notes → made ≡
     → IsPermutation old new → IsNonDecreasingBy note_line new → AreByLine notes made
 by_line_of notes old new made from is same order =
     subst (λ r. AreByLine notes r) (sym is)
-      (subst (λ o. AreByLine o new) from (record { same = same; order = order }))
+    (subst (λ o. AreByLine o new) from (record { same = same; order = order }))
 
 -- a part whose text is refused
 pub refused_check : (text : List ℕ) (lenient : Lenient) (part : ScenePart)
