@@ -2,7 +2,7 @@
 import re
 
 from library import x3d
-from people import clean
+from people import COLORS
 from player import SPEEDS
 from service import Wrong
 
@@ -68,8 +68,9 @@ def channel(service, window, body):
 
 def name(service, window, body):
     """Sets the name and the color of the window's person."""
-    window.name = clean(body.get("name")) or window.name
-    window.color = service.color(body.get("color", window.color))
+    window.name = service.name_for(window, body.get("name"))
+    if body.get("color") in COLORS:
+        window.color = body["color"]
     service.tell_people()
     return {"name": window.name, "color": window.color}
 

@@ -1,15 +1,14 @@
 """Everything that happened in a run of a room: its inputs, its world as they make it, and who pressed what."""
 import re
 import time
-from array import array
 from typing import NamedTuple
 
+from inputs import Inputs
 from library import wire, x3d
+from log_file import Writer
 from scene import LINE, Names
 from seat import latest
 
-# What an array holds of an input: its time, 2 * viewer + button or -1 for a clock, and its ray.
-WIDTH = 8
 # A snapshot is kept every 600 inputs; of too many every second goes.
 EVERY, SNAPSHOTS = 600, 32
 # A record's own snapshots are of this boot: whoever begins in one has a later boot.
@@ -17,33 +16,6 @@ BOOT = 1
 LOGGED = 2000
 UNNAMED = re.compile(r"N\d+")
 SENSORS = {"TouchSensor": {"TRUE": "pressed"}, "PlaneSensor": {"TRUE": "took", "FALSE": "put down"}}
-
-
-class Inputs:
-    """The inputs of a run, which are numbered from 1 on."""
-
-    def __init__(self):
-        self.numbers = array("q")
-
-    def __len__(self):
-        return len(self.numbers) // WIDTH
-
-    def add(self, time, point=None):
-        aim = (2 * point.who + point.down, *point.ray) if point else (-1, *[0] * 6)
-        self.numbers.extend((time, *aim))
-
-    def time(self, number):
-        return self.numbers[WIDTH * (number - 1)]
-
-    def at(self, number):
-        start = WIDTH * (number - 1)
-        when, about, *ray = self.numbers[start : start + WIDTH]
-        point = wire.Point(about >> 1, about & 1, tuple(ray)) if about >= 0 else None
-        return wire.Input(number, when, point)
-
-    def lines(self, first):
-        """Inputs from a number on as lines of a job."""
-        return "".join(f"{self.at(number).line()}\n" for number in range(first, len(self) + 1))
 
 
 def apply(world, each):
@@ -84,12 +56,12 @@ class Record:
             if number >= max(self.snapshots) + self.every:
                 self.save()
 
-    def follow(self, host, read, people):
-        """Takes what the host has numbered since. `people` has the name and the color of a viewer."""
+    def follow(self, room, people):
+        """Takes what the room's host has numbered since. `people` has the name and the color of a viewer."""
         first = len(self.inputs) + 1
-        for number in range(first, len(host) + 1):
-            each = read(host.packet(number))
-            self.inputs.add(each.time, each.point)
+        for number in range(first, len(room.host) + 1):
+            each = room.read(room.host.packet(number))
+            self.inputs.add(each.time, each.point, room.offers.pop(number, None))
             apply(self.world, each)
             if each.point:
                 self.points.append(each)
@@ -150,3 +122,7 @@ class Record:
     def job(self):
         """The run as a job."""
         return self.inputs.lines(1).encode() + b"scene\n" + self.text
+
+    def x3dlog(self):
+        """The run as a world's log, which names its scene by its mark alone."""
+        return Writer(self.inputs).whole(wire.mark_of(self.text))

@@ -2,7 +2,9 @@
 import time
 from pathlib import Path
 
-from explain import Unshown, read_scene_file
+from explain import Unshown, read_scene_file, scene_in
+from library import TOP, wire, x3d
+from log_file import Damaged, is_log, read_log
 from record import Record
 from room import VIEWERS
 from service import AWAY, SPECTATORS, Service, Wrong
@@ -12,21 +14,47 @@ from viewpoints import orientations_of
 STATUS = 15
 
 
-def read_run(path):
-    """The record of a job with inputs, or of a folder that a room was kept in. Raises Unshown."""
+def read_run(path, scenes=()):
+    """The record of a job with inputs, of a world's log, or of a folder that a room was kept in. A log's scene is in one
+    of these files, or beside it. Raises Unshown."""
     path = Path(path)
     try:
-        if path.is_dir():
-            text = read_scene_file(path / SCENE)
-            inputs, log, _ = Store(path).load(text)
-            return Record(text, inputs, log)
-        text = read_scene_file(path)
-        steps = path.read_bytes()[: -len(text)].decode().removesuffix("scene\n")
-        record = Record(text, read_inputs(steps))
-    except BadLine as bad:
+        whole = b"" if path.is_dir() else path.read_bytes()
+        text, inputs, log = run_in(path) if path.is_dir() else logged(path, whole, scenes) if is_log(whole) else job(path, whole)
+        record = Record(text, inputs, log)
+    except OSError as fault:
+        raise Unshown(path.name, 0, "", fault.strerror) from None
+    except (BadLine, Damaged) as bad:
         raise Unshown(path.name, 0, "", str(bad)) from None
-    record.note(1, lambda who: (f"Viewer {who}", "#555555"))
+    except x3d.Fault as fault:
+        raise Unshown(path.name, 0, "", f"an input is refused: {fault}") from None
+    if not log:
+        record.note(1, lambda who: (f"Viewer {who}", "#555555"))
     return record
+
+
+def run_in(folder):
+    """The scene, the inputs and the log of what was done of a folder."""
+    text = read_scene_file(folder / SCENE)
+    kept = Store(folder).load(text)
+    if not kept:
+        raise Unshown(folder.name, 0, "", "no run is kept here")
+    return text, *kept[:2]
+
+
+def job(path, whole):
+    text = read_scene_file(path)
+    return text, read_inputs(whole[: -len(text)].decode().removesuffix("scene\n")), ()
+
+
+def logged(path, whole, scenes):
+    """A log names its scene by its mark alone."""
+    mark, inputs = read_log(whole)
+    files = [*map(Path, scenes), *path.parent.glob("*.job"), *path.parent.glob("*.x3dv"), *TOP.glob("examples/rooms/*.job")]
+    for file in files:
+        if file.is_file() and wire.mark_of(scene_in(file.read_bytes())[0]) == mark:
+            return read_scene_file(file), inputs, ()
+    raise Unshown(path.name, 0, "", "its scene isn't here: put the scene's file beside it")
 
 
 class Replayed(Service):
@@ -34,7 +62,7 @@ class Replayed(Service):
 
     def __init__(self, name, file, limits):
         self.open_windows(name, file, limits)
-        self.record, self.room, self.store = read_run(file), None, None
+        self.record, self.room, self.store = read_run(file, limits.files), None, None
         self.orientations = orientations_of(self.record.text.decode())
 
     def turn(self, now, turn):

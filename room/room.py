@@ -8,7 +8,7 @@ import time
 from channel import Channel
 from library import wire, x3d
 from scene import Names
-from seat import Far, Joining, Seat
+from seat import OFFER, Far, Joining, Seat
 
 VIEWERS = 64
 # Viewers are saved, and their worlds compared, every CHECK turns: as many more for each GROWTH bytes.
@@ -35,6 +35,8 @@ class Room:
         self.marks, self.rest = [], CHECK
         # How many inputs there were when asks that wait were answered.
         self.answered = 0
+        # Of each pointer that was numbered the boot and the number of its offer, until the record has it.
+        self.offers = {}
         # It applies nothing: it knows the scene's names, and cuts snapshots into pieces.
         self.first = x3d.Viewer(text, 0, next(self.boots))
         self.newest, self.names = (0, self.first.snapshot()), Names(self.first)
@@ -43,15 +45,17 @@ class Room:
         self.read = functools.lru_cache(RECENT)(wire.read_input)
 
     def resume(self, inputs, newest):
-        """Has the host number inputs of an earlier run again. `newest` is a number, and the snapshot there."""
-        mark, offered = wire.mark_of(self.text), [0] * VIEWERS
-        for each in inputs:
+        """Has the host number the inputs of an earlier run again. `newest` is a number, and the snapshot there."""
+        mark = wire.mark_of(self.text)
+        for number in range(1, len(inputs) + 1):
+            each, offer = inputs.offered_at(number)
             if each.point:
-                offered[each.point.who] += 1
-                self.host.take(wire.offer(mark, 1, offered[each.point.who], each.point))
+                self.host.take(wire.offer(mark, *offer, each.point))
             else:
                 self.host.clock(each.time)
-        self.newest = newest
+        # What viewers offer from now on is of later boots.
+        last = max((boot for boot, _ in inputs.offered.values()), default=0)
+        self.newest, self.boots = newest, itertools.count(max(int(time.time()), last + 1))
         self.host.drop_below(max(1, newest[0] + 1 - KEPT))
 
     def join(self, *window):
@@ -189,6 +193,8 @@ class Room:
         if seat.far and not seat.admits(datagram):
             return
         kind, first, count = self.host.take(datagram)
+        if kind == "Numbered":
+            self.offers[first] = OFFER.unpack_from(datagram, wire.HEAD.size)[1:]
         if seat.far:
             self.note_ask(seat, kind, first)
             seat.waits = datagram if kind == "Asked" and not count else None

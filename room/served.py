@@ -7,6 +7,7 @@ import re
 import subprocess
 import sys
 import tempfile
+import time
 from pathlib import Path
 
 import browser
@@ -104,7 +105,9 @@ class Client:
 
     def until(self, *kinds):
         """The next event of one of these kinds; those before it are kept in `events`."""
+        begun = time.monotonic()
         while True:
+            assert time.monotonic() - begun < 3 * LATER, f"not told within {3 * LATER:.0f} s: {' or '.join(kinds)}"
             told = json.loads(self.socket.receive())
             self.note(told)
             if told["kind"] in kinds:
@@ -134,17 +137,19 @@ class Client:
 class Windows:
     """Windows of one room, in one browser; the first is the trainer's."""
 
-    def __init__(self, count=2, job=DOOR, size=(900, 1000), more=("--each", "64")):
-        self.count, self.job, self.size, self.more = count, job, size, more
+    def __init__(self, count=2, job=DOOR, size=(900, 1000), more=("--each", "64"), flags=()):
+        self.count, self.job, self.size, self.more, self.flags = count, job, size, more, flags
 
     def __enter__(self):
         if not browser.installed():
             raise Skipped("no chromium is installed")
         with contextlib.ExitStack() as stack:
             self.served = stack.enter_context(Served(self.job, more=self.more))
-            self.browser = stack.enter_context(contextlib.closing(browser.Browser(self.size)))
+            self.browser = stack.enter_context(contextlib.closing(browser.Browser(self.size, self.flags)))
             self.pages = []
             for number in range(self.count):
+                if not self.fits(number):
+                    break
                 self.pages.append(self.open(number))
                 # People are listed, and have seats, in the order in which they come in.
                 self.pages[-1].wait("window.room && room.state.id")
@@ -156,6 +161,10 @@ class Windows:
                 page.wait("room.state.replay || room.state.status.equal_at > 5")
             self.ends = stack.pop_all()
         return self
+
+    def fits(self, number):
+        """Whether there is place for a window of that number."""
+        return True
 
     def open(self, number):
         """One more window, of a person of that number."""

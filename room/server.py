@@ -40,7 +40,8 @@ def arguments():
     add = words.add_argument
     add("files", nargs="*", metavar="FILE", help="the rooms")
     add("--replay", action="append", default=[], metavar="FILE",
-        help="show what happened: a job that a room was downloaded as, or a folder of --keep")
+        help="show what happened: a room's download, a .job or an .x3dlog, or a folder of --keep; of an .x3dlog "
+        "the scene is one of the FILEs, or lies beside it")
     add("--address", action="append", metavar="ADDRESS",
         help="listen here, IPv4 or IPv6 (127.0.0.1); 0.0.0.0 is each address of this machine; may be given twice")
     add("--port", type=int, default=8040, help="the port (8040); 0 takes a free one")

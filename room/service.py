@@ -9,7 +9,7 @@ from pathlib import Path
 
 from channel import Channel
 from explain import Unshown, read_scene_file
-from people import COLORS, Window, clean, same
+from people import COLORS, NAME, Window, clean, same
 from player import Player
 from record import BOOT, Record
 from room import VIEWERS, Room
@@ -55,22 +55,24 @@ class Service:
     def __init__(self, name, file, limits, folder=None):
         self.open_windows(name, file, limits)
         self.store = Store(Path(folder, name)) if folder else None
-        text, self.seen = read_scene_file(self.file), self.stamp()
+        # How the file was when it was read, and at the last look.
+        self.seen = self.looked = self.stamp()
+        text = read_scene_file(self.file)
         self.open(text, self.store and self.store.load(text))
 
     def open_windows(self, name, file, limits):
         """A room without windows, and without a world so far."""
         self.name, self.file, self.limits = name, Path(file), limits
         self.windows, self.ids, self.fault, self.runs = {}, itertools.count(1), None, 1
-        # Whether datagrams of windows wait to be carried.
-        self.carries = False
+        # Whether datagrams of windows wait to be carried; one download is written at a time.
+        self.carries, self.writing = False, asyncio.Lock()
 
     def open(self, text, kept=None):
         """Opens the world of a scene, as it was kept or before any input."""
         record = Record(text, *(kept or ()))
         room = Room(text)
         if len(record.inputs):
-            room.resume((record.inputs.at(n) for n in range(1, len(record.inputs) + 1)), record.save())
+            room.resume(record.inputs, record.save())
         self.room, self.record, self.orientations = room, record, orientations_of(text.decode())
         self.log_told = record.said
         if self.store:
@@ -94,7 +96,7 @@ class Service:
     def turn(self, now, turn):
         """One turn of the room, and what windows are to be told."""
         self.room.turn(now)
-        self.record.follow(self.room.host, self.room.read, self.person)
+        self.record.follow(self.room, self.person)
         self.renew()
         told = self.tell_log()
         for window in [*self.windows.values()]:
@@ -134,11 +136,11 @@ class Service:
         return news
 
     def look(self):
-        """Looks whether the scene's file is another one."""
-        stamp = self.stamp()
-        if stamp == self.seen:
+        """Looks whether the scene's file is another one, which no one is just writing: it was the same at the last look."""
+        before, self.looked = self.looked, self.stamp()
+        if self.looked == self.seen or self.looked != before:
             return
-        self.seen = stamp
+        self.seen = self.looked
         try:
             text = read_scene_file(self.file)
         except Unshown as unshown:
@@ -272,16 +274,21 @@ class Service:
         """A window with its person."""
         window = Window(address, outbox)
         window.id = next(self.ids)
-        window.name, window.color = clean(body.get("name")) or f"Guest {window.id}", self.color(body.get("color"))
+        window.name, window.color = self.name_for(window, body.get("name")), self.color(body.get("color"))
         window.trainer = same(body.get("trainer"), self.limits.trainer)
         return window
 
+    def name_for(self, window, wished):
+        """The name that is wished for, with a number where someone else here has it."""
+        taken = {each.name for each in self.windows.values() if each is not window and each.gone is None}
+        name = clean(wished) or window.name or f"Guest {window.id}"
+        numbered = (f"{name[: NAME - 3]} {number}" for number in itertools.count(2))
+        return next(each for each in itertools.chain([name], numbered) if each not in taken)
+
     def color(self, wished):
-        """The color that is wished for, or one that is rare here."""
-        if wished in COLORS:
-            return wished
+        """The color that is wished for, if no one here has it, or else one that is rare."""
         taken = [each.color for each in self.windows.values()]
-        return min(COLORS, key=taken.count)
+        return wished if wished in COLORS and wished not in taken else min(COLORS, key=taken.count)
 
     def welcome(self, window):
         """What a window is sent first."""

@@ -1,13 +1,17 @@
-"""A run on disk: the scene, its inputs as lines of a job, the newest snapshot, and what was done. A file is written
-whole beside its name and then renamed, but for the two lists, which grow: an unfinished last line is left out."""
+"""A run on disk: the scene, its inputs as a world's log, the newest snapshot, and what was done. A file is written whole
+beside its name and then renamed, but for the two lists, which grow: what wasn't finished at their end is left out."""
 import json
+import os
 import time
 from pathlib import Path
 
+from explain import Unshown
+from inputs import Inputs
 from library import wire
-from record import Entry, Inputs
+from log_file import EMPTY, OPEN, SHUT, Damaged, Writer, read_log
+from record import Entry
 
-SCENE, INPUTS, SNAPSHOT, DONE = "scene.x3dv", "inputs.job", "snapshot", "log.jsonl"
+SCENE, INPUTS, SNAPSHOT, DONE = "scene.x3dv", "inputs.x3dlog", "snapshot", "log.jsonl"
 FILES = SCENE, INPUTS, SNAPSHOT, DONE
 
 
@@ -51,13 +55,19 @@ class Store:
     def __init__(self, folder):
         self.folder = Path(folder)
         self.folder.mkdir(parents=True, exist_ok=True)
-        self.written, self.logged, self.lists = 0, 0, []
+        self.writer, self.logged, self.lists = None, 0, []
 
     def load(self, text):
-        """What was kept of a run of this scene: its inputs, its log, and a number with a snapshot."""
-        if not self.path(SCENE).exists() or self.path(SCENE).read_bytes() != text:
+        """What was kept of a run of this scene: its inputs, its log, and a number with a snapshot. Raises Unshown."""
+        scene, path = self.path(SCENE), self.path(INPUTS)
+        if not scene.exists() or scene.read_bytes() != text or not path.exists():
             return None
-        inputs = read_inputs(self.read(INPUTS))
+        try:
+            mark, inputs = read_log(path.read_bytes())
+        except Damaged as damaged:
+            raise Unshown(str(path), 0, "", str(damaged)) from None
+        if mark != wire.mark_of(text):
+            return None
         log = [Entry(*json.loads(line)) for line in self.read(DONE).split("\n")[:-1]]
         saved = self.snapshot(len(inputs))
         return inputs, log, saved
@@ -77,15 +87,15 @@ class Store:
         if kept.exists() and (kept.read_bytes() != record.text or not len(record.inputs)):
             self.put_aside()
         self.replace(SCENE, record.text)
-        # Whole lines alone: what a crash left unfinished is written again.
-        self.replace(INPUTS, record.inputs.lines(1).encode())
+        # What a crash left unfinished isn't written again.
+        self.writer, self.logged = Writer(record.inputs), record.said
+        self.replace(INPUTS, self.writer.whole(wire.mark_of(record.text)))
         self.replace(DONE, "".join(map(entry_line, record.log)).encode())
-        self.written, self.logged = len(record.inputs), len(record.log)
-        self.lists = [self.path(name).open("a") for name in (INPUTS, DONE)]
+        self.lists = [self.path(INPUTS).open("r+b"), self.path(DONE).open("a")]
 
     def put_aside(self):
         """An earlier run goes to a folder of its own, where it has inputs."""
-        if not self.path(INPUTS).exists() or not self.path(INPUTS).stat().st_size:
+        if not self.path(INPUTS).exists() or self.path(INPUTS).stat().st_size <= EMPTY:
             return
         aside = self.folder / time.strftime("run-%Y%m%d-%H%M%S")
         while aside.exists():
@@ -96,14 +106,18 @@ class Store:
                 self.path(name).rename(aside / name)
 
     def append(self, record):
-        """Writes what came since."""
+        """Writes what came since. The gate before new frames is opened last: so all of them are there, or none."""
         inputs, done = self.lists
-        inputs.write(record.inputs.lines(self.written + 1))
+        if frames := self.writer.frames():
+            gate = inputs.seek(-1, os.SEEK_END)
+            for place, part in ((gate + 1, frames[1:] + SHUT), (gate, OPEN)):
+                inputs.seek(place)
+                inputs.write(part)
+                inputs.flush()
         new = max(0, record.said - self.logged)
         done.writelines(map(entry_line, record.log[len(record.log) - new :]))
-        for file in self.lists:
-            file.flush()
-        self.written, self.logged = len(record.inputs), record.said
+        done.flush()
+        self.logged = record.said
 
     def save(self, record):
         """The world as it is now, so that a start needs no input before it."""

@@ -20,6 +20,7 @@ except ImportError:
 import browser
 import tests_examples
 import tests_held
+import tests_log
 import tests_people
 import tests_room
 import tests_server
@@ -30,6 +31,8 @@ from served import Skipped
 QUICK, BUDGET, END = "--quick" in sys.argv, 40, 55
 # Those of --quick: all of the room without a server before them, and then these, in turn.
 GATE = (
+    "a_log_has_its_bytes",
+    "the_program_recalls_the_log_as_the_job",
     "viewers_in_windows_are_equal_over_a_bad_channel",
     "a_viewer_in_a_window_is_stopped_and_restarts",
     "a_late_window_joins_its_viewer_by_pieces",
@@ -65,7 +68,7 @@ def outcome(name, test, begun):
         return "passed", ""
     except Skipped as skipped:
         return "skipped", str(skipped)
-    except (AssertionError, RuntimeError, OSError) as fault:
+    except Exception as fault:
         lines, trace = [], fault.__traceback__
         while trace:
             lines.append(f"{trace.tb_frame.f_code.co_name}:{trace.tb_lineno}")
@@ -75,7 +78,7 @@ def outcome(name, test, begun):
 
 def main():
     core = tests_of(tests_room)
-    tests = {**core, **tests_of(tests_held), **tests_of(tests_server), **tests_of(tests_windows)}
+    tests = {**core, **tests_of(tests_log), **tests_of(tests_held), **tests_of(tests_server), **tests_of(tests_windows)}
     tests |= {**tests_of(tests_viewers), **tests_of(tests_people), **tests_of(tests_examples)}
     names = [word for word in sys.argv[1:] if word != "--quick"]
     if unknown := [name for name in names if name not in tests]:

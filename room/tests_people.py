@@ -1,4 +1,7 @@
 """Tests of windows of a browser: people, replay, and what is said of a faulty scene."""
+import time
+
+import browser
 from served import BUTTON, LATER, Windows, scene, scene_file, spot
 from tests_windows import slow_door
 
@@ -28,6 +31,42 @@ def test_people_have_names_and_pointers():
         assert ben.value("document.getElementById('link').value") == windows.served.address
 
 
+def middle(page, what):
+    """The middle of an element, as it is seen."""
+    box = f"document.querySelector('{what}').getBoundingClientRect()"
+    return page.value(f"((box) => [box.left + box.width / 2, box.top + box.height / 2])({box})")
+
+
+def test_a_stranger_invites_and_presses_within_a_minute():
+    """By what the page shows alone: a ring on what can be pressed, a line that says so, a button that invites."""
+    with Windows(0) as windows:
+        begun, pages = time.monotonic(), []
+        for address in (windows.served.address, None):
+            if address is None:
+                pages[0].wait("document.getElementById('badge').textContent === 'Only you so far'", LATER)
+                assert pages[0].value("document.body.classList.contains('alone')")
+                pages[0].click(middle(pages[0], "#share"))
+                pages[0].wait("document.getElementById('invite').open", LATER)
+                address = pages[0].value("document.getElementById('second').href")
+            pages.append(windows.browser.open(address))
+            shape = {"width": 390, "height": 844, "deviceScaleFactor": 1, "mobile": False}
+            pages[-1].call("Emulation.setDeviceMetricsOverride", **shape)
+            pages[-1].wait("window.room && room.stage.size.join() === '390,844'")
+            pages[-1].wait("document.querySelectorAll('.hint').length === 1 && !document.getElementById('first').hidden")
+        one, other = pages
+        one.click(middle(one, "#shut"))
+        other.click(middle(other, ".hint"))
+        for page in pages:
+            page.wait("document.getElementById('said').textContent === `Guest 2 pressed the door's button`", LATER)
+            page.wait("room.value('Door', 'translation')[0] > 0", LATER)
+        print(f"after {time.monotonic() - begun:.0f} s", end=", ")
+        assert time.monotonic() - begun < 60 * browser.busy()
+        # The line has had its time, and what is said covers no one's name.
+        assert other.value("document.getElementById('first').hidden")
+        edge = "document.getElementById('{}').getBoundingClientRect().{}"
+        assert other.value(f"{edge.format('said', 'bottom')} <= {edge.format('naming', 'top')}")
+
+
 def test_the_trainer_replays_and_begins_again():
     with slow_door() as job, Windows(2, job) as windows:
         trainer, one = windows.pages
@@ -41,6 +80,11 @@ def test_the_trainer_replays_and_begins_again():
         trainer.wait("room.placeOf('Door')[0] > 0.5", LATER)
         trainer.value("const bar = document.getElementById('time'); bar.value = 3; bar.dispatchEvent(new Event('input'))")
         trainer.wait("room.state.replay.n === 3 && room.placeOf('Door')[0] < 0.01", LATER)
+        # What happened is saved, as a job and as a log.
+        trainer.value("window.saved = []; HTMLAnchorElement.prototype.click = function () { saved.push(this.download); }")
+        for kind in ("job", "x3dlog"):
+            trainer.value(f"document.getElementById('{kind}').click()")
+            trainer.wait(f"saved.includes('door.{kind}')", LATER)
         trainer.value("document.getElementById('now').click()")
         trainer.wait("!room.state.replay && room.state.n > 30", LATER)
         trainer.value("document.getElementById('reset').click()")

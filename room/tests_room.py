@@ -207,7 +207,7 @@ class Recorded(Turned):
     def turns(self, count):
         for _ in range(count):
             super().turns(1)
-            self.record.follow(self.room.host, self.room.read, lambda who: ("Ana", "#123456"))
+            self.record.follow(self.room, lambda who: ("Ana", "#123456"))
 
 
 def recorded(turns):
@@ -278,13 +278,18 @@ def test_a_run_is_kept_and_goes_on():
         assert len(kept[0]) == 183 and kept[2][0] == 133, (len(kept[0]), kept[2][0])
         again, room = Record(run.room.text, *kept), Room(run.room.text)
         assert again.world.trace() == run.record.world.trace() and again.log == run.record.log
-        room.resume((again.inputs.at(n) for n in range(1, 184)), again.save())
+        room.resume(again.inputs, again.save())
         assert len(room.host) == 183
         first, second = room.join(), room.join()
         for turn in range(3 * CHECK):
             room.turn(run.time + 33_333 * (turn + 1))
         assert room.seats[first].viewer.applied() == room.seats[second].viewer.applied() == 183 + 3 * CHECK
         assert "Door.translation 1.1 0 0\n" in room.seats[first].viewer.trace()
+        # What is offered then is numbered, though the server was started in the same second.
+        for down in (False, True, False):
+            room.seats[first].viewer.offer(down, x3d.Aim(AT_BUTTON[:3], AT_BUTTON[3:]))
+        room.turn(run.time + 33_333 * (3 * CHECK + 1))
+        assert len(room.host) == 183 + 3 * CHECK + 4, len(room.host)
         assert Store(folder).load(b"#X3D V3.0 utf8\n") is None
 
 

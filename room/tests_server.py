@@ -9,6 +9,8 @@ import time
 
 import browser
 from guard import PATIENCE
+from library import wire
+from log_file import Writer, read_log
 from served import AT_BUTTON, PANEL, TRAINER, Client, Served, scene, scene_file
 
 HOSTILE = int(os.environ.get("HOSTILE", "500" if "--quick" in sys.argv else "10000"))
@@ -32,7 +34,10 @@ def test_what_isnt_its_own_is_refused():
         assert get("/../server.py") == get("/server.py/") == get("/%2e%2e/etc/passwd") == get("/static/rooms.html") == 404
         assert get("/static/..%2fserver.py") == get("/panel/") == get("/door/sockets") == 404
         assert served.ask("POST", "/door/", "{}")[0] == served.ask("DELETE", "/")[0] == 405
-        assert get("/door/socket") == 426 and get("/door/job") == 403
+        assert get("/door/socket") == 426 and get("/door/job") == get("/door/x3dlog") == 403
+        # Without python3-segno the page shows the link alone.
+        status, code = served.ask("GET", "/door/link.svg")
+        assert status == 404 or status == 200 and b"<svg" in code, (status, code[:100])
         assert get("/", Host="evil.example") == get("/", Host="") == get("/", Host="a b") == 403
         for host in ("localhost", f"127.0.0.1:{served.port}", "[::1]:80", "192.168.1.7", socket.gethostname()):
             assert get("/door/", Host=host) == 200, host
@@ -63,6 +68,11 @@ def test_commands_that_have_no_sense_are_refused():
         time.sleep(1)
         assert client.ask("name", name="A\u202e\n" + "b" * 40)["name"] == "A" + "b" * 23
         assert client.ask("name", name="\0")["name"] == "A" + "b" * 23
+        # No two have one name; and what is no color changes none.
+        again = served.client(name="Tina", color=trainer.seat["color"])
+        assert again.seat["name"] == "Tina 2" and again.seat["color"] != trainer.seat["color"], again.seat
+        assert again.ask("name", name="A" + "b" * 30, color=[])["name"] == "A" + "b" * 20 + " 2"
+        assert again.ask("name", name="Tina 2", color=7)["color"] == again.seat["color"]
         for shares in ({}, {"loss": 2}, {"loss": "1"}, {"loss": True}, {"loss": 0.1, "repeat": -1}, {"delay": 0.1}):
             assert trainer.status("channel", **shares) == 400, shares
         assert trainer.ask("channel", reorder=0.3)["channel"] == {"loss": 0, "repeat": 0, "reorder": 0.3}
@@ -289,11 +299,14 @@ def test_a_restarted_server_goes_on():
             for down in (False, True, False):
                 assert client.status("point", down=down, aim=AT_BUTTON) == 200
             said = "pressed the door's button"
-            while not any(each["text"] == said for each in client.until("log")["log"]):
-                pass
+            # It may be logged before the last point is answered.
+            while not any(each["text"] == said for event in client.events for each in event.get("log", ())):
+                client.until("log")
             time.sleep(1.5)
-            job = served.ask("GET", "/door/job", **{"X-Room-Token": client.seat["token"]})
-            assert job[0] == 200 and b"\nscene\n#X3D" in job[1] and b"point 0 1 -1 1.200000 5 0 0 -1\n" in job[1], job[0]
+            mine = {"X-Room-Token": client.seat["token"]}
+            stored, job = served.ask("GET", "/door/x3dlog", **mine), served.ask("GET", "/door/job", **mine)
+            assert stored[0] == 200 and Writer(read_log(stored[1])[1]).whole(wire.mark_of(scene().encode())) == stored[1], stored[0]
+            assert job[0] == 200 and b"\nscene\n#X3D" in job[1] and b"point 0 1 -1 1.2 5 0 0 -1\n" in job[1], job[0]
         with Served(file, more=more) as served:
             client = served.client()
             log = client.until("log")["log"]
@@ -307,3 +320,9 @@ def test_a_restarted_server_goes_on():
             whole = client.until("replay")["of"]
             assert whole > 30 and client.ask("replay", n=whole)["n"] == whole
             assert client.status("point", **POINT) == 409
+        # The list is a log, which has its scene beside it; so has the one that was downloaded.
+        file.with_name("run.x3dlog").write_bytes(stored[1])
+        for words, least in ((file.parent / "kept/door/inputs.x3dlog",), whole), ((file.parent / "run.x3dlog",), 30):
+            with Served(None, more=("--replay", *map(str, words))) as served:
+                client = served.client()
+                assert client.until("log")["log"][0]["text"] == said and client.until("replay")["of"] >= least

@@ -6,6 +6,7 @@ import statistics
 import time
 
 import browser
+from clicks import click, note
 from crowd import Crowd
 from served import BUTTON, LATER, PANEL, Windows, library_for_windows, scene, scene_file, spot, wait_equal
 from tests_room import TWICE
@@ -38,28 +39,11 @@ def assert_door_is_seen(page):
     return seen / wide
 
 
-# When a window is clicked, and when its door moves, by the page's own clock, in milliseconds.
-NOTE = """(() => {
-  window.addEventListener('pointerup', () => { window.pressed = Date.now(); }, true);
-  const look = setInterval(() => {
-    if (!(room.placeOf('Door')[0] > 0.01)) return;
-    window.moving = Date.now();
-    clearInterval(look);
-  }, 5);
-})()"""
-
-
 def click_to_change(windows, crowd=None):
     """Clicks in the last window; seconds until the door moves, of each window, and of those of a crowd."""
-    last = windows.pages[-1]
-    for page in windows.pages:
-        page.value(NOTE)
-    last.click(spot(last, BUTTON))
-    for page in windows.pages:
-        page.wait("window.moving")
-    pressed = last.value("window.pressed")
-    took = [(page.value("window.moving") - pressed) / 1000 for page in windows.pages]
-    took += [at - pressed / 1000 for at in (crowd.moved() if crowd else ())]
+    note(windows.pages)
+    took, pressed = click(windows.pages, windows.pages[-1])
+    took += [at - pressed for at in (crowd.moved() if crowd else ())]
     print(f"{len(took)} windows: median {statistics.median(took):.2f} s, worst {max(took):.2f} s", end=", ")
     if browser.busy() > 1:
         print(f"where {browser.busy():.1f} times as much wants to run as can", end=", ")
@@ -266,9 +250,10 @@ def test_the_keyboard_reaches_all():
         page.click(spot(page, BUTTON))
         page.wait("room.state.lanes.size > 10")
         page.value("document.getElementById('inside').open = true")
-        reached = []
+        reached, wanted = [], "home hand rename share past reset done inside lanes loss repeat reorder".split()
         page.value("document.getElementById('view').focus()")
-        for _ in range(24):
+        # From the last of them it goes round again.
+        while wanted[-1] not in reached and len(reached) < 30:
             page.press("Tab")
             reached.append(page.value("document.activeElement.id || document.activeElement.parentNode.id"))
             if reached[-1] == "lanes":
@@ -278,7 +263,6 @@ def test_the_keyboard_reaches_all():
                 page.press("ArrowLeft")
                 line = page.value("document.getElementById('line').textContent")
                 assert re.match(r"\d+ [\d.]+ Door.translation ", line), line
-        wanted = "home hand rename share past reset done inside lanes loss repeat reorder".split()
         assert [each for each in reached if each in wanted][: len(wanted)] == wanted, reached
 
 

@@ -50,7 +50,7 @@ class Site:
         app.router.add_get("/{room}", self.beside)
         app.router.add_get("/{room}/", self.page)
         app.router.add_get("/{room}/socket", self.socket)
-        app.router.add_get("/{room}/job", self.job)
+        app.router.add_get("/{room}/{kind:job|x3dlog}", self.run)
         app.router.add_get("/{room}/link.svg", self.link)
         return app
 
@@ -135,12 +135,19 @@ class Site:
             return web.Response(body=packed, headers={**headers, "Content-Encoding": "gzip"})
         return web.Response(body=gzip.decompress(packed), headers=headers)
 
-    async def job(self, request):
-        """What happened, as a job, for a window of the room: its token stands in a header."""
+    async def run(self, request):
+        """What happened, as a job or as a world's log, for a window of the room: its token stands in a header."""
         service = self.service(request)
-        if not service.window_of(request.headers.get("X-Room-Token")):
+        window, record = service.window_of(request.headers.get("X-Room-Token")), service.record
+        if not window:
             raise Wrong(403, "no such window")
-        return web.Response(body=service.record.job(), content_type="application/octet-stream")
+        if not window.commands.takes():
+            raise Wrong(429, "too many commands a second")
+        write = {"job": record.job, "x3dlog": record.x3dlog}[request.match_info["kind"]]
+        # A long one takes a while, in which the room goes on.
+        async with service.writing:
+            body = await asyncio.get_running_loop().run_in_executor(None, write)
+        return web.Response(body=body, content_type="application/octet-stream")
 
     async def link(self, request):
         """The room's address as a QR code."""

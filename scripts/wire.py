@@ -38,7 +38,7 @@ class Input(NamedTuple):
 def numeral(millionths):
     """Millionths as a numeral of a job."""
     whole, rest = divmod(abs(millionths), MILLION)
-    return ("-" if millionths < 0 else "") + (f"{whole}.{rest:06}" if rest else str(whole))
+    return ("-" if millionths < 0 else "") + (f"{whole}.{rest:06}".rstrip("0") if rest else str(whole))
 
 
 def mark_of(scene):

@@ -14,7 +14,8 @@ function showFault(fault) {
 function showAgreement(status) {
   const badge = byId("badge"), running = status.viewers.filter((viewer) => viewer.runs);
   const equal = status.equal_at !== null && status.equal_at !== undefined;
-  const all = running.length === 1 ? "One viewer so far" : `All ${running.length} viewers agree`;
+  const alone = running.some((viewer) => viewer.who === state.who) ? "Only you so far" : "One viewer so far";
+  const all = running.length === 1 ? alone : `All ${running.length} viewers agree`;
   const told = status.replay ? "What happened" : status.different ? "Viewers differ!"
     : !running.length ? "No viewer runs" : equal ? all : "Comparing …";
   write(badge, told);

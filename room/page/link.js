@@ -107,8 +107,8 @@ export function connectAgain(word) {
   connect();
 }
 
-/* What happened, as a job. */
-export async function download() {
-  const answer = await fetch("job", { headers: { "X-Room-Token": state.token } });
+/* What happened, as a `job` or an `x3dlog`. */
+export async function download(kind) {
+  const answer = await fetch(kind, { headers: { "X-Room-Token": state.token } });
   return answer.ok ? answer.blob() : null;
 }

@@ -17,8 +17,7 @@ on("you", (you) => {
   write(byId("title"), you.room.replace(/[-_]/g, " "));
   document.title = `${you.room}: a shared room`;
   document.body.classList.toggle("trainer", you.trainer);
-  document.body.classList.toggle("watches", you.who === null);
-  byId("your-name").value = memory.name || you.name;
+  byId("your-name").value = you.name;
   showColors(you.color);
   if (memory.named || memory.name) byId("naming").hidden = true;
 });
@@ -30,6 +29,7 @@ on("people", ({ people }) => {
   byId("people").replaceChildren(...order.map(chipOf));
   const mine = me();
   byId("hand").setAttribute("aria-pressed", String(Boolean(mine && mine.hand)));
+  document.body.classList.toggle("alone", people.length === 1);
   happen("drawn people", {});
 });
 
@@ -103,11 +103,13 @@ function say(entry) {
 function invite() {
   const dialog = byId("invite"), link = new URL(location.pathname, location.href);
   byId("link").value = link.href;
-  byId("only-here").hidden = !/^(localhost|127\..*|\[::1\])$/.test(location.hostname);
-  const code = byId("code");
-  code.hidden = false;
+  const code = byId("code"), here = /^(localhost|127\..*|\[::1\])$/.test(location.hostname);
+  byId("only-here").hidden = !here;
+  byId("second").href = link.href;
+  // A phone has no use for an address of this computer alone.
+  code.hidden = here;
   code.onerror = () => { code.hidden = true; };
-  code.src = "link.svg";
+  if (!here) code.src = "link.svg";
   dialog.showModal();
   byId("link").select();
 }
@@ -128,7 +130,7 @@ export function beginPeople() {
   byId("hand").addEventListener("click", () => ask("hand", { up: !(me() && me().hand) }));
   byId("share").addEventListener("click", invite);
   byId("copy").addEventListener("click", copy);
-  byId("shut").addEventListener("click", () => byId("invite").close());
+  for (const id of ["shut", "second"]) byId(id).addEventListener("click", () => byId("invite").close());
 }
 
 export const nameOf = (who) => (personOf(who) || { name: `Viewer ${who}` }).name;

@@ -69,6 +69,7 @@ export function hint() {
 
 export function endHints() {
   hints.over = true;
+  byId("first").hidden = true;
   for (const made of hints.made.values()) made.remove();
   hints.made.clear();
 }
@@ -91,4 +92,5 @@ export function placeHints(box) {
     const { x, y } = spotOf(place, box);
     hints.made.get(sensor).style.transform = `translate(${x}px, ${y}px)`;
   }
+  byId("first").hidden = !places.size;
 }

@@ -83,11 +83,11 @@ async function toggle() {
   if (answer.status === 200) show(answer);
 }
 
-async function keep() {
-  const blob = await download();
+async function keep(kind) {
+  const blob = await download(kind);
   if (!blob) return;
   const link = element("a");
-  Object.assign(link, { href: URL.createObjectURL(blob), download: `${byId("title").textContent}.job` });
+  Object.assign(link, { href: URL.createObjectURL(blob), download: `${byId("title").textContent}.${kind}` });
   link.click();
   setTimeout(() => URL.revokeObjectURL(link.href), 10000);
 }
@@ -100,5 +100,5 @@ export function beginReplay() {
   byId("play").addEventListener("click", () => play(!(state.replay && state.replay.playing)));
   byId("speed").addEventListener("change", () => play(Boolean(state.replay && state.replay.playing)));
   for (const name of ["past", "now"]) byId(name).addEventListener("click", toggle);
-  byId("download").addEventListener("click", keep);
+  for (const kind of ["job", "x3dlog"]) byId(kind).addEventListener("click", () => keep(kind));
 }

@@ -1,0 +1,4 @@
+pub mod Instance
+pub mod Blamed
+pub mod Blames
+pub mod Relined
