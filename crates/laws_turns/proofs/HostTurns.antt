@@ -11,7 +11,9 @@ use Rattle.share_turns.specs.declared.traffic.Traffic.TheVariants.{Nothing}
 use Rattle.share_turns.specs.Exchanges.{Exchange, IsEnd, all_traffic, traffic_of}
 use Rattle.share_turns.specs.HostTurn.{AreAnswered, IsBegun, IsHeardTurn, is_whole, is_whole_before}
 use Rattle.share_turns.specs.Runs.{HostTurns, Hosting, IsHostEnd, dropped_below, hosting, next_floor}
-use Rattle.share_turns.specs.Heard.{lowest}
+use Rattle.share_turns.specs.Attendance.{lowest_dropped}
+use Rattle.share_turns.specs.Heard.{nobody}
+use Rattle.share_turns.specs.Told.{Passed}
 use Rattle.share_turns.proofs.Sending.{grows_none}
 use Rattle.laws_turns.specs.HostDoings.{HostDoes}
 use Rattle.laws_turns.specs.HostDoings as doing
@@ -56,25 +58,26 @@ drops : (mark : List ℕ) (floor : Option ℕ) (p : HostPart) → Did mark p (dr
 drops mark None p = did_none mark p p refl
 drops mark (Some f) p = (doing.Drops f (part_drop_below p f).0 ∷ [], ((part_drop_below p f).1, refl, refl), refl)
 
-turns : (mark : List ℕ) (clocks : List ℤ) (plan : HostPlan) (n : ℕ) (a b : Option (List Traffic)) (old : HostPart) (new : Hosting) → HostTurns mark clocks plan n a b old new → HostDoes mark a b old new.part
-turns mark clocks plan zero a b old new t = does_none mark a b old new.part t.0 (ap (λ (h : Hosting). h.part) t.1)
+turns : (mark : List ℕ) (clocks : List ℤ) (plan : HostPlan) (n : ℕ) (a b : Passed) (old : HostPart) (new : Hosting) → HostTurns mark clocks plan n a b old new → HostDoes mark a.told b.told old new.part
+turns mark clocks plan zero a b old new t = does_none mark a.told b.told old new.part (ap (λ (p : Passed). p.told) t.0) (ap (λ (h : Hosting). h.part) t.1)
 turns mark clocks plan (suc n) a b old new t =
     let before = turns mark clocks plan n a t.0 old t.1 t.2 in
     let kept = t.4 in
-    let turn = heard-turn (Ok tt) mark (slice_get clocks n) t.0 b t.1.part kept.0 t.1.heard new.heard kept.1 in
-    let floor = next_floor plan.keep (lowest new.heard) kept.0 in
-    let left = does_did mark b b kept.0 (dropped_below floor kept.0) [] (drops mark floor kept.0) (grows_none b) in
-    subst (λ (p : HostPart). HostDoes mark a b old p) (sym kept.2) (does_then mark a b b old kept.0 (dropped_below floor kept.0) (does_then mark a t.0 b old t.1.part kept.0 before turn) left)
+    let turn = heard-turn (Ok tt) mark (slice_get clocks n) t.0.told b.told t.1.part kept.left nobody kept.came kept.turn in
+    let floor = next_floor plan.keep (lowest_dropped (length kept.left.kept) kept.noted) kept.left in
+    let left = does_did mark b.told b.told kept.left (dropped_below floor kept.left) [] (drops mark floor kept.left) (grows_none b.told) in
+    subst (λ (p : HostPart). HostDoes mark a.told b.told old p) (sym kept.kept)
+    (does_then mark a.told b.told b.told old kept.left (dropped_below floor kept.left) (does_then mark a.told t.0.told b.told old t.1.part kept.left before turn) left)
 
-ends : (mark : List ℕ) (clocks : List ℤ) (plan : HostPlan) (n : ℕ) (a b : Option (List Traffic)) (old new : HostPart) (fault : SeriesFault) → IsHostEnd mark clocks plan n a b old fault new → HostDoes mark a b old new
-ends mark clocks plan n a b old new series.TurnsUsedUp r = turns mark clocks plan n a b old (hosting new r.heard) r.turned
+ends : (mark : List ℕ) (clocks : List ℤ) (plan : HostPlan) (n : ℕ) (a b : Passed) (old new : HostPart) (fault : SeriesFault) → IsHostEnd mark clocks plan n a b old fault new → HostDoes mark a.told b.told old new
+ends mark clocks plan n a b old new series.TurnsUsedUp r = turns mark clocks plan n a b old (hosting new r.attendance) r.turned
 ends mark clocks plan n a b old new (series.Turn fault) r =
-    does_then mark a r.between b old r.mid.part new (turns mark clocks plan r.done a r.between old r.mid r.before)
-    (heard-turn (Err fault) mark (slice_get clocks r.done) r.between b r.mid.part new r.mid.heard r.heard r.last)
+    does_then mark a.told r.between.told b.told old r.mid.part new (turns mark clocks plan r.done a r.between old r.mid r.before)
+    (host_turns_are_calls (Err fault) mark (slice_get clocks r.done) r.between.told b.told r.mid.part new r.last)
 ends mark clocks plan n a b old new (series.Join fault) r = absurd r
 
 pub host_runs_are_calls : HostRunsAreCalls
 host_runs_are_calls = record {
-  done = λ mark clocks plan n a b old new r. turns mark clocks plan r.done a b old (hosting new r.heard) r.turned;
+  done = λ mark clocks plan n a b old new r. turns mark clocks plan r.done a b old (hosting new r.attendance) r.turned;
   ended = ends;
 }

@@ -14,6 +14,7 @@ use Rattle.share_turns.specs.declared.view.ViewPlan.{ViewPlan}
 use Rattle.share_turns.specs.Gathers.{with_both}
 use Rattle.share_turns.specs.HostTurn.{IsHostTurn}
 use Rattle.share_turns.specs.Runs.{AreHosted, IsHostEnd}
+use Rattle.share_turns.specs.Told.{Passed}
 use Rattle.share_turns.specs.Views.{IsRun, IsRunEnd, IsTurnOf}
 use Rattle.laws_turns.specs.HostDoings.{HostDoes}
 use Rattle.laws_turns.specs.ViewerDoings.{ViewerDoes}
@@ -28,12 +29,12 @@ HostTurnsAreCalls =
 
 -- a run of turns of a host, which `host_run` makes
 pub record HostRunsAreCalls : Type 0 where
-  pub done : (mark : List ℕ) (clocks : List ℤ) (plan : HostPlan) (turns : ℕ)
-      (a b : Option (List Traffic)) (old new : HostPart)
-      → AreHosted mark clocks plan turns a b old new → HostDoes mark a b old new
-  pub ended : (mark : List ℕ) (clocks : List ℤ) (plan : HostPlan) (turns : ℕ)
-      (a b : Option (List Traffic)) (old new : HostPart) (fault : SeriesFault)
-      → IsHostEnd mark clocks plan turns a b old fault new → HostDoes mark a b old new
+  pub done : (mark : List ℕ) (clocks : List ℤ) (plan : HostPlan) (turns : ℕ) (a b : Passed)
+      (old new : HostPart)
+      → AreHosted mark clocks plan turns a b old new → HostDoes mark a.told b.told old new
+  pub ended : (mark : List ℕ) (clocks : List ℤ) (plan : HostPlan) (turns : ℕ) (a b : Passed)
+      (old new : HostPart) (fault : SeriesFault)
+      → IsHostEnd mark clocks plan turns a b old fault new → HostDoes mark a.told b.told old new
 
 -- a turn of a viewer, however it ends
 abbrev pub ViewerTurnsAreCalls : Type 0
