@@ -2,3 +2,4 @@ mod Lines
 mod Running
 mod Heads
 mod Recalls
+mod Lasting

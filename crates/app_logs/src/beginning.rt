@@ -6,6 +6,7 @@ ghost use Rattle.share_file.specs.Contents.{contents_of};
 ghost use Rattle.share_file.specs.Keeping.{IsNew};
 ghost use Rattle.share_log.specs.Frames.{frames_of};
 ghost use Rattle.share_logged.specs.Making.{IsLogOf};
+ghost use Rattle.share_store.specs.OneLog.{Last};
 ghost use Rattle.app_logs.specs.Beginning.{IsNotBegun, IsNotResumed, host_with};
 ghost use Rattle.app_logs.specs.Clocks.{last_of};
 ghost use Rattle.app_logs.specs.declared.fault.LogFault.TheVariants.{Device, Memory, NotEmpty};
@@ -48,12 +49,17 @@ pub(crate) fn resumed(alloc: Global, head: &Head, entries: &[Entry]) -> Result<L
 
 /// Creates the host of a log that was opened.
 fn with_host<D: Disk>(alloc: Global, opened: Opened<D>) -> Result<Begun<D>, (LogFault, D)>
+    requires { IsTrue (⟦<FileLog<D> as share_store::Log>⟧.is_open opened.log) }
     ensures log { IfOk result (λ b. b.log ≡ opened.log) }
     ensures head { IfOk result (λ b. b.head ≡ opened.head) }
     ensures cut { IfOk result (λ b. b.cut ≡ opened.cut) }
     ensures host { IfOk result (λ b. b.hosting ≡ host_with opened.head opened.entries.items) }
     ensures made { OnOk result (IsLogOf opened.head.viewers opened.entries.items) }
     ensures last { IfOk result (λ b. b.last ≡ last_of opened.entries.items) }
+    // Whatever a crash leaves has the entries that the log knows.
+    ensures lasts { IfOk result (λ b. IsTrue (⟦<FileLog<D> as share_store::Log>⟧.is_clean b.log)
+        → Last (⟦<FileLog<D> as share_store::Log>⟧.may_leave b.log)
+        (⟦<FileLog<D> as share_store::Log>⟧.known b.log)) }
     ensures refused { IfErr result
         (λ f. IsNotResumed opened.head.viewers opened.entries.items f.0) }
     ensures disk { IfErr result (λ f. f.1 ≡ opened.log.log.disk) }
@@ -108,6 +114,10 @@ pub fn go_on<D: Disk>(
         → IsLogOf b.head.viewers (⟦<FileLog<D> as share_store::Log>⟧.known b.log)) }
     ensures last { IfOk result (λ b. IsTrue (⟦<FileLog<D> as share_store::Log>⟧.is_clean b.log)
         → b.last ≡ last_of (⟦<FileLog<D> as share_store::Log>⟧.known b.log)) }
+    // Whatever a crash leaves has the entries that the log knows.
+    ensures lasts { IfOk result (λ b. IsTrue (⟦<FileLog<D> as share_store::Log>⟧.is_clean b.log)
+        → Last (⟦<FileLog<D> as share_store::Log>⟧.may_leave b.log)
+        (⟦<FileLog<D> as share_store::Log>⟧.known b.log)) }
     ensures open { IfOk result
         (λ b. IsTrue (⟦<FileLog<D> as share_store::Log>⟧.is_open b.log)) }
     ensures refused { IfErr result (λ f. IsTrue (D.is_clean f.1)
@@ -134,6 +144,10 @@ pub fn make_log<D: Disk>(alloc: Global, disk: D, head: &Head) -> Result<Begun<D>
     ensures host { IfOk result (λ b. b.hosting ≡ host_with head.now []) }
     ensures head { IfOk result (λ b. b.head ≡ head.now) }
     ensures last { IfOk result (λ b. (b.last ≡ pos 0) × (b.cut ≡ 0)) }
+    // Whatever a crash leaves has the entries that the log knows.
+    ensures lasts { IfOk result (λ b. IsTrue (⟦<FileLog<D> as share_store::Log>⟧.is_clean b.log)
+        → Last (⟦<FileLog<D> as share_store::Log>⟧.may_leave b.log)
+        (⟦<FileLog<D> as share_store::Log>⟧.known b.log)) }
     ensures open { IfOk result
         (λ b. IsTrue (⟦<FileLog<D> as share_store::Log>⟧.is_open b.log)) }
     ensures empty { IfOk result (λ b. IsTrue (D.is_clean b.log.log.disk)
@@ -154,11 +168,16 @@ fn with_new_host<D: Disk>(
     log: FileLog<D>,
     head: &Head,
 ) -> Result<Begun<D>, (LogFault, D)>
-    requires { IsTrue (is_viewer_count head.now.viewers) }
+    requires viewers { IsTrue (is_viewer_count head.now.viewers) }
+    requires open { IsTrue (⟦<FileLog<D> as share_store::Log>⟧.is_open log) }
     ensures log { IfOk result (λ b. b.log ≡ log) }
     ensures host { IfOk result (λ b. b.hosting ≡ host_with head.now []) }
     ensures head { IfOk result (λ b. b.head ≡ head.now) }
     ensures last { IfOk result (λ b. (b.last ≡ pos 0) × (b.cut ≡ 0)) }
+    // Whatever a crash leaves has the entries that the log knows.
+    ensures lasts { IfOk result (λ b. IsTrue (⟦<FileLog<D> as share_store::Log>⟧.is_clean b.log)
+        → Last (⟦<FileLog<D> as share_store::Log>⟧.may_leave b.log)
+        (⟦<FileLog<D> as share_store::Log>⟧.known b.log)) }
     ensures refused { IfErr result (λ f. f.0 ≡ Memory) }
 {
     match resumed(alloc, head, &[]) {

@@ -56,7 +56,7 @@ pub fn tell_log<R: Eprint>(rt: &R, verbose: bool, inputs: u64, cut: u64, clocks:
 /// The result of a host's run, in words.
 #[derive(Drop)]
 struct HostEnd {
-    inputs: u32,
+    inputs: u64,
     dropped: u64,
     counts: Counts,
 }
@@ -94,13 +94,13 @@ pub fn tell_port<R: Eprint>(rt: &R, verbose: bool, port: &UdpPort) {
 
 /// Returns how many of a host's clocks were dropped: the clocks that its turns had, less those that
 /// became inputs. The inputs that aren't clocks are the points that it numbered.
-fn dropped(clocks: usize, inputs: u32, counts: &Counts) -> u64 {
+fn dropped(clocks: usize, inputs: u64, counts: &Counts) -> u64 {
     let handed = counts.turns.min(clocks as u64);
-    handed.saturating_sub(u64::from(inputs).saturating_sub(counts.points))
+    handed.saturating_sub(inputs.saturating_sub(counts.points))
 }
 
 /// Reports the result of a host's run with this many clocks, if `verbose` is set.
-pub fn tell_host_end<R: Eprint>(rt: &R, verbose: bool, clocks: usize, inputs: u32, counts: Counts) {
+pub fn tell_host_end<R: Eprint>(rt: &R, verbose: bool, clocks: usize, inputs: u64, counts: Counts) {
     if verbose {
         let dropped = dropped(clocks, inputs, &counts);
         let _told = rt.eprintln(HostEnd {

@@ -128,7 +128,7 @@ fn run_at(
         rt,
         asked.verbose,
         clocks.len(),
-        numbered as u32,
+        numbered,
         port.port().counts(),
     );
     match done {

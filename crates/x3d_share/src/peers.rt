@@ -135,7 +135,13 @@ fn hosted<R: AllocGlobal + Net + Eprint + Clock>(
         &mut count,
     );
     let clocks = job.inputs.as_slice().len();
-    tell_host_end(rt, asked.verbose, clocks, count, port.port().counts());
+    tell_host_end(
+        rt,
+        asked.verbose,
+        clocks,
+        u64::from(count),
+        port.port().counts(),
+    );
     done
 }
 
