@@ -11,6 +11,7 @@ CASE = re.compile(
     rb"== (.+)\n(?:#.*\n)*\$ ?(.*)\n((?:(?!-> |== ).*\n)*)" rb"-> (.+)\n((?:(?!== ).*\n)*)"
 )
 REFUSED = re.compile(rb"(prints, and a check of that is )?refused (\d+): (.+)")
+TOLD = re.compile(rb"prints, with the first (\d+) lines on standard error")
 # How many lines of one form stand there, and the form.
 TIMES = re.compile(rb"\\\*(\d+) (.*)")
 ESCAPES = {b"r": b"\r", b"t": b"\t", b"\\": b"\\"}
@@ -68,9 +69,12 @@ def cases(file):
             output.pop()
         words = shlex.split(case[2].decode())
         given, output = b"\n".join(lines(case[3])), b"".join(line + b"\n" for line in output)
-        printed, refused = (0, output, b""), REFUSED.fullmatch(case[4])
+        printed, refused, told = (0, output, b""), REFUSED.fullmatch(case[4]), TOLD.fullmatch(case[4])
         fault = refused and (int(refused[2]), b"", refused[3] + b"\n" + (b"" if refused[1] else output))
-        if case[4] == b"prints":
+        if told:
+            parts = output.splitlines(keepends=True)
+            runs = [(words, given, (0, b"".join(parts[int(told[1]) :]), b"".join(parts[: int(told[1])])))]
+        elif case[4] == b"prints":
             runs = [(words, given, printed)]
         elif case[4] == b"prints, and the same of that":
             runs = [(words, given, printed), (words, again(words, output), printed)]

@@ -3,7 +3,7 @@ use Rattle.std.proofs.Common.{◌≡◌, ◌≤◌, ℕ, List, codes, Option, So
 use Rattle.clap.specs.Words.{Row, Text}
 use Rattle.app_words.specs.declared.order.HostOrder.{HostOrder}
 use Rattle.app_words.specs.declared.order.Order.{Order}
-use Rattle.app_words.specs.declared.order.Order.TheVariants.{Run, Format, Check, Rehearse, Agree, Host, View, Recall}
+use Rattle.app_words.specs.declared.order.Order.TheVariants.{Run, Format, Check, Rehearse, Agree, Host, View, Recall, Part}
 use Rattle.app_words.specs.declared.order.ViewEnd.{ViewEnd}
 use Rattle.app_words.specs.declared.order.ViewEnd.TheVariants.{Until, Exactly}
 use Rattle.app_words.specs.declared.order.ViewOrder.{ViewOrder}
@@ -29,6 +29,8 @@ agree_needs rows (View asked) h =
     let bad : 97 ≡ 118 = ap (λ t. slice_index t 0) h.0 in absurd (omega (arith, bad))
 agree_needs rows (Recall until) h =
     let bad : 97 ≡ 114 = ap (λ t. slice_index t 0) h.0 in absurd (omega (arith, bad))
+agree_needs rows (Part list) h =
+    let bad : 97 ≡ 112 = ap (λ t. slice_index t 0) h.0 in absurd (omega (arith, bad))
 
 pub host_needs : (rows : List Row) (o : Order) → Asks o (codes "host", rows)
     → (asked : HostOrder) × AsksHost rows asked × (host_misfit asked ≡ None)
@@ -47,6 +49,8 @@ host_needs rows (View asked) h =
     let bad : 104 ≡ 118 = ap (λ t. slice_index t 0) h.0 in absurd (omega (arith, bad))
 host_needs rows (Recall until) h =
     let bad : 104 ≡ 114 = ap (λ t. slice_index t 0) h.0 in absurd (omega (arith, bad))
+host_needs rows (Part list) h =
+    let bad : 104 ≡ 112 = ap (λ t. slice_index t 0) h.0 in absurd (omega (arith, bad))
 
 pub view_needs : (rows : List Row) (o : Order) → Asks o (codes "view", rows)
     → (asked : ViewOrder) × AsksView rows asked × (misfit_of asked ≡ None)
@@ -65,6 +69,8 @@ view_needs rows (Host asked) h =
 view_needs rows (View asked) h = (asked, h.1, h.2)
 view_needs rows (Recall until) h =
     let bad : 118 ≡ 114 = ap (λ t. slice_index t 0) h.0 in absurd (omega (arith, bad))
+view_needs rows (Part list) h =
+    let bad : 118 ≡ 112 = ap (λ t. slice_index t 0) h.0 in absurd (omega (arith, bad))
 
 -- options that don't go together ask for nothing
 pub no_view_of_misfit : (rows : List Row) (asked : ViewOrder) (why : Misfit) → AsksView rows asked → Some why ≡ misfit_of asked
@@ -159,6 +165,7 @@ asked_range (View asked) p h = record {
   together = h.2;
 }
 asked_range (Recall until) p h = at_most (codes "until") p.1 0 1048576 until h.1
+asked_range (Part list) p h = tt
 
 pub some_range : (o : Order) (x : Option (Text × List Row)) → IsSomeAnd x (Asks o) → IsInRange o
 some_range o (Some p) h = asked_range o p h

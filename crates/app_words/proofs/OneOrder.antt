@@ -1,12 +1,12 @@
 -- Words mean one order at most: the name of the command tells which, and each of its options has one number.
 use Rattle.std.specs.Prelude.{Option, Some, None, IsSomeAnd}
-use Rattle.std.proofs.Common.{◌≡◌, ◌∙◌, ℕ, List, ap, arith, refl, slice_index, sym}
+use Rattle.std.proofs.Common.{◌≡◌, ◌∙◌, ℕ, Bool, List, ap, arith, refl, slice_index, sym}
 use Rattle.std.specs.Str.Parse.{digits_value, without_leading_plus}
 use Rattle.clap.specs.Words.{Row, Text, subcommand_of}
 use Rattle.app_words.specs.Commands.{program}
 use Rattle.app_words.specs.declared.order.HostOrder.{HostOrder}
 use Rattle.app_words.specs.declared.order.Order.{Order}
-use Rattle.app_words.specs.declared.order.Order.TheVariants.{Run, Format, Check, Rehearse, Agree, Host, View, Recall}
+use Rattle.app_words.specs.declared.order.Order.TheVariants.{Run, Format, Check, Rehearse, Agree, Host, View, Recall, Part}
 use Rattle.app_words.specs.declared.order.ViewEnd.{ViewEnd}
 use Rattle.app_words.specs.declared.order.ViewEnd.TheVariants.{Until, Exactly}
 use Rattle.app_words.specs.declared.order.ViewOrder.{ViewOrder}
@@ -92,6 +92,10 @@ run_alone (Recall until2) p h g =
     let x : slice_index p.0 1 ≡ 117 = ap (λ t. slice_index t 1) h in
     let y : slice_index p.0 1 ≡ 101 = ap (λ t. slice_index t 1) g.0 in
     absurd (omega (arith, x, y))
+run_alone (Part list2) p h g =
+    let x : slice_index p.0 0 ≡ 114 = ap (λ t. slice_index t 0) h in
+    let y : slice_index p.0 0 ≡ 112 = ap (λ t. slice_index t 0) g.0 in
+    absurd (omega (arith, x, y))
 
 format_alone : (o : Order) (p : Text × List Row) → Asks Format p → Asks o p → Format ≡ o
 format_alone Run p h g =
@@ -122,6 +126,10 @@ format_alone (View asked2) p h g =
 format_alone (Recall until2) p h g =
     let x : slice_index p.0 0 ≡ 102 = ap (λ t. slice_index t 0) h in
     let y : slice_index p.0 0 ≡ 114 = ap (λ t. slice_index t 0) g.0 in
+    absurd (omega (arith, x, y))
+format_alone (Part list2) p h g =
+    let x : slice_index p.0 0 ≡ 102 = ap (λ t. slice_index t 0) h in
+    let y : slice_index p.0 0 ≡ 112 = ap (λ t. slice_index t 0) g.0 in
     absurd (omega (arith, x, y))
 
 check_alone : (o : Order) (p : Text × List Row) → Asks Check p → Asks o p → Check ≡ o
@@ -154,6 +162,10 @@ check_alone (Recall until2) p h g =
     let x : slice_index p.0 0 ≡ 99 = ap (λ t. slice_index t 0) h in
     let y : slice_index p.0 0 ≡ 114 = ap (λ t. slice_index t 0) g.0 in
     absurd (omega (arith, x, y))
+check_alone (Part list2) p h g =
+    let x : slice_index p.0 0 ≡ 99 = ap (λ t. slice_index t 0) h in
+    let y : slice_index p.0 0 ≡ 112 = ap (λ t. slice_index t 0) g.0 in
+    absurd (omega (arith, x, y))
 
 rehearse_alone : (viewers : ℕ) (o : Order) (p : Text × List Row) → Asks (Rehearse viewers) p → Asks o p → Rehearse viewers ≡ o
 rehearse_alone viewers Run p h g =
@@ -184,6 +196,10 @@ rehearse_alone viewers (View asked2) p h g =
 rehearse_alone viewers (Recall until2) p h g =
     let x : slice_index p.0 2 ≡ 104 = ap (λ t. slice_index t 2) h.0 in
     let y : slice_index p.0 2 ≡ 99 = ap (λ t. slice_index t 2) g.0 in
+    absurd (omega (arith, x, y))
+rehearse_alone viewers (Part list2) p h g =
+    let x : slice_index p.0 0 ≡ 114 = ap (λ t. slice_index t 0) h.0 in
+    let y : slice_index p.0 0 ≡ 112 = ap (λ t. slice_index t 0) g.0 in
     absurd (omega (arith, x, y))
 
 agree_alone : (viewers : ℕ) (turns : ℕ) (o : Order) (p : Text × List Row) → Asks (Agree viewers turns) p → Asks o p → Agree viewers turns ≡ o
@@ -216,6 +232,10 @@ agree_alone viewers turns (Recall until2) p h g =
     let x : slice_index p.0 0 ≡ 97 = ap (λ t. slice_index t 0) h.0 in
     let y : slice_index p.0 0 ≡ 114 = ap (λ t. slice_index t 0) g.0 in
     absurd (omega (arith, x, y))
+agree_alone viewers turns (Part list2) p h g =
+    let x : slice_index p.0 0 ≡ 97 = ap (λ t. slice_index t 0) h.0 in
+    let y : slice_index p.0 0 ≡ 112 = ap (λ t. slice_index t 0) g.0 in
+    absurd (omega (arith, x, y))
 
 host_alone : (asked : HostOrder) (o : Order) (p : Text × List Row) → Asks (Host asked) p → Asks o p → Host asked ≡ o
 host_alone asked Run p h g =
@@ -246,6 +266,10 @@ host_alone asked (View asked2) p h g =
 host_alone asked (Recall until2) p h g =
     let x : slice_index p.0 0 ≡ 104 = ap (λ t. slice_index t 0) h.0 in
     let y : slice_index p.0 0 ≡ 114 = ap (λ t. slice_index t 0) g.0 in
+    absurd (omega (arith, x, y))
+host_alone asked (Part list2) p h g =
+    let x : slice_index p.0 0 ≡ 104 = ap (λ t. slice_index t 0) h.0 in
+    let y : slice_index p.0 0 ≡ 112 = ap (λ t. slice_index t 0) g.0 in
     absurd (omega (arith, x, y))
 
 view_alone : (asked : ViewOrder) (o : Order) (p : Text × List Row) → Asks (View asked) p → Asks o p → View asked ≡ o
@@ -278,6 +302,10 @@ view_alone asked (Recall until2) p h g =
     let x : slice_index p.0 0 ≡ 118 = ap (λ t. slice_index t 0) h.0 in
     let y : slice_index p.0 0 ≡ 114 = ap (λ t. slice_index t 0) g.0 in
     absurd (omega (arith, x, y))
+view_alone asked (Part list2) p h g =
+    let x : slice_index p.0 0 ≡ 118 = ap (λ t. slice_index t 0) h.0 in
+    let y : slice_index p.0 0 ≡ 112 = ap (λ t. slice_index t 0) g.0 in
+    absurd (omega (arith, x, y))
 
 recall_alone : (until : Option ℕ) (o : Order) (p : Text × List Row) → Asks (Recall until) p → Asks o p → Recall until ≡ o
 recall_alone until Run p h g =
@@ -309,6 +337,45 @@ recall_alone until (View asked2) p h g =
     let y : slice_index p.0 0 ≡ 118 = ap (λ t. slice_index t 0) g.0 in
     absurd (omega (arith, x, y))
 recall_alone until (Recall until2) p h g = ap (λ o. Recall o) (one_or_none _ p.1 _ _ until until2 h.1 g.1)
+recall_alone until (Part list2) p h g =
+    let x : slice_index p.0 0 ≡ 114 = ap (λ t. slice_index t 0) h.0 in
+    let y : slice_index p.0 0 ≡ 112 = ap (λ t. slice_index t 0) g.0 in
+    absurd (omega (arith, x, y))
+
+part_alone : (list : Bool) (o : Order) (p : Text × List Row) → Asks (Part list) p → Asks o p → Part list ≡ o
+part_alone list Run p h g =
+    let x : slice_index p.0 0 ≡ 112 = ap (λ t. slice_index t 0) h.0 in
+    let y : slice_index p.0 0 ≡ 114 = ap (λ t. slice_index t 0) g in
+    absurd (omega (arith, x, y))
+part_alone list Format p h g =
+    let x : slice_index p.0 0 ≡ 112 = ap (λ t. slice_index t 0) h.0 in
+    let y : slice_index p.0 0 ≡ 102 = ap (λ t. slice_index t 0) g in
+    absurd (omega (arith, x, y))
+part_alone list Check p h g =
+    let x : slice_index p.0 0 ≡ 112 = ap (λ t. slice_index t 0) h.0 in
+    let y : slice_index p.0 0 ≡ 99 = ap (λ t. slice_index t 0) g in
+    absurd (omega (arith, x, y))
+part_alone list (Rehearse viewers2) p h g =
+    let x : slice_index p.0 0 ≡ 112 = ap (λ t. slice_index t 0) h.0 in
+    let y : slice_index p.0 0 ≡ 114 = ap (λ t. slice_index t 0) g.0 in
+    absurd (omega (arith, x, y))
+part_alone list (Agree viewers2 turns2) p h g =
+    let x : slice_index p.0 0 ≡ 112 = ap (λ t. slice_index t 0) h.0 in
+    let y : slice_index p.0 0 ≡ 97 = ap (λ t. slice_index t 0) g.0 in
+    absurd (omega (arith, x, y))
+part_alone list (Host asked2) p h g =
+    let x : slice_index p.0 0 ≡ 112 = ap (λ t. slice_index t 0) h.0 in
+    let y : slice_index p.0 0 ≡ 104 = ap (λ t. slice_index t 0) g.0 in
+    absurd (omega (arith, x, y))
+part_alone list (View asked2) p h g =
+    let x : slice_index p.0 0 ≡ 112 = ap (λ t. slice_index t 0) h.0 in
+    let y : slice_index p.0 0 ≡ 118 = ap (λ t. slice_index t 0) g.0 in
+    absurd (omega (arith, x, y))
+part_alone list (Recall until2) p h g =
+    let x : slice_index p.0 0 ≡ 112 = ap (λ t. slice_index t 0) h.0 in
+    let y : slice_index p.0 0 ≡ 114 = ap (λ t. slice_index t 0) g.0 in
+    absurd (omega (arith, x, y))
+part_alone list (Part list2) p h g = ap (λ b. Part b) (h.1 ∙ sym g.1)
 
 asks_one : (a b : Order) (p : Text × List Row) → Asks a p → Asks b p → a ≡ b
 asks_one Run b p h g = run_alone b p h g
@@ -319,6 +386,7 @@ asks_one (Agree viewers turns) b p h g = agree_alone viewers turns b p h g
 asks_one (Host asked) b p h g = host_alone asked b p h g
 asks_one (View asked) b p h g = view_alone asked b p h g
 asks_one (Recall until) b p h g = recall_alone until b p h g
+asks_one (Part list) b p h g = part_alone list b p h g
 
 some_one : (x : Option (Text × List Row)) (a b : Order) → IsSomeAnd x (Asks a) → IsSomeAnd x (Asks b) → a ≡ b
 some_one (Some p) a b h g = asks_one a b p h g

@@ -7,18 +7,18 @@ use Rattle.clap.specs.declared.error.ErrorKind.TheVariants as kind
 use Rattle.app_words.specs.declared.order.Order.{Order}
 use Rattle.app_words.specs.declared.order.OrderFault.{OrderFault}
 use Rattle.app_words.specs.declared.order.OrderFault.TheVariants as fault
-use Rattle.app_words.specs.Commands.{program, shared_program, local_program, single_program, bare_program}
+use Rattle.app_words.specs.Commands.{program, logged_program, shared_program, local_program, single_program, bare_program}
 use Rattle.app_words.specs.Commands.{run_app, format_app, check_app, rehearse_app, agree_app, host_app}
-use Rattle.app_words.specs.Commands.{view_app, recall_app}
+use Rattle.app_words.specs.Commands.{view_app, recall_app, part_app}
 use Rattle.app_words.specs.Request.{RequestsNothing}
 use Rattle.app_words.specs.Words.{Asks, Means, IsText, IsRefusal, AsksForText, AsksOnlyForText, log_file_named}
 
 program_is_simple : is_simple_and_free program ≡ true
-unfolding program shared_program local_program single_program bare_program run_app format_app check_app rehearse_app agree_app host_app view_app recall_app
+unfolding program logged_program shared_program local_program single_program bare_program run_app format_app check_app rehearse_app agree_app host_app view_app recall_app part_app
 program_is_simple = refl
 
 program_is_plain : is_simple program ≡ true
-unfolding program shared_program local_program single_program bare_program run_app format_app check_app rehearse_app agree_app host_app view_app recall_app
+unfolding program logged_program shared_program local_program single_program bare_program run_app format_app check_app rehearse_app agree_app host_app view_app recall_app part_app
 program_is_plain = refl
 
 -- words that are taken mean what their command asks for

@@ -7,7 +7,7 @@ use Rattle.app_words.specs.Options.{viewers_rule, turns_rule, port_rule, keep_ru
 use Rattle.app_words.specs.Options.{who_rule, boot_rule, exactly_rule, at_rule, give_rule}
 use Rattle.app_words.specs.Options.{give_turns_rule, host_viewers_rule, host_turns_rule}
 use Rattle.app_words.specs.Options.{log_rule, new_log_rule, text_rule}
-use Rattle.app_words.specs.Options.{join_rule, verbose_rule, number_rule, flag_rule}
+use Rattle.app_words.specs.Options.{join_rule, list_rule, verbose_rule, number_rule, flag_rule}
 use Rattle.app_words.specs.declared.commands.CommandWords.{CommandWords}
 use Rattle.app_words.specs.declared.options.FlagOption.{FlagOption}
 use Rattle.app_words.specs.declared.options.NumberOption.{NumberOption}
@@ -63,8 +63,12 @@ view_app = taking (codes "view")
 unfoldable pub recall_app : App
 recall_app = taking (codes "recall") (until_rule ∷ [])
 
+-- `part --list`
+unfoldable pub part_app : App
+part_app = taking (codes "part") (list_rule ∷ [])
+
 -- the program with the commands that take no options; then with `rehearse` and `agree`; then with
--- `host` and `view`; then with all
+-- `host` and `view`; with `recall`; then with all
 unfoldable pub single_program : App
 single_program =
     with_subcommand (with_subcommand (with_subcommand bare_program run_app.top) format_app.top)
@@ -76,8 +80,11 @@ local_program = with_subcommand (with_subcommand single_program rehearse_app.top
 unfoldable pub shared_program : App
 shared_program = with_subcommand (with_subcommand local_program host_app.top) view_app.top
 
+unfoldable pub logged_program : App
+logged_program = with_subcommand shared_program recall_app.top
+
 unfoldable pub program : App
-program = with_subcommand shared_program recall_app.top
+program = with_subcommand logged_program part_app.top
 
 -- ---- the program's table
 

@@ -87,6 +87,10 @@ flag name = record (new_rule name) { long = Some name; action = Some SetTrue }
 abbrev pub join_rule : Rule
 join_rule = flag (codes "join")
 
+-- `--list`
+abbrev pub list_rule : Rule
+list_rule = flag (codes "list")
+
 -- `--verbose`, or `-v`
 abbrev pub verbose_rule : Rule
 verbose_rule = record (flag (codes "verbose")) { short = Some 118 }

@@ -15,7 +15,7 @@ use Rattle.app_words.specs.declared.order.HostOrder.{HostOrder}
 use Rattle.app_words.specs.declared.order.LogUse.{LogUse}
 use Rattle.app_words.specs.declared.order.LogUse.TheVariants.{Without, GoesOn, Makes}
 use Rattle.app_words.specs.declared.order.Order.{Order}
-use Rattle.app_words.specs.declared.order.Order.TheVariants.{Run, Format, Check, Rehearse, Agree, Host, View, Recall}
+use Rattle.app_words.specs.declared.order.Order.TheVariants.{Run, Format, Check, Rehearse, Agree, Host, View, Recall, Part}
 use Rattle.app_words.specs.declared.order.OrderFault.{OrderFault}
 use Rattle.app_words.specs.declared.order.OrderFault.TheVariants.{Words, Memory}
 use Rattle.app_words.specs.declared.order.ViewEnd.{ViewEnd}
@@ -169,6 +169,7 @@ Asks (Agree viewers turns) p =
 Asks (Host o) p = (p.0 ≡ codes "host") × AsksHost p.1 o × (host_misfit o ≡ None)
 Asks (View o) p = (p.0 ≡ codes "view") × AsksView p.1 o × (misfit_of o ≡ None)
 Asks (Recall until) p = (p.0 ≡ codes "recall") × MayHaveUntil p.1 until
+Asks (Part list) p = (p.0 ≡ codes "part") × (list ≡ is_given (codes "list") p.1)
 
 -- `clap` takes the words, and the command that they name asks for this
 pub record Means (words : List Text) (order : Order) : Type 0 where

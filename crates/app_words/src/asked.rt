@@ -327,6 +327,16 @@ fn recall_in(found: &ArgMatches<'_>) -> Option<Order>
     Some(Order::Recall { until })
 }
 
+fn part_in(found: &ArgMatches<'_>) -> Option<Order>
+    ensures some { IfSome result (λ o. Asks o (codes "part", rows_of (found_of found.now))) }
+    ensures none { IfNone result
+        ((o : OrderOf) → ¬ Asks o (codes "part", rows_of (found_of found.now))) }
+{
+    Some(Order::Part {
+        list: is_named(found, "list"),
+    })
+}
+
 /// Returns why the options of `view` or of `host` don't go together, if the matches are of one of
 /// these and they don't.
 pub fn misfit_in(matches: &ArgMatches<'_>) -> Option<Misfit> {
@@ -358,6 +368,7 @@ fn order_of(name: &str, found: &ArgMatches<'_>) -> Option<Order>
         "host" => host_in(found),
         "view" => view_in(found),
         "recall" => recall_in(found),
+        "part" => part_in(found),
         _ => None,
     }
 }

@@ -7,11 +7,12 @@ ghost use Rattle.clap.specs.declared.builder.command.Command.TheViews.{out-Comma
 ghost use Rattle.app_words.specs.Commands.{bare_program, program, app_with, with_command};
 ghost use Rattle.app_words.specs.Commands.{run_app, format_app, check_app};
 ghost use Rattle.app_words.specs.Commands.{rehearse_app, agree_app, host_app, view_app, recall_app};
+ghost use Rattle.app_words.specs.Commands.{part_app};
 
 use crate::options::{
     AT, BOOT, EXACTLY, FlagOption, GIVE, GIVE_TURNS, HOST_TURNS, HOST_UNTIL, HOST_VIEWERS, JOIN,
-    KEEP, LOG, NEW_LOG, NumberOption, PORT, RECALL_UNTIL, TURNS, TextOption, VERBOSE, VIEW_UNTIL,
-    VIEWERS, WHO, flag_arg, number_arg, text_arg,
+    KEEP, LIST, LOG, NEW_LOG, NumberOption, PORT, RECALL_UNTIL, TURNS, TextOption, VERBOSE,
+    VIEW_UNTIL, VIEWERS, WHO, flag_arg, number_arg, text_arg,
 };
 use clap::Command;
 use std::alloc::{AllocError, Global};
@@ -169,6 +170,24 @@ Status:
   4  a device failed
   5  memory ran out";
 
+const PART_HELP: &str =
+    "A text in the Classic encoding is read from standard input, such as a file of another program.
+
+Nodes, fields and statements that the core doesn't have are left out, with all that names them, and
+so is what `check` refuses. The rest, which `check` calls good, is printed. A line for each thing
+that was left out is printed on standard error, and a last line with their number.
+With --list these lines alone are printed, on standard output.
+
+Example:
+  x3d_share part < room.wrl > room.x3dv
+
+Status:
+  0  the part is printed
+  1  the text is refused, or its part passes a limit
+  2  the words are refused
+  4  a device failed
+  5  memory ran out";
+
 /// What help says of a command, and the options of the command.
 struct CommandWords {
     name: &'static str,
@@ -179,7 +198,7 @@ struct CommandWords {
     flags: &'static [FlagOption],
 }
 
-static COMMANDS: [CommandWords; 8] = [
+static COMMANDS: [CommandWords; 9] = [
     CommandWords {
         name: "run",
         about: "Run a job, and print its trace and then the scene",
@@ -246,12 +265,20 @@ static COMMANDS: [CommandWords; 8] = [
         texts: &[],
         flags: &[],
     },
+    CommandWords {
+        name: "part",
+        about: "Print the part of a text that is a scene, and what is left out on standard error",
+        after_help: PART_HELP,
+        options: &[],
+        texts: &[],
+        flags: &[LIST],
+    },
 ];
 
 /// Returns the commands in the order of help.
 fn commands() -> &'static [CommandWords]
     ensures { map app_with result.now ≡ run_app ∷ format_app ∷ check_app ∷ rehearse_app ∷ agree_app
-        ∷ host_app ∷ view_app ∷ recall_app ∷ [] }
+        ∷ host_app ∷ view_app ∷ recall_app ∷ part_app ∷ [] }
 {
     &COMMANDS
 }

@@ -215,6 +215,12 @@ pub const JOIN: FlagOption = FlagOption {
     help: "Starts from the snapshot that another viewer sends to its port",
 };
 
+pub const LIST: FlagOption = FlagOption {
+    name: "list",
+    letter: None,
+    help: "Prints only what is left out",
+};
+
 pub const VERBOSE: FlagOption = FlagOption {
     name: "verbose",
     letter: Some('v'),

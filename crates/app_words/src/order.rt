@@ -89,6 +89,8 @@ pub enum Order {
     View(ViewOrder),
     /// `recall`: the input is a log's file; at most this many of its inputs, 0 to 2^20, or all.
     Recall { until: Option<u32> },
+    /// `part`: the input is a text; `list` prints only what goes.
+    Part { list: bool },
 }
 
 /// What words ask for: the text of `--help` or `--version`, or a command.

@@ -6,6 +6,7 @@ mod end;
 mod ends;
 mod files;
 mod logs;
+mod parts;
 mod peers;
 mod refused;
 mod stack;
@@ -14,6 +15,7 @@ ghost use Rattle.app_words.specs.Words.{HostInRange, IsInRange};
 
 use crate::end::{End, refuse};
 use crate::logs::{host_over_log, recall};
+use crate::parts::part;
 use crate::peers::{agree, host, rehearse, view};
 use crate::refused::{refused_job, refused_scene};
 use crate::stack::has_room;
@@ -106,6 +108,7 @@ fn obey(rt: &HostRuntime, words: &[&str], order: Order) -> Result<(), End>
         Order::Host(asked) => host_as(rt, words, &order, &asked)?,
         Order::View(asked) => view(rt, &order, &asked)?,
         Order::Recall { until } => recall(rt, until)?,
+        Order::Part { list } => part(rt, list)?,
     }
     Ok(())
 }
