@@ -39,8 +39,8 @@ enum x3d_status {
   X3D_SCENE = 1,           /* the scene or its scripts are refused; the refusal's line says why */
   X3D_MEMORY = 5,          /* memory ran out; at an input or a load this spoils the world */
   X3D_CLOSED = 10,         /* the handle holds nothing */
-  X3D_RANGE = 11,          /* a number is out of its range */
-  X3D_ROOM = 12,           /* not enough room: nothing was copied, `wanted` is the size needed */
+  X3D_RANGE = 11,          /* a number that was passed is not one that the call allows */
+  X3D_ROOM = 12,           /* `room` is too small: nothing was copied, `wanted` is the room needed */
   X3D_SPOILED = 20,        /* memory ran out before: only a snapshot brings the world back */
   X3D_NOT_NEXT = 21,       /* the input's number is not the next one */
   X3D_TIME_NOT_LATER = 22, /* the input's time is not above that of the last one */
@@ -61,7 +61,7 @@ enum x3d_status {
   X3D_BAD_TAG = 41,        /* the datagram's tag is unknown */
   X3D_BAD_RANGE = 42,      /* a field of the datagram is out of its range */
   X3D_ZERO_RAY = 43,       /* the direction is 0 0 0 */
-  X3D_BAD_VIEWER = 44,     /* the host has no such viewer */
+  X3D_BAD_VIEWER = 44,     /* the host has no such viewer, or the datagram is another viewer's */
   X3D_WORLD_FULL = 45,     /* the host has numbered 2^20 inputs */
   X3D_TIME_RANGE = 46,     /* the time is above 10^18 microseconds */
   X3D_FLOOR_BACK = 47,     /* the floor may not move back */
@@ -71,7 +71,8 @@ enum x3d_status {
   X3D_OFFER_FULL = 52,     /* 64 offers wait already */
   X3D_OFFERS_SPENT = 53,   /* 2^32 - 1 offers were made in this boot */
   X3D_NOT_PIECE = 54,      /* the datagram is not a piece of a snapshot */
-  X3D_NOT_WHOLE = 55       /* pieces of the snapshot are missing */
+  X3D_NOT_WHOLE = 55,      /* pieces of the snapshot are missing */
+  X3D_TOO_LARGE = 56       /* the snapshot is too large to be sent in pieces */
 };
 
 /* What an input led to: the number of outputs that sent, of routes that were followed, and of
@@ -100,11 +101,78 @@ struct x3d_met {
   uint64_t m;
 };
 
+/* The types of values. No field has a value of type X3D_SFROTATION yet. */
+enum x3d_type {
+  X3D_SFBOOL = 0,
+  X3D_SFINT32 = 1,
+  X3D_SFFLOAT = 2,
+  X3D_SFTIME = 3,
+  X3D_SFSTRING = 4,
+  X3D_SFVEC2F = 5,
+  X3D_SFVEC3F = 6,
+  X3D_SFCOLOR = 7,
+  X3D_SFNODE = 8,
+  X3D_MFBOOL = 9,
+  X3D_MFINT32 = 10,
+  X3D_MFFLOAT = 11,
+  X3D_MFTIME = 12,
+  X3D_MFSTRING = 13,
+  X3D_MFVEC2F = 14,
+  X3D_MFVEC3F = 15,
+  X3D_MFCOLOR = 16,
+  X3D_MFNODE = 17,
+  X3D_SFROTATION = 18
+};
+
+/* A field that was set. Its value is of type `value_type` (an x3d_type), and the numbers of the
+ * value are the `count` ones from place `first` on in the list of numbers. */
+struct x3d_change {
+  uint32_t node;
+  uint16_t field;
+  uint8_t value_type;
+  uint32_t first;
+  uint32_t count;
+};
+
 /* The boot number stored in a snapshot, and the number of inputs that its world had applied. A boot
  * is a number that rises with each start of a viewer. */
 struct x3d_saved {
   uint32_t boot;
   uint32_t applied;
+};
+
+/* What a datagram is: its tag, and what `number` is then. */
+enum x3d_tag {
+  X3D_TAG_INPUT = 1, /* from the host: the input's number */
+  X3D_TAG_OFFER = 2, /* from a viewer: the offer's number in that boot, from 1 */
+  X3D_TAG_ASK = 3,   /* from a viewer: the number of the first input that it lacks */
+  X3D_TAG_ACK = 4,   /* from the host: the number of offers of that boot that are numbered */
+  X3D_TAG_FLOOR = 5, /* from the host: the floor */
+  X3D_TAG_PIECE = 6  /* from a viewer: the number of inputs that the snapshot's world has had */
+};
+
+/* No viewer has this number. */
+#define X3D_NO_VIEWER 255
+
+/* Whether a datagram has a pointer, and the state of its button. */
+enum x3d_button {
+  X3D_NO_POINT = 0,
+  X3D_POINT_UP = 1,
+  X3D_POINT_DOWN = 2
+};
+
+/* What a datagram says. `who` is the viewer that offers, asks, is acknowledged, or pointed in an
+ * input; X3D_NO_VIEWER for a clock, a floor or a piece. `boot` is that of an offer, an ack or a
+ * piece, and `time` that of an input. `aim` is set if `point` (an x3d_button) is not X3D_NO_POINT.
+ * All else is 0. */
+struct x3d_datagram {
+  uint8_t tag;
+  uint8_t who;
+  uint8_t point;
+  uint32_t boot;
+  uint32_t number;
+  int64_t time;
+  struct x3d_aim aim;
 };
 
 /* What a host did with a datagram. On X3D_REPLY_ASKED, send the datagrams of the `count` inputs
@@ -176,6 +244,13 @@ uint32_t x3d_abi(void);
  * `unknown status`. */
 const char *x3d_status_text(uint8_t status);
 
+/* ---- datagrams */
+
+/* Writes what a datagram says. Any program that carries datagrams may call it: it looks at no
+ * handle, and not at the mark of the datagram's scene. May return X3D_BAD_PACKET, X3D_BAD_VERSION,
+ * X3D_BAD_TAG, X3D_BAD_RANGE or X3D_ZERO_RAY if the bytes are not a datagram. */
+uint8_t x3d_datagram_read(const uint8_t *bytes, size_t length, struct x3d_datagram *datagram);
+
 /* ---- a world */
 
 /* Opens the world of a scene's text (Classic encoding). It replaces the one that the handle had.
@@ -202,10 +277,11 @@ uint8_t x3d_world_clock(struct x3d_world *world, uint32_t number, int64_t time,
  * microseconds, and writes what it led to. */
 uint8_t x3d_world_point(struct x3d_world *world, uint32_t number, int64_t time, uint8_t viewer,
                         bool down, const struct x3d_aim *aim, struct x3d_work *work);
-/* Writes where a ray would enter what it hits first, and lists the sensors that the hit concerns.
- * Going up from the Box that is hit, take the first list with an enabled pointing sensor: a list is
- * a `children` field, but not a Switch's, and last the roots. All enabled pointing sensors in it
- * are listed. The world is unchanged. May return, in this order: X3D_RANGE if the ray is out of its
+/* Writes where a ray would enter the Box that it hits first, and lists the sensors that the hit
+ * concerns, as x3d_world_point with this ray would find them. These are the enabled pointing
+ * sensors next to the Box's Shape, in one `children` field or among the roots. If there are none,
+ * those next to the node that holds the Shape, and so on upwards; the children of a Switch do not
+ * count. The world is unchanged. May return, in this order: X3D_RANGE if the ray is out of its
  * range, X3D_SPOILED, or X3D_MEMORY. */
 uint8_t x3d_world_meet(struct x3d_world *world, const struct x3d_aim *aim, struct x3d_met *met);
 
@@ -218,9 +294,9 @@ uint8_t x3d_world_meet(struct x3d_world *world, const struct x3d_aim *aim, struc
 /* Makes the lines of the trace of inputs from number `first` on: `<input> <seconds> <label>.<field>
  * <value>`. From 0 on it is the whole trace. */
 uint8_t x3d_world_make_trace(struct x3d_world *world, uint32_t first);
-/* Makes the same lines with numbers: `<input> <seconds> <node> <field> <value>`. A line names a field
- * that an input changed; read the field's value to draw it, since an output sends once in an input
- * and may be set again after that. */
+/* Makes the same lines with numbers: `<input> <seconds> <node> <field> <value>`. A line has the
+ * value that was sent. Do not draw it: an output sends once in an input, and its field may be set
+ * again after that. x3d_world_list_changed has the fields with their current values. */
 uint8_t x3d_world_make_changes(struct x3d_world *world, uint32_t first);
 /* Makes the current scene, in the Classic encoding. */
 uint8_t x3d_world_make_scene(struct x3d_world *world);
@@ -270,13 +346,28 @@ uint8_t x3d_world_list_value(struct x3d_world *world, uint32_t node, uint16_t fi
  * X3D_ROOM if there is no room for `wanted` numbers; nothing is copied then. */
 uint8_t x3d_world_copy_numbers(struct x3d_world *world, int64_t *out, size_t room, size_t *wanted);
 
+/* ---- changes: a call lists them, then x3d_world_copy_changed copies them, and
+ * x3d_world_copy_numbers their numbers */
+
+/* Lists the fields that inputs after number `since` set: each field once, with its current value,
+ * in the order in which each was first set. `since` is 0, or the number of inputs that were applied
+ * when the world was drawn last. A field is listed even if its value is the same again. One that
+ * only sends holds no value and is not listed. The numbers of all values replace the numbers that
+ * were listed before; a string field has none. If the call fails, both lists are empty. May return:
+ * X3D_SPOILED, or X3D_MEMORY (also for more than 2^32 - 1 numbers). */
+uint8_t x3d_world_list_changed(struct x3d_world *world, uint32_t since);
+/* Copies the fields that were listed last, and writes how many there are to `wanted`. May return:
+ * X3D_ROOM if there is no room for `wanted` of them; nothing is copied then. */
+uint8_t x3d_world_copy_changed(struct x3d_world *world, struct x3d_change *out, size_t room,
+                               size_t *wanted);
+
 /* ---- snapshots */
 
-/* Replaces the world, even a spoiled one, with that of a snapshot of this scene whose boot number
- * is below `boot`, and writes the snapshot's boot and its number of applied inputs. May return, in
- * this order: X3D_SHORT, X3D_BAD_MAGIC, X3D_BAD_VERSION, X3D_WRONG_SCENE, X3D_BAD_DIGEST,
- * X3D_NOT_CANONICAL, X3D_BOOT_NOT_NEW, or X3D_SCRIPT_STATE. It may also return X3D_MEMORY, which
- * spoils the world. */
+/* Replaces the world, even a spoiled one, with that of a snapshot of this scene, and writes the
+ * snapshot's boot and its number of applied inputs. `boot` has to be above the boot number stored
+ * in the snapshot. May return, in this order: X3D_SHORT, X3D_BAD_MAGIC, X3D_BAD_VERSION,
+ * X3D_WRONG_SCENE, X3D_BAD_DIGEST, X3D_NOT_CANONICAL, X3D_BOOT_NOT_NEW, or X3D_SCRIPT_STATE: the
+ * world is then what it was. It may also return X3D_MEMORY, which spoils the world. */
 uint8_t x3d_world_load(struct x3d_world *world, uint32_t boot, const uint8_t *bytes, size_t length,
                        struct x3d_saved *saved);
 
@@ -312,6 +403,10 @@ uint8_t x3d_host_clock(struct x3d_host *host, int64_t time, uint32_t *number);
  * x3d_host_clock if an offer cannot be numbered. */
 uint8_t x3d_host_take(struct x3d_host *host, const uint8_t *bytes, size_t length,
                       struct x3d_reply *reply);
+/* Takes a datagram that came from viewer `who`, like x3d_host_take: an offer or an ask of another
+ * viewer is refused with X3D_BAD_VIEWER, after X3D_WRONG_SCENE, and nothing changes. */
+uint8_t x3d_host_take_from(struct x3d_host *host, uint8_t who, const uint8_t *bytes, size_t length,
+                           struct x3d_reply *reply);
 /* Copies the datagram of input `number`. There is none (X3D_NO_PACKET) below the floor, or if that
  * input is not numbered yet. */
 uint8_t x3d_host_packet(struct x3d_host *host, uint32_t number, uint8_t *out, size_t room,
@@ -319,6 +414,13 @@ uint8_t x3d_host_packet(struct x3d_host *host, uint32_t number, uint8_t *out, si
 /* Copies the ack of viewer `who`: the datagram that says how many of its offers are numbered. May
  * return: X3D_RANGE if there is no such viewer. */
 uint8_t x3d_host_ack(struct x3d_host *host, uint8_t who, uint8_t *out, size_t room, size_t *wanted);
+/* Writes the highest number that viewer `who` has asked from: it has all inputs below. 0 if it has
+ * not asked. May return: X3D_RANGE if there is no such viewer. */
+uint8_t x3d_host_heard(struct x3d_host *host, uint8_t who, uint32_t *asked);
+/* Drops the inputs that every viewer that has asked has, except the last `count` of them. A viewer
+ * that never asked does not count. If none has asked, or there is nothing to drop, the host stays as
+ * it was. */
+uint8_t x3d_host_keep(struct x3d_host *host, uint32_t count);
 /* Writes the floor: inputs below it have no datagrams. It is 1 at first. */
 uint8_t x3d_host_floor(struct x3d_host *host, uint32_t *number);
 /* Copies the datagram that reports the floor. */
@@ -371,16 +473,18 @@ uint8_t x3d_viewer_ask(struct x3d_viewer *viewer, uint8_t *out, size_t room, siz
  * x3d_viewer_copy_text copies it. May return: X3D_SPOILED or X3D_MEMORY. */
 uint8_t x3d_viewer_make_snapshot(struct x3d_viewer *viewer);
 /* Restarts the viewer from a snapshot, under a new boot number, even if the viewer is spoiled, and
- * writes the number of inputs that the world has had. Then no offer waits, and offers are numbered
- * from 1. May return, in this order: X3D_BOOT_NOT_NEW if `boot` is not above the viewer's, or the
- * statuses of x3d_world_load. X3D_MEMORY spoils the viewer. */
+ * writes the number of inputs that the world has had. After X3D_DONE no offer waits, and offers are
+ * numbered from 1. May return, in this order: X3D_BOOT_NOT_NEW if `boot` is not above the viewer's,
+ * or the statuses of x3d_world_load. X3D_MEMORY spoils the viewer. */
 uint8_t x3d_viewer_rewind(struct x3d_viewer *viewer, uint32_t boot, const uint8_t *bytes,
                           size_t length, uint32_t *applied);
 /* Writes the number of pieces that the bytes of a snapshot have: 0 if they do not begin as a
- * snapshot, or are more than 2^26 bytes. */
+ * snapshot. They may be the snapshot of any world or viewer of the scene. May return: X3D_TOO_LARGE
+ * for more than 2^26 bytes; `count` is then 0. */
 uint8_t x3d_viewer_piece_count(struct x3d_viewer *viewer, const uint8_t *bytes, size_t length,
                                uint32_t *count);
-/* Copies the datagram of piece `index`, from 0, for another viewer of the scene. */
+/* Copies the datagram of piece `index`, from 0, of these bytes, for other viewers of the same
+ * scene. Of `viewer` only the scene's mark is used. */
 uint8_t x3d_viewer_piece(struct x3d_viewer *viewer, const uint8_t *bytes, size_t length,
                          uint32_t index, uint8_t *out, size_t room, size_t *wanted);
 /* Gathers a datagram that is a piece, even if the viewer is spoiled, and writes what was done with
@@ -389,8 +493,9 @@ uint8_t x3d_viewer_piece(struct x3d_viewer *viewer, const uint8_t *bytes, size_t
 uint8_t x3d_viewer_gather(struct x3d_viewer *viewer, const uint8_t *bytes, size_t length,
                           uint32_t *gathered);
 /* Restarts the viewer from the snapshot that was gathered, under a new boot number, as
- * x3d_viewer_rewind does. Then no piece is kept. May return, in this order: X3D_NOT_WHOLE if pieces
- * are missing, or the statuses of x3d_viewer_rewind. Then the gathered pieces are kept. */
+ * x3d_viewer_rewind does. After X3D_DONE no piece is kept; after any other status all gathered
+ * pieces are. May return, in this order: X3D_NOT_WHOLE if pieces are missing, or the statuses of
+ * x3d_viewer_rewind. */
 uint8_t x3d_viewer_join(struct x3d_viewer *viewer, uint32_t boot, uint32_t *applied);
 /* Drops what was gathered. */
 uint8_t x3d_viewer_forget(struct x3d_viewer *viewer);
@@ -413,6 +518,9 @@ uint8_t x3d_viewer_list_roots(struct x3d_viewer *viewer);
 uint8_t x3d_viewer_list_children(struct x3d_viewer *viewer, uint32_t node);
 uint8_t x3d_viewer_list_value(struct x3d_viewer *viewer, uint32_t node, uint16_t field);
 uint8_t x3d_viewer_copy_numbers(struct x3d_viewer *viewer, int64_t *out, size_t room,
+                                size_t *wanted);
+uint8_t x3d_viewer_list_changed(struct x3d_viewer *viewer, uint32_t since);
+uint8_t x3d_viewer_copy_changed(struct x3d_viewer *viewer, struct x3d_change *out, size_t room,
                                 size_t *wanted);
 uint8_t x3d_viewer_meet(struct x3d_viewer *viewer, const struct x3d_aim *aim, struct x3d_met *met);
 

@@ -26,7 +26,7 @@ def structs():
     """The fields of each struct, in order: their types and names."""
     found = {}
     for name, body in re.findall(r"^struct (\w+) \{(.*?)\};", HEADER, re.M | re.S):
-        fields = re.findall(r"(\w+ \*|\w+ )(\w+);", body)
+        fields = re.findall(r"((?:struct )?\w+ \*?)(\w+);", body)
         found[name] = [(kind.strip(), field) for kind, field in fields]
     return found
 

@@ -19,6 +19,8 @@ SECONDS = 1800
 FEWEST_JOBS = 100
 QUICK_JOBS = 50
 FILLER = b"\xaa"
+# The sizes of structs, and the places in them that hold nothing: as in bindings/js/tests/caller.js.
+UNUSED = {"struct x3d_change *": (16, [7]), "struct x3d_datagram *": (72, [3, 12, 13, 14, 15])}
 # What the job prints that the page shows.
 DOOR = (TOP / "examples/door.job.stdout").read_bytes()
 # Node until version 23 has memories of 64 bits by this flag alone.
@@ -87,6 +89,15 @@ def passed(given, handles, outs):
     return [ctypes.c_int64(int(given["number"]))]
 
 
+def without_unused(written, kind):
+    """Structs whose unused bytes are fillers: what a call leaves there is not said."""
+    size, places = UNUSED.get(kind, (len(written), []))
+    found = bytearray(written)
+    for place in places:
+        found[place::size] = FILLER * len(found[place::size])
+    return bytes(found)
+
+
 def beside_native(log):
     """Makes the random calls again, by the native library: each has to return the same, and write the same."""
     what = "random calls, beside the native library"
@@ -103,7 +114,8 @@ def beside_native(log):
         function = getattr(library, entry["name"])
         function.restype = None if entry["name"].endswith("_close") else ctypes.c_uint8
         status = function(*words) or 0
-        written = [out.raw.rstrip(FILLER).hex() for out in outs]
+        kinds = [given.get("type") for given in entry["given"] if "out" in given]
+        written = [without_unused(out.raw, kind).rstrip(FILLER).hex() for out, kind in zip(outs, kinds)]
         if (status, written) != (entry["status"], entry["written"]):
             return tell(what, False, f", call {k}: {entry}, and by {native}: {status}, {written}")
     tell(what, True, f", {len(entries)} calls")

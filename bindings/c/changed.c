@@ -1,5 +1,6 @@
 /* What inputs changed, in a world and in a viewer. Two routes set one field in one clock: its line
- * has the value that was sent, the first, and what it holds is the second. */
+ * has the value that was sent, the first, and what it holds is the second. The list of changed
+ * fields has it once, with what it holds. */
 #include "x3d.h"
 #include <stdio.h>
 #include <stdlib.h>
@@ -47,6 +48,29 @@ static void must(bool holds, const char *what) {
     must(x3d_##OF##_make_value(o, DOOR, translation) == X3D_DONE, "the door has no place");        \
     OF##_text(o, text, sizeof text);                                                               \
     must(strcmp(text, "0 2.5 0") == 0, "the scene has another value");                             \
+    struct x3d_change changes[16];                                                                 \
+    int64_t numbers[64];                                                                           \
+    size_t count = 777, all = 777, found = 0;                                                      \
+    must(x3d_##OF##_list_changed(o, 0) == X3D_DONE &&                                              \
+             x3d_##OF##_copy_changed(o, changes, 0, &count) == X3D_ROOM && count == 1 &&           \
+             x3d_##OF##_copy_changed(o, changes, 16, &count) == X3D_DONE &&                        \
+             x3d_##OF##_copy_numbers(o, numbers, 64, &all) == X3D_DONE,                            \
+         "no fields are listed");                                                                  \
+    for (size_t k = 0; k < count; k++) {                                                           \
+      const struct x3d_change *c = &changes[k];                                                    \
+      must(c->first + c->count <= all, "numbers are missing");                                     \
+      if (c->node != DOOR) continue;                                                               \
+      found++;                                                                                     \
+      must(c->field == translation && c->value_type == X3D_SFVEC3F && c->count == 3,               \
+           "the door has another field");                                                          \
+      must(numbers[c->first] == 0 && numbers[c->first + 1] == 2500000 &&                           \
+               numbers[c->first + 2] == 0,                                                         \
+           "the door is listed with the value that was sent");                                     \
+    }                                                                                              \
+    must(found == 1, "the door is not listed once");                                               \
+    must(x3d_##OF##_list_changed(o, 1) == X3D_DONE &&                                              \
+             x3d_##OF##_copy_changed(o, changes, 0, &count) == X3D_DONE && count == 0,             \
+         "a field is listed that no later input set");                                             \
   }
 CALLS(world)
 CALLS(viewer)

@@ -13,6 +13,7 @@ static int run(void) {
   size_t wanted = 0;
   uint32_t applied = 0;
   uint16_t field;
+  struct x3d_change changes[64];
   int status =
       x3d_world_open(&world, (const uint8_t *)scene, sizeof scene - 1, line, sizeof line, &wanted);
   if (!told(status)) return 1;
@@ -29,6 +30,10 @@ static int run(void) {
   if (!told(x3d_world_make_trace(&world, 0)) || !told(x3d_world_make_scene(&world))) return 7;
   if (!told(x3d_world_make_changes(&world, 2)) || !told(x3d_world_make_value(&world, 0, 0)))
     return 8;
+  status = x3d_world_list_changed(&world, 0);
+  if (!told(status)) return 20;
+  if (x3d_world_copy_changed(&world, changes, 64, &wanted) != X3D_DONE) return 21;
+  if ((wanted != 0) != (status == X3D_DONE && applied > 0)) return 22;
   if (!told(x3d_world_make_label(&world, 2)) || !told(x3d_world_make_type(&world, 2))) return 9;
   if (!told(x3d_world_list_roots(&world)) || !told(x3d_world_list_children(&world, 2))) return 10;
   /* It takes no memory. */

@@ -61,7 +61,7 @@ static int run(void) {
         x3d_viewer_copy_text(&viewers[0], shot, sizeof shot, &length) != X3D_DONE)
       wrong = 31;
     if (!told(x3d_viewer_make_trace(&viewers[0], 0)) || !told(x3d_viewer_make_scene(&viewers[0])) ||
-        !told(x3d_viewer_list_roots(&viewers[0])))
+        !told(x3d_viewer_list_roots(&viewers[0])) || !told(x3d_viewer_list_changed(&viewers[0], 0)))
       wrong = 32;
   }
   if (!wrong && viewers[1].at && length) {

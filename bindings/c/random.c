@@ -18,6 +18,7 @@ int main(int count, char **words) {
   uint32_t next[4] = {1, 1, 1, 1};
   uint8_t bytes[4096], shots[4][4096];
   int64_t numbers[64];
+  struct x3d_change changes[8];
   size_t wanted, lengths[4] = {0, 0, 0, 0};
   long calls = count > 1 ? atol(words[1]) : 100000, done = 0;
   for (long k = 0; k < calls; k++) {
@@ -34,7 +35,7 @@ int main(int count, char **words) {
     /* The next input mostly has the next number and a later time. */
     uint32_t n = below(4) ? next[w] : (uint32_t)number();
     int64_t t = below(8) ? (int64_t)n * 400000 : (int64_t)any();
-    switch (below(25)) {
+    switch (below(26)) {
     case 0:
     case 1: {
       const char *text = scenes[below(5)];
@@ -91,6 +92,10 @@ int main(int count, char **words) {
           x3d_world_field_named(world, (uint32_t)number(), (const uint8_t *)name, length, &field);
       break;
     }
+    case 25:
+      status = x3d_world_list_changed(world, (uint32_t)number()) +
+               x3d_world_copy_changed(world, changes, below(8), &wanted);
+      break;
     case 23: {
       int from = (int)below(4);
       memcpy(bytes, shots[from], lengths[from]);

@@ -40,6 +40,8 @@ int main(int count, char **words) {
   static uint8_t shot[1 << 16];
   uint8_t out[512], bytes[X3D_PACKET], text[4096];
   int64_t numbers[64];
+  struct x3d_change changes[8];
+  struct x3d_datagram datagram;
   size_t wanted, shot_length = 0, length, n;
   uint32_t told;
   uint16_t field;
@@ -58,7 +60,7 @@ int main(int count, char **words) {
     size_t room = below(8) ? sizeof out : below(sizeof out);
     const char *scene = scenes[below(12) ? 0 : below(3)];
     int status = 0;
-    switch (below(34)) {
+    switch (below(38)) {
     case 0:
       if (!below(8))
         status = x3d_host_open(host, (const uint8_t *)scene, strlen(scene), (uint8_t)below(66));
@@ -178,6 +180,22 @@ int main(int count, char **words) {
       status += x3d_viewer_meet(viewer, &aim, &met) +
                 x3d_viewer_copy_numbers(viewer, numbers, below(64), &wanted) +
                 x3d_viewer_node_count(viewer, &n);
+      break;
+    case 34:
+      status = x3d_viewer_list_changed(viewer, (uint32_t)number()) +
+               x3d_viewer_copy_changed(viewer, changes, below(8), &wanted);
+      break;
+    case 35:
+      length = some(bytes);
+      status = x3d_datagram_read(bytes, length, &datagram);
+      break;
+    case 36:
+      length = some(bytes);
+      status = x3d_host_take_from(host, (uint8_t)below(5), bytes, length, &reply);
+      break;
+    case 37:
+      status = x3d_host_heard(host, (uint8_t)below(66), &told);
+      if (!below(16)) status += x3d_host_keep(host, (uint32_t)number());
       break;
     }
     done += status == X3D_DONE;

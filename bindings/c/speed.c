@@ -1,6 +1,6 @@
 /* Measures calls, in processor time: clocks with nothing to do on a world without nodes and on one
- * of 50,000, a field by its name, the lines of the last input behind few lines and behind many, and
- * what 1,000 small worlds take of time and memory. */
+ * of 50,000, a field by its name, the lines and the fields of the last input after few lines and after
+ * many, and what 1,000 small worlds take of time and memory. */
 #include "x3d.h"
 #include <stdio.h>
 #include <stdlib.h>
@@ -75,6 +75,15 @@ static void frames(uint32_t many) {
   for (int k = 0; k < reads; k++)
     if (x3d_world_make_changes(&world, many + 1) != X3D_DONE) stop("no lines");
   printf("  %.0f ns to read that nothing came behind them\n", (now() - begun) / reads);
+  struct x3d_change changes[8];
+  int64_t numbers[8];
+  begun = now();
+  for (int k = 0; k < reads; k++)
+    if (x3d_world_list_changed(&world, many - 1) != X3D_DONE ||
+        x3d_world_copy_changed(&world, changes, 8, &wanted) != X3D_DONE ||
+        x3d_world_copy_numbers(&world, numbers, 8, &wanted) != X3D_DONE)
+      stop("no fields");
+  printf("  %.0f ns to list and copy the fields that it set\n", (now() - begun) / reads);
   x3d_world_close(&world);
 }
 

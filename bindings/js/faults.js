@@ -44,6 +44,7 @@ const REASONS = {
   53: "OffersSpent",
   54: "NotPiece",
   55: "NotWhole",
+  56: "TooLarge",
 };
 
 export class Refusal extends Error {

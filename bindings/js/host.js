@@ -33,9 +33,29 @@ export class Host extends Held {
   take(datagram) {
     return this._library.lend(datagram, (...bytes) => {
       this._call("take", ...bytes, this._library.out);
-      const [kind, number, count] = [0, 1, 2].map((place) => this._library.told(place));
-      return { kind: REPLIES[kind], number, count };
+      return this._reply();
     });
+  }
+
+  /** What the host did with a datagram. */
+  _reply() {
+    const [kind, number, count] = [0, 1, 2].map((place) => this._library.told(place));
+    return { kind: REPLIES[kind], number, count };
+  }
+
+  takeFrom(who, datagram) {
+    return this._library.lend(datagram, (...bytes) => {
+      this._call("take_from", fits(who, 8), ...bytes, this._library.out);
+      return this._reply();
+    });
+  }
+
+  heard(who) {
+    return this._number("heard", fits(who, 8)) || null;
+  }
+
+  keep(count) {
+    this._call("keep", fits(count, 32));
   }
 
   packet(number) {

@@ -47,6 +47,35 @@ export interface Change {
   value: string;
 }
 
+/** A field that was set, with the type and the numbers of its current value; a text has no numbers. */
+export interface Changed {
+  node: number;
+  field: number;
+  type: string;
+  numbers: BigInt64Array;
+}
+
+/** What a datagram says:
+ * - `Input`, of the host: its number and time; with a pointer also who pointed, and `aim`;
+ * - `Offer`, of viewer `who`: its number in its boot, and `aim`;
+ * - `Ask`, of viewer `who`: the number of the first input that it lacks;
+ * - `Ack`, of the host: the number of offers of viewer `who` in that boot that are numbered;
+ * - `Floor`, of the host: the floor;
+ * - `Piece`, of a viewer: the boot of the snapshot, and the number of inputs that its world has had. */
+export interface Datagram {
+  kind: "Input" | "Offer" | "Ask" | "Ack" | "Floor" | "Piece";
+  who: number | null;
+  boot: number;
+  number: number;
+  time: bigint;
+  down: boolean;
+  aim: Aim | null;
+}
+
+/** Reads a datagram; the scene's mark is not looked at. Faults: `BadPacket`, `BadVersion`, `BadTag`, `BadRange`,
+ * `ZeroRay`. */
+export function datagram(library: Library, bytes: Uint8Array): Datagram;
+
 /** What an input led to: the number of outputs that sent, of routes that were followed, and of scripts that settled. */
 export interface Work {
   sends: number;
@@ -116,6 +145,9 @@ declare abstract class Readable extends Held {
   trace(first?: number): string;
   /** The same lines with the numbers of nodes and fields. */
   changes(first?: number): Change[];
+  /** The fields that inputs after number `since` set, each once, with their current values. `since` is 0, or what
+   * `applied` was when the world was drawn last. A field that only sends holds no value and is left out. */
+  changed(since?: number): Changed[];
   /** The current scene, in the Classic encoding. */
   scene(): string;
   /** The number of nodes, which are numbered from 0. */
@@ -173,6 +205,13 @@ export class Host extends Held {
    * `BadVersion`, `BadTag`, `BadRange`, `ZeroRay` (the bytes are not a datagram), `WrongScene`, `BadViewer`, and for an
    * offer those of `clock`. */
   take(datagram: Uint8Array): Reply;
+  /** Takes a datagram that came from viewer `who`, like `take`. An offer or an ask of another viewer is refused with
+   * `BadViewer`, and nothing changes. */
+  takeFrom(who: number, datagram: Uint8Array): Reply;
+  /** The highest number that viewer `who` has asked from: it has all inputs below. null if it has not asked. */
+  heard(who: number): number | null;
+  /** Drops the inputs that every viewer that asked has, except the last `count` of them. */
+  keep(count: number): void;
   /** The datagram of input `number`; null below the floor, or if that input is not numbered yet. */
   packet(number: number): Uint8Array | null;
   /** What a reply asks to be sent: the inputs that were asked for, at most 64, or the floor if they are below it. */
@@ -219,7 +258,7 @@ export class Viewer extends Readable {
    * inputs that the world has had. Then no offer waits, and offers are numbered from 1. */
   rewind(snapshot: Uint8Array, boot: number): number;
   /** The datagrams of a snapshot, or of its own as it is now, for another viewer that is `Behind`; none if the bytes do
-   * not begin as a snapshot, or are more than 2^26. */
+   * not begin as a snapshot. Fault `TooLarge` for more than 2^26 bytes. */
   pieces(snapshot?: Uint8Array): Uint8Array[];
   /** Gathers a piece of a snapshot: `New`; `Again`: it had come before; `Whole`: none is missing now, so `join`;
    * `Other`: it is of another snapshot than the one that was begun, which `forget` drops. */

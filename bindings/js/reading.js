@@ -1,4 +1,5 @@
 // What an object of the library holds, and what is read of a world.
+import { CHANGE_SIZE, changedOf } from "./changed.js";
 import { changesOf } from "./changes.js";
 import { CLOSED, DONE, Fault, Refusal, SCENE } from "./faults.js";
 import { Library } from "./library.js";
@@ -128,6 +129,12 @@ export class Readable extends Held {
 
   changes(first = 0) {
     return changesOf(this._text("make_changes", fits(first, 32)));
+  }
+
+  changed(since = 0) {
+    this._call("list_changed", fits(since, 32));
+    const fields = this._library.copied((...out) => this._status("copy_changed", ...out), CHANGE_SIZE);
+    return changedOf(fields, this._numbers());
   }
 
   scene() {

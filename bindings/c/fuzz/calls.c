@@ -60,11 +60,12 @@ static void ask(struct x3d_world *world, struct schedule *s) {
   uint32_t node = (uint32_t)few(s), count = 0;
   uint16_t field = (uint16_t)few(s), found = 0;
   int64_t numbers[32];
+  struct x3d_change changes[8];
   uint8_t out[64];
   size_t wanted = 0;
   struct x3d_met met;
   struct x3d_aim aim;
-  switch (taken(s, 1) % 13) {
+  switch (taken(s, 1) % 14) {
   case 0: x3d_world_make_trace(world, node); break;
   case 1: x3d_world_make_changes(world, node); break;
   case 2: x3d_world_make_scene(world); break;
@@ -81,6 +82,10 @@ static void ask(struct x3d_world *world, struct schedule *s) {
     break;
   case 11:
     x3d_world_field_named(world, node, (const uint8_t *)"children", field % 9, &found);
+    break;
+  case 12:
+    x3d_world_list_changed(world, node);
+    x3d_world_copy_changed(world, changes, field % 8, &wanted);
     break;
   default:
     x3d_world_field_count(world, node, &count);

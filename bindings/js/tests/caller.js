@@ -6,15 +6,18 @@ const KEPT = 64;
 const GUARD = 16;
 const FILLER = 0xaa;
 const HANDLE = /^struct x3d_(world|host|viewer) \*$/;
-const SIZES = { x3d_work: 24, x3d_met: 16, x3d_saved: 8, x3d_reply: 12, x3d_taken: 8 };
+const SIZES = { x3d_work: 24, x3d_met: 16, x3d_saved: 8, x3d_reply: 12, x3d_taken: 8, x3d_datagram: 72 };
+/** The sizes of items that are copied as a list, and the places in a struct that hold nothing. */
+const ITEMS = { "uint8_t *": 1, "int64_t *": 8, "struct x3d_change *": 16 };
+const UNUSED = { "struct x3d_change *": [16, [7]], "struct x3d_datagram *": [72, [3, 12, 13, 14, 15]] };
 const WIDTHS = { "uint32_t *": 4, "uint16_t *": 2, "size_t *": 8 };
 const NAMES = ["translation", "children", "set_fraction", "\u00e9", ""];
 const OF_SNAPSHOTS = /_(load|rewind|piece|piece_count)$/;
 const encoder = new TextEncoder();
 
-/** The functions of a header: the name, and the type and the name of each parameter. */
+/** The functions of a header that return a status: the name, and the type and the name of each parameter. */
 function declared(header) {
-  return Array.from(header.matchAll(/^\w+ (x3d_\w+)\(([^)]*)\);/gm), ([, name, list]) => {
+  return Array.from(header.matchAll(/^\w+ (x3d_[a-z]+_\w+)\(([^)]*)\);/gm), ([, name, list]) => {
     const parameters = list.split(",").map((part) => /^\s*(.*?)(\w+)\s*$/s.exec(part).slice(1).map((word) => word.trim()));
     return { name, parameters };
   });
@@ -102,11 +105,11 @@ export class Caller {
         made.push({ kind, which });
       } else if (type === "const struct x3d_aim *") made.push({ bytes: this.#aim() });
       else if (type === "const uint8_t *") k++, made.push({ bytes: this.#bytes(name, word), counted: true });
-      else if (type === "uint8_t *" || type === "int64_t *") {
-        const width = type === "int64_t *" ? 8 : 1;
+      else if (type in ITEMS && parameters[k + 1]?.[1] === "room") {
+        const width = ITEMS[type];
         const room = (this.#below(8) ? 8192 : this.#below(300)) / width;
-        k++, made.push({ out: Math.floor(room) * width, room: Math.floor(room) });
-      } else if (type.endsWith("*")) made.push({ out: WIDTHS[type] ?? SIZES[type.split(" ")[1]] });
+        k++, made.push({ out: Math.floor(room) * width, room: Math.floor(room), type });
+      } else if (type.endsWith("*")) made.push({ out: WIDTHS[type] ?? SIZES[type.split(" ")[1]], type });
       else made.push({ number: this.#number(type, word, handle) });
     }
     return made;
@@ -115,18 +118,18 @@ export class Caller {
   /** Calls a function, and returns what it was passed and what it returned. */
   #call(name, given) {
     const outs = [];
-    const passed = given.flatMap(({ kind, which, bytes, counted, out, room, number }) => {
+    const passed = given.flatMap(({ kind, which, bytes, counted, out, room, number, type }) => {
       if (kind) return [BigInt(this.handles[kind][which])];
       if (bytes) return [BigInt(this.#place(bytes)), ...(counted ? [BigInt(bytes.length)] : [])];
       if (out === undefined) return [number];
-      outs.push([this.#place(new Uint8Array(out + GUARD).fill(FILLER)), out]);
+      outs.push([this.#place(new Uint8Array(out + GUARD).fill(FILLER)), out, type]);
       return [BigInt(outs.at(-1)[0]), ...(room === undefined ? [] : [BigInt(room)])];
     });
     const [, kind, short] = /^x3d_([a-z]+)_(\w+)$/.exec(name);
     const status = this.library.calls[kind][short](...passed) ?? 0;
-    const written = outs.map(([at, size]) => {
+    const written = outs.map(([at, size, type]) => {
       assert.ok(this.library.copy(at + size, GUARD).every((byte) => byte === FILLER), `${name} wrote too far`);
-      return this.library.copy(at, size);
+      return withoutUnused(this.library.copy(at, size), type);
     });
     this.#places.splice(0).forEach((at) => this.library.free(at));
     if (status === 0) this.#keep(name, written);
@@ -134,7 +137,7 @@ export class Caller {
   }
 
   #keep(name, [bytes, wanted]) {
-    if (!wanted || name.endsWith("_open") || name.endsWith("_numbers")) return;
+    if (!wanted || name.endsWith("_open") || /_(numbers|changed)$/.test(name)) return;
     const whole = bytes.slice(0, new DataView(wanted.buffer).getUint32(0, true));
     const isText = name.endsWith("_copy_text");
     const pool = isText ? this.shots : this.packets;
@@ -180,6 +183,13 @@ export class Caller {
       }
     }
   }
+}
+
+/** Structs whose unused bytes are fillers: what a call leaves there is not said. */
+function withoutUnused(bytes, type) {
+  const [size, places] = UNUSED[type] ?? [bytes.length, []];
+  for (let at = 0; at < bytes.length; at += size) places.forEach((place) => (bytes[at + place] = FILLER));
+  return bytes;
 }
 
 /** Bytes up to the last that a call wrote. */

@@ -1,7 +1,7 @@
 // A host and its viewers: offers, lost datagrams, joining late, rewinding, and what is refused.
 import assert from "node:assert/strict";
 import { before, test } from "node:test";
-import { Host, Refusal, Viewer } from "../index.js";
+import { Host, Refusal, Viewer, datagram } from "../index.js";
 import { Carrier } from "./carrier.js";
 import { AIM, DOOR, fresh, nodeOf, refused } from "./common.js";
 
@@ -39,6 +39,28 @@ test("a host and three viewers end equal where every fifth datagram is lost", ()
   assert.equal(worlds[2], worlds[0]);
   const door = nodeOf(viewers[2], "Door");
   assert.equal(viewers[2].value(door, viewers[2].fieldNamed(door, "translation")), "1 0 0");
+});
+
+test("a datagram says who sends it, and a host takes from one viewer alone", () => {
+  const host = new Host(library, DOOR, 2);
+  const one = new Viewer(library, DOOR, 1, 7);
+  one.offer(true, AIM);
+  const [offer] = one.resend();
+  const aim = { origin: AIM.origin.map(BigInt), direction: AIM.direction.map(BigInt) };
+  assert.deepEqual(datagram(library, offer), { kind: "Offer", who: 1, boot: 7, number: 1, time: 0n, down: true, aim });
+  refused("BadViewer", () => host.takeFrom(0, offer));
+  assert.deepEqual(host.takeFrom(1, offer), { kind: "Numbered", number: 1, count: 0 });
+  const floor = datagram(library, host.floorPacket());
+  assert.deepEqual([floor.kind, floor.who, floor.number, floor.aim], ["Floor", null, 1, null]);
+  const ask = one.ask();
+  refused("BadViewer", () => host.takeFrom(0, ask));
+  assert.equal(host.heard(1), null);
+  host.takeFrom(1, ask);
+  assert.equal(host.heard(1), 1);
+  refused("Range", () => host.heard(2));
+  refused("BadPacket", () => datagram(library, new Uint8Array(3)));
+  host.keep(0);
+  assert.equal(host.floor(), 1);
 });
 
 test("a late viewer joins by pieces", () => {

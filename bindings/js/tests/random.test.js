@@ -9,7 +9,8 @@ import { Caller } from "./caller.js";
 
 const CALLS = 20_000;
 const HEADER = readFileSync(new URL("../../../include/x3d.h", import.meta.url), "utf8");
-const STATUSES = new Set(Array.from(HEADER.matchAll(/^  X3D_\w+ = (\d+),? .*\/\*/gm), ([, status]) => Number(status)));
+const LIST = /enum x3d_status \{(.*?)\};/s.exec(HEADER)[1];
+const STATUSES = new Set(Array.from(LIST.matchAll(/^  X3D_\w+ = (\d+),? .*\/\*/gm), ([, status]) => Number(status)));
 // A door that its motor slides again and again, with a script; and an empty scene, and a text that is refused.
 const SCRIPT = `DEF Count Script {
   url "x3dshare:counter"

@@ -40,6 +40,27 @@ test("a click opens the door", () => {
   assert.ok(world.trace(4).includes("4 11.000002 Door.translation 0.5 0 0\n"));
 });
 
+test("a field that was set again is listed with its current value", () => {
+  const world = new World(
+    library,
+    `#X3D V3.0 utf8
+DEF Motor TimeSensor { cycleInterval 2 }
+DEF Slide PositionInterpolator { key [ 0, 1 ] keyValue [ 0 0 0, 1 0 0 ] }
+DEF Lift PositionInterpolator { key [ 0, 1 ] keyValue [ 0 0 0, 0 5 0 ] }
+DEF Door Transform {}
+ROUTE Motor.fraction_changed TO Slide.set_fraction
+ROUTE Motor.fraction_changed TO Lift.set_fraction
+ROUTE Slide.value_changed TO Door.translation
+ROUTE Lift.value_changed TO Door.translation
+`,
+  );
+  world.clock(1, 1_000_000);
+  const node = nodeOf(world, "Door");
+  const field = world.fieldNamed(node, "translation");
+  assert.deepEqual(world.changed(), [{ node, field, type: "SFVec3f", numbers: BigInt64Array.of(0n, 2_500_000n, 0n) }]);
+  assert.deepEqual(world.changed(1), []);
+});
+
 test("a ray meets the door without an input", () => {
   const world = new World(library, DOOR);
   const { entry, sensors } = world.meet(AIM);

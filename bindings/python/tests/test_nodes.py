@@ -1,6 +1,6 @@
 import unittest
 
-from x3d import Aim, Fault, Host, Refusal, Viewer, World
+from x3d import Aim, Fault, Host, Refusal, Viewer, World, datagram
 
 DOOR = """#X3D V3.0 utf8
 DEF Motor TimeSensor { cycleInterval 2 }
@@ -101,6 +101,49 @@ class Nodes(unittest.TestCase):
         carrier.turn(late, 1)
         self.assertEqual(late.trace(), first.trace())
         self.assertEqual(late.applied(), 11)
+
+    def test_a_datagram_says_who_sends_it(self):
+        host, one = Host(DOOR, 2), Viewer(DOOR, 1, 7)
+        one.offer(True, AIM)
+        (offer,) = one.resend()
+        self.assertEqual(datagram(offer), ("Offer", 1, 7, 1, 0, True, AIM))
+        self.refused("BadViewer", host.take_from, 0, offer)
+        self.assertEqual(host.take_from(1, offer), ("Numbered", 1, 0))
+        self.assertEqual(datagram(host.packet(1))[:6], ("Input", 1, 0, 1, 1, True))
+        self.assertEqual(datagram(host.floor_packet())[:4], ("Floor", None, 0, 1))
+        ask = one.ask()
+        self.assertEqual(datagram(ask)[:4], ("Ask", 1, 0, 1))
+        self.refused("BadViewer", host.take_from, 0, ask)
+        self.assertIsNone(host.heard(1))
+        host.take_from(1, ask)
+        self.assertEqual(host.heard(1), 1)
+        self.refused("Range", host.heard, 2)
+        self.refused("BadPacket", datagram, b"no datagram")
+
+    def test_a_host_keeps_what_its_viewers_lack(self):
+        host, one = Host(DOOR, 2), Viewer(DOOR, 0, 1)
+        for time in range(1, 11):
+            host.clock(time * 1_000_000)
+        host.keep(0)
+        self.assertEqual(host.floor(), 1)
+        carrier = Carrier(host)
+        carrier.turn(one, 0)
+        carrier.turn(one, 0)
+        self.assertEqual(host.heard(0), 11)
+        host.keep(3)
+        self.assertEqual(host.floor(), 8)
+
+    def test_a_viewer_lists_what_was_set(self):
+        host, one = Host(DOOR, 1), Viewer(DOOR, 0, 1)
+        for down in (True, False):
+            one.offer(down, AIM)
+        for offer in one.resend():
+            host.take(offer)
+        Carrier(host).turn(one, 0)
+        self.assertEqual(one.applied(), 2)
+        names = {one.label(field.node) + "." + one.field_name(field.node, field.field) for field in one.changed()}
+        self.assertIn("Motor.startTime", names)
+        self.assertNotIn("Knob.touchTime", names)
 
     def test_a_viewer_rewinds(self):
         host, viewer = Host(DOOR, 1), Viewer(DOOR, 0, 1)

@@ -73,6 +73,9 @@ class Worlds(unittest.TestCase):
             world.clock(1, 1_000_000)
             door = node(world, "Door")
             translation = world.field_named(door, "translation")
+            drawn = [field for field in world.changed() if field.node == door]
+            self.assertEqual(drawn, [(door, translation, "SFVec3f", [0, 2_500_000, 0])])
+            self.assertEqual(world.changed(1), [])
             lines = [change.value for change in world.changes(1) if change.node == door]
             self.assertEqual(lines, ["0.5 0 0"])
             self.assertEqual(world.value(door, translation), "0 2.5 0")
@@ -119,6 +122,38 @@ class Worlds(unittest.TestCase):
         self.refused("Short", world.load, 2, shot[:50])
         self.assertEqual(world.load(2, shot), (1, 3))
         self.assertEqual(world.scene(), scene)
+
+    def picture(self, world):
+        """The text of each field that holds a value."""
+        found = {}
+        for n in range(world.node_count()):
+            for field in range(world.field_count(n)):
+                try:
+                    found[n, field] = world.value(n, field)
+                except Fault as fault:
+                    self.assertEqual(fault.name, "NoSuchField")
+        return found
+
+    def test_each_field_that_differs_is_listed(self):
+        aims = (AIM, Aim((5_000_000, 0, 10_000_000), (0, 0, -1_000_000)))
+        for scene in (DOOR, TWICE, COUNT):
+            with World(scene) as world:
+                drawn, since = self.picture(world), 0
+                for number in range(1, 61):
+                    time = 10_000_000 + number * 100_000
+                    if number % 3:
+                        world.clock(number, time)
+                    else:
+                        world.point(number, time, number % 2, number % 4 < 2, aims[number % 5 > 3])
+                    if number % 7 < 4:
+                        continue
+                    listed = world.changed(since)
+                    self.assertEqual(len({(one.node, one.field) for one in listed}), len(listed))
+                    drawn.update({(one.node, one.field): world.value(one.node, one.field) for one in listed})
+                    numbers = [world.numbers(one.node, one.field) for one in listed]
+                    self.assertEqual([one.numbers for one in listed], numbers)
+                    since = number
+                    self.assertEqual(drawn, self.picture(world))
 
     def test_what_is_refused_changes_nothing(self):
         with self.assertRaises(Refusal) as told:

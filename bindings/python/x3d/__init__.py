@@ -6,6 +6,8 @@
         world.clock(1, 10_000_000)
         for change in world.changes(1):
             print(world.label(change.node), "sent", change.value)
+        for field in world.changed(0):
+            print("draw", field.node, field.field, field.numbers)
 
 or a shared world, whose datagrams the program carries between them:
 
@@ -21,8 +23,25 @@ system's libx3d.so.0.
 
 from ._faults import Fault, Refusal
 from ._library import version
-from ._nodes import Host, Reply, Taken, Viewer
-from ._reading import Aim, Change, Meeting
+from ._nodes import Datagram, Host, Reply, Taken, Viewer, datagram
+from ._reading import Aim, Change, Changed, Meeting
 from ._world import Saved, Work, World
 
-__all__ = ["Aim", "Change", "Fault", "Host", "Meeting", "Refusal", "Reply", "Saved", "Taken", "Viewer", "Work", "World", "version"]
+__all__ = [
+    "Aim",
+    "Change",
+    "Changed",
+    "Datagram",
+    "Fault",
+    "Host",
+    "Meeting",
+    "Refusal",
+    "Reply",
+    "Saved",
+    "Taken",
+    "Viewer",
+    "Work",
+    "World",
+    "datagram",
+    "version",
+]

@@ -52,6 +52,7 @@ class Fault(Exception):
         53: "OffersSpent",
         54: "NotPiece",
         55: "NotWhole",
+        56: "TooLarge",
     }
 
     def __init__(self, status: int) -> None:

@@ -35,6 +35,28 @@ class RawTaken(Structure):
     _fields_ = [("kind", c_uint32), ("count", c_uint32)]
 
 
+class RawChange(Structure):
+    _fields_ = [
+        ("node", c_uint32),
+        ("field", c_uint16),
+        ("value_type", c_uint8),
+        ("first", c_uint32),
+        ("count", c_uint32),
+    ]
+
+
+class RawDatagram(Structure):
+    _fields_ = [
+        ("tag", c_uint8),
+        ("who", c_uint8),
+        ("point", c_uint8),
+        ("boot", c_uint32),
+        ("number", c_uint32),
+        ("time", c_int64),
+        ("aim", RawAim),
+    ]
+
+
 _WORLD = POINTER(Handle)
 _HOST = POINTER(Handle)
 _VIEWER = POINTER(Handle)
@@ -64,6 +86,8 @@ CALLS = {
     "x3d_world_list_children": [_WORLD, c_uint32],
     "x3d_world_list_value": [_WORLD, c_uint32, c_uint16],
     "x3d_world_copy_numbers": [_WORLD, POINTER(c_int64), c_size_t, _SIZE],
+    "x3d_world_list_changed": [_WORLD, c_uint32],
+    "x3d_world_copy_changed": [_WORLD, POINTER(RawChange), c_size_t, _SIZE],
     "x3d_world_load": [_WORLD, c_uint32, c_char_p, c_size_t, POINTER(RawSaved)],
     "x3d_world_script_count": [_WORLD, _SIZE],
     "x3d_world_replace_script": [_WORLD, c_size_t, c_uint8],
@@ -71,6 +95,9 @@ CALLS = {
     "x3d_host_close": [_HOST],
     "x3d_host_clock": [_HOST, c_int64, _COUNT],
     "x3d_host_take": [_HOST, c_char_p, c_size_t, POINTER(RawReply)],
+    "x3d_host_take_from": [_HOST, c_uint8, c_char_p, c_size_t, POINTER(RawReply)],
+    "x3d_host_heard": [_HOST, c_uint8, _COUNT],
+    "x3d_host_keep": [_HOST, c_uint32],
     "x3d_host_packet": [_HOST, c_uint32, c_char_p, c_size_t, _SIZE],
     "x3d_host_ack": [_HOST, c_uint8, c_char_p, c_size_t, _SIZE],
     "x3d_host_floor": [_HOST, _COUNT],
@@ -110,6 +137,9 @@ CALLS = {
     "x3d_viewer_list_children": [_VIEWER, c_uint32],
     "x3d_viewer_list_value": [_VIEWER, c_uint32, c_uint16],
     "x3d_viewer_copy_numbers": [_VIEWER, POINTER(c_int64), c_size_t, _SIZE],
+    "x3d_viewer_list_changed": [_VIEWER, c_uint32],
+    "x3d_viewer_copy_changed": [_VIEWER, POINTER(RawChange), c_size_t, _SIZE],
+    "x3d_datagram_read": [c_char_p, c_size_t, POINTER(RawDatagram)],
     "x3d_version": [],
     "x3d_abi": [],
     "x3d_status_text": [c_uint8],
@@ -149,6 +179,9 @@ _SHORT = {
     "x3d_world_node_count",
     "x3d_world_field_count",
     "x3d_host_take",
+    "x3d_host_take_from",
+    "x3d_host_heard",
+    "x3d_datagram_read",
     "x3d_host_packet",
     "x3d_host_ack",
     "x3d_host_floor",
@@ -180,6 +213,14 @@ def calls_of(kind: str) -> Dict[str, Callable[..., Any]]:
     """The calls on a world, a host or a viewer, by what their names have behind `x3d_KIND_`."""
     before = f"x3d_{kind}_"
     return {name[len(before) :]: _call(name) for name in CALLS if name.startswith(before)}
+
+
+def read_datagram(datagram: bytes, told: RawDatagram) -> int:
+    """Writes what a datagram says, and returns the status."""
+    return int(_READ(datagram, len(datagram), told))
+
+
+_READ = _call("x3d_datagram_read")
 
 
 def version() -> str:

@@ -3,7 +3,8 @@
 import ctypes
 from typing import Any, List, NamedTuple, Optional, Union
 
-from ._library import RawReply, RawTaken
+from ._faults import Fault
+from ._library import RawDatagram, RawReply, RawTaken, read_datagram
 from ._reading import Aim, Held, Readable, fits, raw_aim, signed
 
 _NO_PACKET = 25
@@ -11,6 +12,41 @@ _PACKET = 256
 _REPLIES = ("Asked", "Numbered", "Repeat", "Ahead", "OldBoot", "Below", "NothingToDo")
 _TAKEN = ("Old", "Beyond", "Kept", "Applied", "Noted", "Behind")
 _GATHERED = ("New", "Again", "Whole", "Other")
+
+
+_TAGS = ("", "Input", "Offer", "Ask", "Ack", "Floor", "Piece")
+_NO_VIEWER = 255
+
+
+class Datagram(NamedTuple):
+    """What a datagram says, by its `kind`:
+
+    - `Input`, of the host: its number and its time; with a pointer also who pointed, and `aim`;
+    - `Offer`, of viewer `who`: its number in its boot, and `aim`;
+    - `Ask`, of viewer `who`: the number of the first input that it lacks;
+    - `Ack`, of the host: the number of offers of viewer `who` in that boot that are numbered;
+    - `Floor`, of the host; `Piece`, of a viewer: the boot of the snapshot, and the number of inputs
+      that its world has had."""
+
+    kind: str
+    who: Optional[int]
+    boot: int
+    number: int
+    time: int
+    down: bool
+    aim: Optional[Aim]
+
+
+def datagram(packet: bytes) -> Datagram:
+    """What a datagram says; the scene's mark is not looked at. Faults: `BadPacket`, `BadVersion`,
+    `BadTag`, `BadRange`, `ZeroRay`."""
+    told = RawDatagram()
+    if status := read_datagram(packet, told):
+        raise Fault(status)
+    sides = [getattr(told.aim, name) for name, _ in told.aim._fields_]
+    aim = Aim((sides[0], sides[1], sides[2]), (sides[3], sides[4], sides[5])) if told.point else None
+    who = None if told.who == _NO_VIEWER else told.who
+    return Datagram(_TAGS[told.tag], who, told.boot, told.number, told.time, told.point == 2, aim)
 
 
 class Reply(NamedTuple):
@@ -98,6 +134,22 @@ class Host(_Node):
         reply = self._reply
         self._call("take", datagram, len(datagram), reply)
         return Reply(_REPLIES[reply.kind], reply.number, reply.count)
+
+    def take_from(self, who: int, datagram: bytes) -> Reply:
+        """Takes a datagram that came from viewer `who`, like `take`. An offer or an ask of another
+        viewer raises Fault `BadViewer`, and nothing changes."""
+        reply = self._reply
+        self._call("take_from", fits(who, 8), datagram, len(datagram), reply)
+        return Reply(_REPLIES[reply.kind], reply.number, reply.count)
+
+    def heard(self, who: int) -> Optional[int]:
+        """The highest number that viewer `who` has asked from: it has all inputs below. None if it
+        has not asked. A viewer that there isn't: Fault `Range`."""
+        return self._number("heard", fits(who, 8)) or None
+
+    def keep(self, count: int) -> None:
+        """Drops the inputs that every viewer that asked has, but for the last `count` of them."""
+        self._call("keep", fits(count, 32))
 
     def packet(self, number: int) -> Optional[bytes]:
         """The datagram of the input of this number, if it is numbered and not below the floor."""
@@ -217,7 +269,8 @@ class Viewer(_Node, Readable):
 
     def pieces(self, snapshot: Optional[bytes] = None) -> List[bytes]:
         """The datagrams of a snapshot, or else of its own as it is now, for another viewer that is
-        `Behind`; none where the bytes do not begin as a snapshot, or are more than 2^26."""
+        `Behind`; none where the bytes do not begin as a snapshot. Fault `TooLarge` for more than
+        2^26 bytes."""
         whole = self.snapshot() if snapshot is None else bytes(snapshot)
         count = self._number("piece_count", whole, len(whole))
         found = (self._packet("piece", whole, len(whole), index) for index in range(count))

@@ -4,7 +4,7 @@ import ctypes
 from typing import Any, Callable, Dict, Iterator, List, NamedTuple, Optional, Tuple
 
 from ._faults import Fault, Refusal
-from ._library import Handle, RawAim, RawMet, calls_of
+from ._library import Handle, RawAim, RawChange, RawMet, calls_of
 
 DONE = 0
 _MEMORY = 5
@@ -23,6 +23,22 @@ class Meeting(NamedTuple):
 
     entry: Tuple[int, int]
     sensors: List[int]
+
+
+_TYPES = (
+    "SFBool SFInt32 SFFloat SFTime SFString SFVec2f SFVec3f SFColor SFNode "
+    "MFBool MFInt32 MFFloat MFTime MFString MFVec2f MFVec3f MFColor MFNode SFRotation"
+).split()
+
+
+class Changed(NamedTuple):
+    """A field that was set, with the type and the numbers of its current value; a string has no
+    numbers."""
+
+    node: int
+    field: int
+    type: str
+    numbers: List[int]
 
 
 class Change(NamedTuple):
@@ -77,6 +93,10 @@ def _microseconds(text: str) -> int:
 def _change(line: str) -> Change:
     number, time, node, field, value = line.split(" ", 4)
     return Change(int(number), _microseconds(time), int(node), int(field), value)
+
+
+def _type(number: int) -> str:
+    return _TYPES[number] if number < len(_TYPES) else f"Type{number}"
 
 
 class Held:
@@ -175,6 +195,21 @@ class Readable(Held):
     def changes(self, first: int = 0) -> List[Change]:
         """The same lines by the numbers of nodes and fields."""
         return [_change(line) for line in _lines(self._text("make_changes", fits(first, 32)))]
+
+    def changed(self, since: int = 0) -> List[Changed]:
+        """The fields that inputs after number `since` set, each once, with their current values.
+        `since` is 0, or what `applied` was when the world was drawn last. A field that only sends
+        holds no value and is left out."""
+        self._call("list_changed", fits(since, 32))
+        self._status("copy_changed", (RawChange * 1)(), 0, self._wanted)
+        size = self._wanted.value
+        out = (RawChange * (size + 1))()
+        self._call("copy_changed", out, size, self._wanted)
+        numbers = self._numbers()
+        return [
+            Changed(one.node, one.field, _type(one.value_type), numbers[one.first : one.first + one.count])
+            for one in out[:size]
+        ]
 
     def scene(self) -> str:
         """The text of the scene as it is now."""

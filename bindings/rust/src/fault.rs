@@ -68,7 +68,7 @@ pub enum Fault {
     BadRange,
     /// The direction is 0 0 0.
     ZeroRay,
-    /// There is no such viewer.
+    /// There is no such viewer, or the datagram is another viewer's.
     BadViewer,
     /// The world has 1048576 inputs.
     WorldFull,
@@ -90,6 +90,8 @@ pub enum Fault {
     NotPiece,
     /// Pieces of the snapshot are missing.
     NotWhole,
+    /// The snapshot is too large to be sent in pieces.
+    TooLarge,
     /// A status that this crate has no name for, such as one of a later library.
     Other(u8),
 }
@@ -131,6 +133,7 @@ impl Fault {
             53 => Fault::OffersSpent,
             54 => Fault::NotPiece,
             55 => Fault::NotWhole,
+            56 => Fault::TooLarge,
             other => Fault::Other(other),
         })
     }
@@ -174,6 +177,7 @@ impl fmt::Display for Fault {
             Fault::OffersSpent => "there are no more numbers for offers",
             Fault::NotPiece => "the datagram is no piece of a snapshot",
             Fault::NotWhole => "pieces of the snapshot are missing",
+            Fault::TooLarge => "the snapshot is too large to be sent in pieces",
         })
     }
 }

@@ -91,6 +91,36 @@ impl Host {
         Ok(reply_of(&reply))
     }
 
+    /// Takes a datagram that came from viewer `who`. An offer or an ask of another viewer is refused
+    /// as `BadViewer`, and nothing changes.
+    pub fn take_from(&mut self, who: u8, datagram: &[u8]) -> Result<Reply, Fault> {
+        let mut reply = RawReply::default();
+        let status = unsafe {
+            raw::x3d_host_take_from(
+                &mut self.handle,
+                who,
+                datagram.as_ptr(),
+                datagram.len(),
+                &mut reply,
+            )
+        };
+        Fault::told(status)?;
+        Ok(reply_of(&reply))
+    }
+
+    /// The highest number that viewer `who` has asked from: it has all inputs below. `None` if it
+    /// has not asked.
+    pub fn heard(&mut self, who: u8) -> Result<Option<u32>, Fault> {
+        let mut asked = 0;
+        Fault::told(unsafe { raw::x3d_host_heard(&mut self.handle, who, &mut asked) })?;
+        Ok((asked != 0).then_some(asked))
+    }
+
+    /// Drops the inputs that every viewer that asked has, but for the last `count` of them.
+    pub fn keep(&mut self, count: u32) {
+        unsafe { raw::x3d_host_keep(&mut self.handle, count) };
+    }
+
     /// The datagram of the input of this number, from the floor on.
     pub fn packet(&mut self, number: u32) -> Option<Packet> {
         packet(|out, room, wanted| unsafe {

@@ -7,13 +7,13 @@
 //! let scene = b"#X3D V3.0 utf8\nDEF Knob TouchSensor {}\nShape { geometry Box {} }\n";
 //! let mut world = World::open(scene)?;
 //! world.point(1, 1, 0, true, &Aim::new([0, 0, 10_000_000], [0, 0, -1_000_000]))?;
-//! for change in &world.changes(1)? {
-//!     let node = world.label(change.node)?;
-//!     let field = world.field_name(change.node, change.field)?;
-//!     println!("{node}.{field} sent {}", change.value);
-//!     if let Ok(value) = world.value(change.node, change.field) {
-//!         println!("and is {value} now"); // an output that only sends holds no value
-//!     }
+//! for event in &world.changes(1)? {
+//!     let node = world.label(event.node)?;
+//!     let field = world.field_name(event.node, event.field)?;
+//!     println!("{node}.{field} sent {}", event.value);
+//! }
+//! for field in world.changed(0)?.iter() {
+//!     println!("node {}, field {}: {:?}", field.node, field.field, field.numbers); // draw this
 //! }
 //! # Ok::<(), Box<dyn std::error::Error>>(())
 //! ```
@@ -36,7 +36,9 @@
 //!
 //! Coordinates are whole millionths of a unit, times whole microseconds.
 
+mod changed;
 mod changes;
+mod datagram;
 mod fault;
 mod host;
 mod library;
@@ -46,7 +48,9 @@ mod reading;
 mod viewer;
 mod world;
 
+pub use changed::{Changed, ChangedFields, ValueType};
 pub use changes::{Change, Changes};
+pub use datagram::{Datagram, Pointing};
 pub use fault::{Fault, Refusal};
 pub use host::{Host, Reply};
 pub use library::{is_compatible, version};

@@ -30,6 +30,7 @@ pub struct RawWork {
 }
 
 #[repr(C)]
+#[derive(Default)]
 pub struct RawAim {
     pub origin_x: i64,
     pub origin_y: i64,
@@ -68,7 +69,31 @@ pub struct RawTaken {
     pub count: u32,
 }
 
+/// A field that was set, as C has it.
+#[repr(C)]
+#[derive(Clone, Copy, Debug, Default, PartialEq, Eq)]
+pub struct RawChange {
+    pub node: u32,
+    pub field: u16,
+    pub value_type: u8,
+    pub first: u32,
+    pub count: u32,
+}
+
+#[repr(C)]
+#[derive(Default)]
+pub struct RawDatagram {
+    pub tag: u8,
+    pub who: u8,
+    pub point: u8,
+    pub boot: u32,
+    pub number: u32,
+    pub time: i64,
+    pub aim: RawAim,
+}
+
 unsafe extern "C" {
+    pub fn x3d_datagram_read(bytes: *const u8, length: usize, datagram: *mut RawDatagram) -> u8;
     pub fn x3d_world_open(
         world: *mut RawWorld,
         text: *const u8,
@@ -122,6 +147,13 @@ unsafe extern "C" {
         room: usize,
         wanted: *mut usize,
     ) -> u8;
+    pub fn x3d_world_list_changed(world: *mut RawWorld, since: u32) -> u8;
+    pub fn x3d_world_copy_changed(
+        world: *mut RawWorld,
+        out: *mut RawChange,
+        room: usize,
+        wanted: *mut usize,
+    ) -> u8;
     pub fn x3d_world_load(
         world: *mut RawWorld,
         boot: u32,
@@ -140,6 +172,15 @@ unsafe extern "C" {
         length: usize,
         reply: *mut RawReply,
     ) -> u8;
+    pub fn x3d_host_take_from(
+        host: *mut RawHost,
+        who: u8,
+        bytes: *const u8,
+        length: usize,
+        reply: *mut RawReply,
+    ) -> u8;
+    pub fn x3d_host_heard(host: *mut RawHost, who: u8, asked: *mut u32) -> u8;
+    pub fn x3d_host_keep(host: *mut RawHost, count: u32) -> u8;
     pub fn x3d_host_packet(
         host: *mut RawHost,
         number: u32,
@@ -262,6 +303,13 @@ unsafe extern "C" {
     pub fn x3d_viewer_copy_numbers(
         viewer: *mut RawViewer,
         out: *mut i64,
+        room: usize,
+        wanted: *mut usize,
+    ) -> u8;
+    pub fn x3d_viewer_list_changed(viewer: *mut RawViewer, since: u32) -> u8;
+    pub fn x3d_viewer_copy_changed(
+        viewer: *mut RawViewer,
+        out: *mut RawChange,
         room: usize,
         wanted: *mut usize,
     ) -> u8;

@@ -44,10 +44,12 @@ pub struct Meeting {
 macro_rules! readable {
     (
         $object:ty,
+        $copy_changed:ident,
         $copy_numbers:ident,
         $copy_text:ident,
         $field_count:ident,
         $field_named:ident,
+        $list_changed:ident,
         $list_children:ident,
         $list_roots:ident,
         $list_value:ident,
@@ -78,6 +80,39 @@ macro_rules! readable {
             pub fn trace(&mut self, first: u32) -> Result<String, Fault> {
                 Fault::told(unsafe { raw::$make_trace(&mut self.handle, first) })?;
                 Ok(self.string())
+            }
+
+            /// The fields that inputs after number `since` set, each once, with their current
+            /// values. `since` is 0, or the number of inputs that were applied when the world was
+            /// drawn last. A field that only sends holds no value and is left out.
+            pub fn changed(&mut self, since: u32) -> Result<ChangedFields, Fault> {
+                let mut changed = ChangedFields::default();
+                self.changed_into(since, &mut changed)?;
+                Ok(changed)
+            }
+
+            /// Like `changed`, into fields that the caller keeps from frame to frame.
+            pub fn changed_into(
+                &mut self,
+                since: u32,
+                changed: &mut ChangedFields,
+            ) -> Result<(), Fault> {
+                Fault::told(unsafe { raw::$list_changed(&mut self.handle, since) })?;
+                let mut wanted = changed.fields.capacity();
+                for _call in 0..2 {
+                    changed.fields.resize(wanted, RawChange::default());
+                    unsafe {
+                        raw::$copy_changed(
+                            &mut self.handle,
+                            changed.fields.as_mut_ptr(),
+                            changed.fields.len(),
+                            &mut wanted,
+                        )
+                    };
+                }
+                changed.fields.truncate(wanted);
+                self.listed_into(&mut changed.numbers);
+                Ok(())
             }
 
             /// The same lines by the numbers of nodes and fields.
@@ -190,8 +225,13 @@ macro_rules! readable {
 
             /// The numbers that were listed last.
             fn listed(&mut self) -> Vec<i64> {
-                let mut wanted = 0;
                 let mut out = Vec::new();
+                self.listed_into(&mut out);
+                out
+            }
+
+            fn listed_into(&mut self, out: &mut Vec<i64>) {
+                let mut wanted = out.capacity();
                 for _call in 0..2 {
                     out.resize(wanted, 0);
                     unsafe {
@@ -203,7 +243,6 @@ macro_rules! readable {
                         )
                     };
                 }
-                out
             }
 
             fn nodes(&mut self) -> Vec<u32> {

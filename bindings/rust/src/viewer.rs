@@ -1,9 +1,10 @@
 //! A viewer of a shared world.
 
+use crate::changed::ChangedFields;
 use crate::changes::Changes;
 use crate::fault::{Fault, Refusal};
 use crate::packet::{Packet, packet};
-use crate::raw::{self, RawMet, RawTaken, RawViewer};
+use crate::raw::{self, RawChange, RawMet, RawTaken, RawViewer};
 use crate::reading::{Aim, Meeting, readable};
 use std::ptr;
 
@@ -180,11 +181,11 @@ impl Viewer {
         Ok(applied)
     }
 
-    /// The datagrams of a snapshot for another viewer of the scene: none where the bytes do not
-    /// begin as one, or are more than 2^26.
-    pub fn pieces(&mut self, snapshot: &[u8]) -> Vec<Packet> {
+    /// How many pieces the bytes of a snapshot have: 0 where they do not begin as one. Bytes of more
+    /// than 2^26 are refused as `TooLarge`.
+    pub fn piece_count(&mut self, snapshot: &[u8]) -> Result<u32, Fault> {
         let mut count = 0;
-        unsafe {
+        let status = unsafe {
             raw::x3d_viewer_piece_count(
                 &mut self.handle,
                 snapshot.as_ptr(),
@@ -192,6 +193,14 @@ impl Viewer {
                 &mut count,
             )
         };
+        Fault::told(status)?;
+        Ok(count)
+    }
+
+    /// The datagrams of a snapshot for another viewer of the scene: none where `piece_count` is 0
+    /// or refused.
+    pub fn pieces(&mut self, snapshot: &[u8]) -> Vec<Packet> {
+        let count = self.piece_count(snapshot).unwrap_or(0);
         (0..count)
             .map_while(|index| {
                 packet(|out, room, wanted| unsafe {
@@ -251,10 +260,12 @@ impl Drop for Viewer {
 
 readable!(
     Viewer,
+    x3d_viewer_copy_changed,
     x3d_viewer_copy_numbers,
     x3d_viewer_copy_text,
     x3d_viewer_field_count,
     x3d_viewer_field_named,
+    x3d_viewer_list_changed,
     x3d_viewer_list_children,
     x3d_viewer_list_roots,
     x3d_viewer_list_value,

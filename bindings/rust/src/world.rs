@@ -1,8 +1,9 @@
 //! A world.
 
+use crate::changed::ChangedFields;
 use crate::changes::Changes;
 use crate::fault::{Fault, Refusal};
-use crate::raw::{self, RawMet, RawSaved, RawWork, RawWorld};
+use crate::raw::{self, RawChange, RawMet, RawSaved, RawWork, RawWorld};
 use crate::reading::{Aim, Meeting, readable};
 use std::ptr;
 
@@ -172,10 +173,12 @@ fn work_of(raw: &RawWork) -> Work {
 
 readable!(
     World,
+    x3d_world_copy_changed,
     x3d_world_copy_numbers,
     x3d_world_copy_text,
     x3d_world_field_count,
     x3d_world_field_named,
+    x3d_world_list_changed,
     x3d_world_list_children,
     x3d_world_list_roots,
     x3d_world_list_value,

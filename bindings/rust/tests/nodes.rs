@@ -1,4 +1,4 @@
-use x3d::{Aim, Fault, Gathered, Host, Kind, Reply, Taken, Viewer, World};
+use x3d::{Aim, Datagram, Fault, Gathered, Host, Kind, Pointing, Reply, Taken, Viewer, World};
 
 const DOOR: &[u8] = b"#X3D V3.0 utf8
 DEF Motor TimeSensor { cycleInterval 2 }
@@ -74,6 +74,48 @@ fn two_viewers_end_equal() {
     let translation = one.field_named(door, "translation").unwrap();
     assert_eq!(one.value(door, translation).unwrap(), "1 0 0");
     assert_eq!(one.field_named(door, "isOpen"), Err(Fault::NoSuchField));
+}
+
+#[test]
+fn a_datagram_says_who_sends_it() {
+    let mut host = Host::new(DOOR, 2).unwrap();
+    let mut one = Viewer::open(DOOR, 1, 7).unwrap();
+    let aim = Aim::new([1, -2, 3], [0, 0, -1_000_000]);
+    one.offer(true, &aim).unwrap();
+    let offer = one.resend(0).unwrap();
+    let pointing = Pointing {
+        who: 1,
+        down: true,
+        aim,
+    };
+    let read = Datagram::read(&offer).unwrap();
+    assert_eq!(
+        read,
+        Datagram::Offer {
+            boot: 7,
+            number: 1,
+            pointing
+        }
+    );
+    assert_eq!(read.sender(), Some(1));
+    assert_eq!(host.take_from(0, &offer), Err(Fault::BadViewer));
+    assert_eq!(host.take_from(1, &offer), Ok(Reply::Numbered(1)));
+    let input = Datagram::Input {
+        number: 1,
+        time: 1,
+        pointing: Some(pointing),
+    };
+    assert_eq!(Datagram::read(&host.packet(1).unwrap()), Ok(input));
+    assert_eq!(Datagram::read(&host.floor_packet()), Ok(Datagram::Floor(1)));
+    let ask = one.ask();
+    assert_eq!(Datagram::read(&ask), Ok(Datagram::Ask { who: 1, next: 1 }));
+    assert_eq!(host.heard(1), Ok(None));
+    host.take_from(1, &ask).unwrap();
+    assert_eq!(host.heard(1), Ok(Some(1)));
+    assert_eq!(host.heard(2), Err(Fault::Range));
+    assert_eq!(Datagram::read(b"no datagram"), Err(Fault::BadPacket));
+    host.keep(0);
+    assert_eq!(host.floor(), 1);
 }
 
 #[test]

@@ -1,5 +1,5 @@
 use std::thread;
-use x3d::{Aim, Fault, World};
+use x3d::{Aim, Fault, ValueType, World};
 
 const DOOR: &[u8] = b"#X3D V3.0 utf8
 DEF Motor TimeSensor { cycleInterval 2 }
@@ -61,6 +61,15 @@ fn a_line_may_have_another_value_than_its_field() {
     assert_eq!(sent, ["0.5 0 0"]);
     assert_eq!(world.value(door, translation).unwrap(), "0 2.5 0");
     assert_eq!(world.numbers(door, translation).unwrap(), [0, 2_500_000, 0]);
+    let changed = world.changed(0).unwrap();
+    let drawn: Vec<_> = changed.iter().filter(|field| field.node == door).collect();
+    assert_eq!(drawn.len(), 1);
+    assert_eq!(
+        (drawn[0].field, drawn[0].value_type),
+        (translation, ValueType::SFVec3f)
+    );
+    assert_eq!(drawn[0].numbers, [0, 2_500_000, 0]);
+    assert!(world.changed(1).unwrap().is_empty());
 }
 
 #[test]

@@ -1,9 +1,8 @@
 -- What a host does with a job.
-use Rattle.std.specs.Prelude.{◌≡◌, ◌⊎◌, ℕ, ℤ, List, map, Option, Result, Err}
+use Rattle.std.specs.Prelude.{◌≡◌, ◌⊎◌, ℕ, ℤ, List, map, Result, Err}
 use Rattle.x3d_values.specs.Stamp.{StampedView}
 use Rattle.share_law.specs.Parts.{HostPart, new_part}
-use Rattle.share_turns.specs.declared.traffic.Traffic.{Traffic}
-use Rattle.share_turns.specs.Told.{one_more}
+use Rattle.share_turns.specs.Told.{Passed, one_more}
 use Rattle.snapshot_core.specs.declared.fault.SnapFault.{SnapFault}
 use Rattle.snapshot_core.specs.declared.fault.SnapFault.TheVariants as snap
 use Rattle.share_turns.specs.Runs.{AreHosted, IsHostEnd}
@@ -42,14 +41,14 @@ failures_after result n = n
 -- the job's host, newly made, took at most this many turns until it was done, and count inputs are
 -- numbered
 abbrev pub IsHosted : SharedJob → (viewers : ℕ) → HostPlan → (turns : ℕ)
-    → (told_before told_after : Option (List Traffic)) → (count : ℕ) → Type 0
+    → (a b : Passed) → (count : ℕ) → Type 0
 IsHosted job viewers plan turns a b count =
     (new : HostPart) × AreHosted job.mark (times job.inputs) plan turns a b (new_part viewers) new
     × (count ≡ new.count)
 
 -- memory was refused before the first turn, or the turns ended early
 abbrev pub IsHostedInPart : SharedJob → (viewers : ℕ) → HostPlan → (turns : ℕ)
-    → (told_before told_after : Option (List Traffic)) → (count : ℕ) → ShareFault → Type 0
+    → (a b : Passed) → (count : ℕ) → ShareFault → Type 0
 IsHostedInPart job viewers plan turns a b count fault =
     ((fault ≡ share.Memory) × (b ≡ a) × (count ≡ 0))
     ⊎ ((early : SeriesFault) × (new : HostPart) × (fault ≡ series_fault early)

@@ -1,7 +1,7 @@
 -- When a viewer's asks and offers are sent, and for how long their answers are awaited. Times are
 -- microseconds of a clock, up to 2^64 - 1, and rests are milliseconds.
-use Rattle.std.specs.Prelude.{ℕ, ◌+◌, ◌-◌, ◌*◌, ◌/◌, ◌^◌, ◌==◌, ◌&&◌, ◌||◌, not, min, max, nat_lt}
-use Rattle.std.specs.Prelude.{Bool, true, false, if◌then◌else◌}
+use Rattle.std.specs.Prelude.{ℕ, ◌+◌, ◌-◌, ◌*◌, ◌/◌, ◌^◌, ◌==◌, ◌&&◌, ◌||◌, not, min, max, nat_le, nat_lt}
+use Rattle.std.specs.Prelude.{Bool, true, false, if◌then◌else◌, Option, Some, None}
 use Rattle.app_commands.specs.declared.pace.Pace.{Pace}
 
 -- the time after a span, at most 2^64 - 1
@@ -103,3 +103,14 @@ first_rest = 1
 -- the length of the next rest, after one of this many milliseconds
 abbrev pub next_rest : (rest : ℕ) → (is_new : Bool) → ℕ
 next_rest rest is_new = if is_new then first_rest else min (min (2 * rest) (2 ^ 32 - 1)) 50
+
+-- how many milliseconds passed between two rests that ended at these times, if both are known
+abbrev pub passed_between : (ended now : Option ℕ) → ℕ
+passed_between None now = 0
+passed_between (Some ended) None = 0
+passed_between (Some ended) (Some now) = now - ended
+
+-- a viewer that gives repeats its ask a second after the last time, or if it hasn't yet
+abbrev pub is_reminded : (asked : Option ℕ) → (now : ℕ) → Bool
+is_reminded None now = true
+is_reminded (Some asked) now = nat_le 1000 (now - asked)

@@ -69,6 +69,8 @@ fn count_of(bytes: &[u8], last: Option<u32>) -> usize
 impl<P: Port> Port for ExactPort<P> {
     ghost failure_count = { λ p. P.failure_count p.port };
 
+    ghost rested = { λ p. P.rested p.port };
+
     fn send(&mut self, to: u16, bytes: &[u8]) -> Result<(), PortFault> {
         self.port.send(to, bytes)
     }
@@ -84,8 +86,8 @@ impl<P: Port> Port for ExactPort<P> {
         self.port.failures()
     }
 
-    fn rest(&mut self, is_new: bool) {
-        self.port.rest(is_new);
+    fn rest(&mut self, is_new: bool) -> u64 {
+        self.port.rest(is_new)
     }
 
     fn wait(&mut self, millis: u32) {

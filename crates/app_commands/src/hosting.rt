@@ -5,6 +5,7 @@ ghost use Rattle.x3d_values.specs.Ranges.{max_viewers};
 ghost use Rattle.app_commands.specs.Hosting.{times, share_fault, failures_after};
 ghost use Rattle.app_commands.specs.Hosting.{join_fault, series_fault};
 ghost use Rattle.app_commands.specs.Hosting.{IsHosted, IsHostedInPart};
+ghost use Rattle.share_turns.specs.Told.{passed};
 
 use crate::job::SharedJob;
 use app_program::ShareFault;
@@ -70,10 +71,12 @@ pub fn host_job<P: Port>(
 ) -> Result<(), ShareFault>
     requires some { 1 ≤ viewers }
     requires most { viewers ≤ max_viewers }
-    ensures done { OnOk result (IsHosted job.now viewers plan.now turns (P.told port.old)
-        (P.told port.new) count.new) }
-    ensures ended { IfErr result (IsHostedInPart job.now viewers plan.now turns (P.told port.old)
-        (P.told port.new) count.new) }
+    ensures done { OnOk result (IsHosted job.now viewers plan.now turns
+        (passed (P.told port.old) (P.rested port.old))
+        (passed (P.told port.new) (P.rested port.new)) count.new) }
+    ensures ended { IfErr result (IsHostedInPart job.now viewers plan.now turns
+        (passed (P.told port.old) (P.rested port.old))
+        (passed (P.told port.new) (P.rested port.new)) count.new) }
     ensures failures { P.failure_count port.new
         ≡ failures_after result (P.failure_count port.old) }
 {

@@ -2,6 +2,7 @@
 //! host, of a viewer, and of both together, in memory or each at a port.
 #![tactic(auto)]
 
+mod asking;
 mod brief;
 mod exact;
 mod fits;
@@ -17,6 +18,7 @@ mod telling;
 mod viewing;
 mod watch;
 
+pub use asking::AskingPort;
 pub use exact::ExactPort;
 pub use fits::job_fits;
 pub use hosting::host_job;

@@ -1,7 +1,8 @@
 //! A port that waits if nothing comes, and sends nothing again while its answer may be under way.
 
-ghost use Rattle.std.specs.Prelude.{◌≡◌, false};
-ghost use Rattle.app_commands.specs.Pace.{first_rest, next_rest, unsent};
+ghost use Rattle.std.specs.Prelude.{◌≡◌, ◌+◌, ◌-◌, ◌^◌, None, false, min};
+ghost use Rattle.std.specs.Option.{option_or};
+ghost use Rattle.app_commands.specs.Pace.{first_rest, next_rest, passed_between, unsent};
 ghost use Rattle.share_turns.specs.Told.{max_received};
 
 use crate::brief::{Brief, brief_of};
@@ -24,7 +25,7 @@ const LONGEST: u32 = 50;
 /// An ask or an offer is dropped, as if lost, while the answers to earlier ones may be under way.
 /// So is an ask that repeats the last one before the port has rested. While answers are under way a
 /// receive waits for them, at most 50 milliseconds. The port's contract says nothing of its
-/// traffic.
+/// traffic. Its rests take the milliseconds that pass by its clock; while the clock fails none do.
 #[derive(Drop)]
 pub struct PatientPort<P, C> {
     port: P,
@@ -32,6 +33,9 @@ pub struct PatientPort<P, C> {
     pace: Pace,
     rest: u32,
     came: bool,
+    /// When the last rest ended, in milliseconds of the clock, and how long all took.
+    ended: Option<u64>,
+    rested: u64,
 }
 
 impl<P, C> PatientPort<P, C> {
@@ -41,6 +45,8 @@ impl<P, C> PatientPort<P, C> {
         ensures pace { result.pace ≡ unsent }
         ensures rest { result.rest ≡ first_rest }
         ensures came { result.came ≡ false }
+        ensures ended { result.ended ≡ None }
+        ensures rested { result.rested ≡ 0 }
     {
         PatientPort {
             port,
@@ -48,6 +54,8 @@ impl<P, C> PatientPort<P, C> {
             pace: Pace::new(),
             rest: SHORTEST,
             came: false,
+            ended: None,
+            rested: 0,
         }
     }
 
@@ -68,6 +76,22 @@ impl<P, C> PatientPort<P, C> {
         self.came = false;
         self.rest = next_rest(self.rest, is_new);
         came
+    }
+
+    /// Ends a rest at this time, in milliseconds, if the clock says it. Returns how many passed
+    /// since the last one ended.
+    fn end_rest(&mut self, now: Option<u64>) -> u64
+        ensures result { result ≡ min (passed_between self.old.ended now)
+            (2 ^ 64 - 1 - self.old.rested) }
+        ensures state { self.new ≡ record self.old {
+          ended = option_or now self.old.ended;
+          rested = self.old.rested + result;
+        } }
+    {
+        let passed = passed_between(self.ended, now).min(u64::MAX - self.rested);
+        self.ended = now.or(self.ended);
+        self.rested += passed;
+        passed
     }
 }
 
@@ -91,6 +115,24 @@ fn next_rest(rest: u32, is_new: bool) -> u32
     }
 }
 
+/// Returns how many milliseconds passed between two rests that ended at these times.
+fn passed_between(ended: Option<u64>, now: Option<u64>) -> u64
+    ensures { result ≡ passed_between ended now }
+{
+    match (ended, now) {
+        (Some(ended), Some(now)) => now.saturating_sub(ended),
+        _ => 0,
+    }
+}
+
+/// Returns the time of a clock in milliseconds, if it says it.
+pub(crate) fn millis_at<C: Clock>(clock: &C) -> Option<u64> {
+    match clock.monotonic() {
+        Ok(time) => u64::try_from(time.as_millis()).ok(),
+        Err(_) => None,
+    }
+}
+
 /// Returns the time of a clock in microseconds. If the clock fails, returns the last time there is,
 /// at which no answer is under way.
 fn time_of<C: Clock>(clock: &C) -> u64 {
@@ -111,7 +153,8 @@ impl<P: Port, C: Clock> PatientPort<P, C> {
 
     /// Reports whether a datagram is sent now.
     fn is_due(&mut self, bytes: &[u8]) -> bool
-        ensures { self.new.port ≡ self.old.port }
+        ensures port { self.new.port ≡ self.old.port }
+        ensures time { self.new.rested ≡ self.old.rested }
     {
         let now = time_of(&self.clock);
         match brief_of(bytes) {
@@ -123,7 +166,8 @@ impl<P: Port, C: Clock> PatientPort<P, C> {
 
     /// Records a datagram that was received.
     fn take_note(&mut self, bytes: &[u8])
-        ensures { self.new.port ≡ self.old.port }
+        ensures port { self.new.port ≡ self.old.port }
+        ensures time { self.new.rested ≡ self.old.rested }
     {
         self.came = true;
         let now = time_of(&self.clock);
@@ -146,6 +190,7 @@ impl<P: Port, C: Clock> PatientPort<P, C> {
             (λ came. MatchOption came ⊤ (λ r. (r.1 ≤ max_received) × ⊤)) (λ _. ⊤) }
         ensures failures { P.failure_count self.new.port
             ≡ counted result (P.failure_count self.old.port) }
+        ensures time { self.new.rested ≡ self.old.rested }
     {
         let left = self.pace.left(time_of(&self.clock));
         if left == 0 {
@@ -164,6 +209,8 @@ impl<P: Port, C: Clock> PatientPort<P, C> {
 
 impl<P: Port, C: Clock> Port for PatientPort<P, C> {
     ghost failure_count = { λ p. P.failure_count p.port };
+
+    ghost rested = { λ p. p.rested };
 
     fn send(&mut self, to: u16, bytes: &[u8]) -> Result<(), PortFault> {
         if !self.is_due(bytes) {
@@ -186,13 +233,15 @@ impl<P: Port, C: Clock> Port for PatientPort<P, C> {
         self.port.failures()
     }
 
-    fn rest(&mut self, is_new: bool) {
+    fn rest(&mut self, is_new: bool) -> u64 {
         let came = self.end_turn(is_new);
-        self.port.rest(is_new);
+        let _inner = self.port.rest(is_new);
         if !is_new {
             self.port.wait(self.rest);
         } else if !came {
             thread::sleep(&self.clock, Duration::from_millis(u64::from(SHORTEST)));
         }
+        let now = millis_at(&self.clock);
+        self.end_rest(now)
     }
 }

@@ -46,6 +46,8 @@ impl<P, R: Eprint> TellingPort<P, R> {
 impl<P: Port, R: Eprint> Port for TellingPort<P, R> {
     ghost failure_count = { λ p. P.failure_count p.port };
 
+    ghost rested = { λ p. P.rested p.port };
+
     fn send(&mut self, to: u16, bytes: &[u8]) -> Result<(), PortFault> {
         if self.verbose {
             self.watch.goes(bytes);
@@ -70,12 +72,12 @@ impl<P: Port, R: Eprint> Port for TellingPort<P, R> {
         self.port.failures()
     }
 
-    fn rest(&mut self, is_new: bool) {
+    fn rest(&mut self, is_new: bool) -> u64 {
         if self.verbose {
             let note = self.watch.rests();
             self.tell(note);
         }
-        self.port.rest(is_new);
+        self.port.rest(is_new)
     }
 
     fn wait(&mut self, millis: u32) {

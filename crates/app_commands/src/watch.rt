@@ -5,8 +5,8 @@ use crate::brief::{Brief, Came, brief_of, how_came};
 use std::fmt;
 use x3d_values::MAX_VIEWERS;
 
-/// After this many turns in which nothing came, a viewer reports that.
-const SILENT: u64 = 20;
+/// After this many turns without an answer, a second or two, a viewer reports that.
+const SILENT: u32 = 20;
 
 /// One place for each viewer.
 const PLACES: usize = MAX_VIEWERS as usize;
@@ -68,7 +68,7 @@ pub enum Note {
     Viewer(u8, u16),
     /// A datagram of this peer is dropped, the first for this reason.
     Dropped(Refusal, u16),
-    /// Nothing has come to a viewer yet.
+    /// No host has answered a viewer yet.
     NoAnswer,
     /// The host dropped the inputs below this number, and a viewer lacks some of them.
     Behind(u32),
@@ -96,6 +96,17 @@ pub enum Peer {
     Viewer(u32),
 }
 
+/// How long a viewer has waited for a first answer of a host.
+#[derive(Clone, Copy, PartialEq, Eq)]
+enum Wait {
+    /// Nothing of its scene has come in this many turns, and it hasn't asked.
+    Idle(u32),
+    /// It has asked, and a host hasn't answered in this many turns.
+    Asking(u32),
+    /// A host has answered, or it was reported that none did.
+    Over,
+}
+
 /// What was seen of a run of the scene with this mark.
 #[derive(Clone, Copy)]
 pub struct Watch {
@@ -109,6 +120,7 @@ pub struct Watch {
     /// The number that a viewer last asked from, and whether the note of a floor above it was made.
     asked: u32,
     is_behind: bool,
+    wait: Wait,
     told: [bool; 4],
     counts: Counts,
 }
@@ -124,6 +136,7 @@ impl Watch {
             acked: [(0, 0); PLACES],
             asked: 1,
             is_behind: false,
+            wait: Wait::Idle(0),
             told: [false; 4],
             counts: Counts {
                 turns: 0,
@@ -214,6 +227,20 @@ impl Watch {
         Some(Note::Behind(floor))
     }
 
+    /// Records what may be an answer of a host. A viewer that hasn't asked waits for pieces.
+    fn hears(&mut self, bytes: &[u8]) {
+        let Came::Here(brief) = how_came(bytes, &self.mark) else {
+            return;
+        };
+        match (brief, self.wait) {
+            (Brief::Input { .. } | Brief::Ack { .. } | Brief::Floor { .. }, _) => {
+                self.wait = Wait::Over;
+            }
+            (_, Wait::Idle(_)) => self.wait = Wait::Idle(0),
+            _ => {}
+        }
+    }
+
     /// Returns the note that a datagram causes which isn't dropped.
     fn heard_from(&mut self, peer: u16, bytes: &[u8]) -> Option<Note> {
         match (self.peer, brief_of(bytes)) {
@@ -225,6 +252,7 @@ impl Watch {
     /// Records a datagram from a peer, and returns the note that it causes.
     pub fn comes(&mut self, peer: u16, bytes: &[u8]) -> Option<Note> {
         self.counts.received = self.counts.received.saturating_add(1);
+        self.hears(bytes);
         match self.refusal(bytes) {
             Some(why) => self.dropped(why, peer),
             None => self.heard_from(peer, bytes),
@@ -248,17 +276,41 @@ impl Watch {
         self.counts.sent = self.counts.sent.saturating_add(1);
         match brief_of(bytes) {
             Brief::Ack { who, boot, count } => self.acks(who, boot, count),
-            Brief::Ask { next, .. } => self.asked = next,
+            Brief::Ask { next, .. } => self.asks(next),
             _ => {}
         }
+    }
+
+    /// Records an ask of a viewer that is sent.
+    fn asks(&mut self, next: u32) {
+        self.asked = next;
+        if let Wait::Idle(_) = self.wait {
+            self.wait = Wait::Asking(0);
+        }
+    }
+
+    /// Returns the note that a viewer which has waited for this many turns waits for one more, and
+    /// `wait`, how it then waits.
+    fn waits(&mut self, turns: u32, wait: Wait) -> Option<Note> {
+        if turns < SILENT {
+            self.wait = wait;
+            return None;
+        }
+        self.wait = Wait::Over;
+        Some(Note::NoAnswer)
     }
 
     /// Records the end of a turn, and returns the note that it causes.
     pub fn rests(&mut self) -> Option<Note> {
         self.counts.turns = self.counts.turns.saturating_add(1);
-        match self.peer {
-            Peer::Viewer(_) if self.counts.received == 0 && self.counts.turns == SILENT => {
-                Some(Note::NoAnswer)
+        match (self.peer, self.wait) {
+            (Peer::Viewer(_), Wait::Idle(turns)) => {
+                let turns = turns.saturating_add(1);
+                self.waits(turns, Wait::Idle(turns))
+            }
+            (Peer::Viewer(_), Wait::Asking(turns)) => {
+                let turns = turns.saturating_add(1);
+                self.waits(turns, Wait::Asking(turns))
             }
             _ => None,
         }

@@ -4,6 +4,7 @@ use Rattle.std.specs.Result.{result_ok}
 use Rattle.app_jobs.specs.declared.fault.JobFault.{JobFault}
 use Rattle.app_program.specs.Refusal.{refusal_text, status}
 use Rattle.app_program.specs.declared.refusal.Failure.TheVariants.{Job}
+use Rattle.embed_world.specs.Hosts.{keeping}
 use Rattle.embed_world.specs.Viewers.{IsStarted, Meets, forgetting}
 use Rattle.embed_world.specs.declared.host.EmbeddedHost.{EmbeddedHost}
 use Rattle.embed_world.specs.declared.viewer.EmbeddedViewer.{EmbeddedViewer}
@@ -63,6 +64,9 @@ status_of_nothing _ = 0
 
 abbrev pub forgets : EmbeddedViewer → Unit {0} → EmbeddedViewer → Type 0
 forgets v _ next = next ≡ forgetting v
+
+abbrev pub keeps : (count : ℕ) → EmbeddedHost → Unit {0} → EmbeddedHost → Type 0
+keeps count h _ next = next ≡ keeping h count
 
 -- ---- rays
 

@@ -8,7 +8,7 @@ use Rattle.x3d_values.specs.declared.stamped.Cause.TheVariants.{Pointer}
 use Rattle.x3d_values.specs.declared.pointing.Point.{Point}
 use Rattle.x3d_values.specs.declared.vector.Vec3.{Vec3}
 use Rattle.embed_world.specs.Pointing.{pointer_of, ray_of, stamped}
-use Rattle.embed_c.specs.declared.inputs.Aim.{Aim}
+use Rattle.embed_world.specs.declared.aim.Aim.{Aim}
 
 abbrev pub origin_of : Aim → Vec3
 origin_of aim = record { x = aim.origin_x; y = aim.origin_y; z = aim.origin_z }

@@ -3,15 +3,15 @@
 ghost use Rattle.std.specs.Prelude.{◌≡◌, Some, None, IfSome, length};
 ghost use Rattle.embed_world.specs.Hosts as hosts;
 ghost use Rattle.embed_world.specs.declared.host.EmbeddedHost.{EmbeddedHost as Embedded};
-ghost use Rattle.embed_world.specs.Status.{Asks, Calls, CallsOut, out_of_range, HandsOut, no_packet};
-ghost use Rattle.embed_c.specs.NodeAnswers.{HostOpens};
+ghost use Rattle.embed_world.specs.Status.{Asks, Calls, CallsOut, Hears, out_of_range, HandsOut, no_packet};
+ghost use Rattle.embed_c.specs.NodeAnswers.{HostOpens, keeps, status_of_nothing};
 ghost use Rattle.embed_world.specs.PeerStatus.{number_by, replied, status_by, status_of_floor, status_of_host, status_of_number};
 
 use embed_handles::HostHandle;
 use embed_handles::host_handle::{put, take};
 use embed_world::{
     CLOSED, DONE, EmbeddedHost, MEMORY, NO_PACKET, RANGE, ReplyAs, hand_out, status_of_floor,
-    tell_number, tell_reply,
+    tell_heard, tell_number, tell_reply,
 };
 use std::alloc::Global;
 
@@ -102,6 +102,61 @@ pub extern "C" fn x3d_host_take(
     let answer = host.take(bytes);
     put(handle, alloc, host);
     tell_reply(answer, reply)
+}
+
+/// Takes the bytes of a datagram that came from viewer `who`, and writes what the host did with it
+/// to `reply`. An offer or an ask of another viewer is refused.
+#[unsafe(no_mangle)]
+pub extern "C" fn x3d_host_take_from(
+    alloc: Global,
+    handle: &mut HostHandle,
+    who: u8,
+    bytes: &[u8],
+    reply: &mut ReplyAs,
+) -> u8
+    ensures { CallsOut (λ (h : Embedded). hosts.HostTakesFrom h who bytes.now)
+        (status_by status_of_host) replied handle.old.host result handle.new.host reply.old
+        reply.new }
+{
+    let Some(mut host) = take(handle, alloc) else {
+        return CLOSED;
+    };
+    let answer = host.take_from(who, bytes);
+    put(handle, alloc, host);
+    tell_reply(answer, reply)
+}
+
+/// Writes the number that viewer `who` has asked from, 0 if it hasn't asked, to `asked`.
+#[unsafe(no_mangle)]
+pub extern "C" fn x3d_host_heard(
+    alloc: Global,
+    handle: &mut HostHandle,
+    who: u8,
+    asked: &mut u32,
+) -> u8
+    ensures kept { handle.new.host ≡ handle.old.host }
+    ensures asked { Hears (λ (h : Embedded). hosts.heard_of h who) handle.old.host result asked.old
+        asked.new }
+{
+    let Some(host) = take(handle, alloc) else {
+        return CLOSED;
+    };
+    let found = host.heard(who);
+    put(handle, alloc, host);
+    tell_heard(found, asked)
+}
+
+/// Drops the inputs that every viewer that asked has, except the last `count` of them.
+#[unsafe(no_mangle)]
+pub extern "C" fn x3d_host_keep(alloc: Global, handle: &mut HostHandle, count: u32) -> u8
+    ensures { Calls (keeps count) status_of_nothing handle.old.host result handle.new.host }
+{
+    let Some(mut host) = take(handle, alloc) else {
+        return CLOSED;
+    };
+    host.keep(count);
+    put(handle, alloc, host);
+    DONE
 }
 
 /// Copies the datagram of the input with this number.

@@ -8,7 +8,7 @@ ghost use Rattle.embed_c.specs.Points.{aimed, direction_of, origin_of, pointed};
 
 use embed_handles::WorldHandle;
 use embed_handles::world_handle::{put, take};
-use embed_world::{CLOSED, DONE, RANGE, pointer_of, ray_of, stamped, status_of_apply};
+use embed_world::{Aim, CLOSED, DONE, RANGE, pointer_of, ray_of, stamped, status_of_apply};
 use std::alloc::Global;
 use x3d_values::{Cause, Ray, Stamped, Vec3};
 
@@ -20,18 +20,6 @@ pub struct WorkCount {
     pub sends: usize,
     pub deliveries: usize,
     pub settles: usize,
-}
-
-/// What a viewer points with: coordinates in millionths of a unit.
-#[derive(Clone, Copy)]
-#[repr(C)]
-pub struct Aim {
-    pub origin_x: i64,
-    pub origin_y: i64,
-    pub origin_z: i64,
-    pub direction_x: i64,
-    pub direction_y: i64,
-    pub direction_z: i64,
 }
 
 /// Applies an input to the world of a handle.

@@ -1,16 +1,17 @@
 //! A viewer begins again in the world of a snapshot.
 
-ghost use Rattle.std.specs.Prelude.{◌≡◌};
+ghost use Rattle.std.specs.Prelude.{◌≡◌, length};
 ghost use Rattle.embed_world.specs.Viewers as viewers;
 ghost use Rattle.embed_world.specs.declared.viewer.EmbeddedViewer.{EmbeddedViewer as Embedded};
-ghost use Rattle.embed_world.specs.Status.{Asks, Calls, CallsOut, status_of_save, status_of_snap, HandsOut, no_packet};
+ghost use Rattle.embed_world.specs.Status.{AsksBy, Calls, CallsOut, status_of_save, status_of_snap, HandsOut, no_packet};
 ghost use Rattle.embed_c.specs.NodeAnswers.{forgets, status_of_nothing};
-ghost use Rattle.embed_world.specs.PeerStatus.{gathered_by, number_by, status_by, status_of_gather, status_of_join};
+ghost use Rattle.embed_world.specs.PeerStatus.{gathered_by, number_by, status_by, status_of_gather, status_of_join, status_of_size};
 
 use embed_handles::ViewerHandle;
 use embed_handles::viewer_handle::{put, take};
 use embed_world::{
-    CLOSED, DONE, NO_PACKET, hand_out, status_of_save, tell_gathered, tell_joined, tell_rewound,
+    CLOSED, DONE, NO_PACKET, hand_out, status_of_save, status_of_size, tell_gathered, tell_joined,
+    tell_rewound,
 };
 use std::alloc::Global;
 
@@ -51,7 +52,7 @@ pub extern "C" fn x3d_viewer_rewind(
 }
 
 /// Writes how many pieces the bytes of a snapshot have to `count`: 0 if they do not begin as a
-/// snapshot or are too many.
+/// snapshot, or if they are more than 2^26, which the status then says.
 #[unsafe(no_mangle)]
 pub extern "C" fn x3d_viewer_piece_count(
     alloc: Global,
@@ -60,15 +61,15 @@ pub extern "C" fn x3d_viewer_piece_count(
     count: &mut u32,
 ) -> u8
     ensures kept { handle.new.viewer ≡ handle.old.viewer }
-    ensures count { Asks (λ (v : Embedded). viewers.pieces_in bytes.now) handle.old.viewer result
-        count.old count.new }
+    ensures count { AsksBy (λ (v : Embedded). viewers.pieces_in bytes.now)
+        (status_of_size (length bytes.now)) handle.old.viewer result count.old count.new }
 {
     let Some(viewer) = take(handle, alloc) else {
         return CLOSED;
     };
     *count = viewer.piece_count(bytes);
     put(handle, alloc, viewer);
-    DONE
+    status_of_size(bytes)
 }
 
 /// Copies the datagram of the piece with this number, from 0, of a snapshot's bytes.

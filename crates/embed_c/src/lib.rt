@@ -1,11 +1,13 @@
 //! Worlds, hosts and viewers for C: an opaque handle for each, and a function for each thing to do
 //! with it. include/x3d.h declares them.
 //!
-//! The functions of a world are in `open`, `inputs`, `scripts`, `shots`, `texts` and `lists`. Those
-//! of a host are in `host`, and those of a viewer in `viewer`, `joining`, `viewer_texts` and
-//! `viewer_lists`.
+//! The functions of a world are in `open`, `inputs`, `scripts`, `shots`, `texts`, `lists` and
+//! `changed`. Those of a host are in `host`, and those of a viewer in `viewer`, `joining`,
+//! `viewer_texts`, `viewer_lists` and `viewer_changed`. `datagram` reads a datagram.
 #![tactic(auto)]
 
+mod changed;
+mod datagram;
 mod host;
 mod inputs;
 mod joining;
@@ -15,5 +17,6 @@ mod scripts;
 mod shots;
 mod texts;
 mod viewer;
+mod viewer_changed;
 mod viewer_lists;
 mod viewer_texts;

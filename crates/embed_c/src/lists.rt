@@ -12,11 +12,12 @@ ghost use Rattle.embed_c.specs.Points.{direction_of, origin_of};
 ghost use Rattle.embed_world.specs.Pointing.{ray_of};
 ghost use Rattle.embed_world.specs.declared.world.EmbeddedWorld.{EmbeddedWorld as Embedded};
 
-use crate::inputs::{Aim, direction_of, origin_of};
+use crate::inputs::{direction_of, origin_of};
 use embed_handles::WorldHandle;
 use embed_handles::world_handle::{put, take};
 use embed_world::{
-    CLOSED, DONE, ListEntry, LookFault, RANGE, copy_numbers, ray_of, status_of_look, tell_field,
+    Aim, CLOSED, DONE, ListEntry, LookFault, RANGE, copy_numbers, ray_of, status_of_look,
+    tell_field,
 };
 use std::alloc::Global;
 

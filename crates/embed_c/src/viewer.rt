@@ -13,13 +13,13 @@ ghost use Rattle.embed_c.specs.NodeAnswers.{ViewerOpens, ViewerOpensIf};
 ghost use Rattle.embed_world.specs.PeerStatus.{number_by, status_by, status_of_offer, status_of_take, taken_by};
 ghost use Rattle.embed_c.specs.Points.{aimed_point};
 
-use crate::inputs::{Aim, direction_of, origin_of};
+use crate::inputs::{direction_of, origin_of};
 use crate::open::refuse;
 use app_jobs::JobFault;
 use embed_handles::ViewerHandle;
 use embed_handles::viewer_handle::{put, take};
 use embed_world::{
-    CLOSED, DONE, EmbeddedViewer, NO_PACKET, RANGE, TakenAs, copy_text, hand_out, tell_offer,
+    Aim, CLOSED, DONE, EmbeddedViewer, NO_PACKET, RANGE, TakenAs, copy_text, hand_out, tell_offer,
     tell_taken,
 };
 use share_wire::{is_ordinal, is_viewer};

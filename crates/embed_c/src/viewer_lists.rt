@@ -12,11 +12,11 @@ ghost use Rattle.embed_c.specs.NodeAnswers.{ViewerMeets};
 ghost use Rattle.embed_c.specs.Points.{aimed};
 ghost use Rattle.embed_world.specs.declared.viewer.EmbeddedViewer.{EmbeddedViewer as Embedded};
 
-use crate::inputs::{Aim, aimed};
+use crate::inputs::aimed;
 use crate::lists::{Met, tell_met};
 use embed_handles::ViewerHandle;
 use embed_handles::viewer_handle::{put, take};
-use embed_world::{CLOSED, DONE, RANGE, copy_numbers, status_of_look, tell_field};
+use embed_world::{Aim, CLOSED, DONE, RANGE, copy_numbers, status_of_look, tell_field};
 use std::alloc::Global;
 use x3d_values::Ray;
 

@@ -1,2 +1,1 @@
 mod Held
-mod Listed

@@ -21,6 +21,7 @@ use Rattle.cascade_core.specs.declared.work.Work.{Work}
 use Rattle.x3d_lists.specs.Answers.{Gives}
 use Rattle.x3d_values.specs.Stamp.{StampedView}
 use Rattle.x3d_values.specs.declared.script.Kind.{Kind}
+use Rattle.embed_changes.specs.Changes.{Listing}
 use Rattle.embed_world.specs.Looks.{snapshot_in}
 use Rattle.app_program.specs.Stages.{opened_stage}
 use Rattle.embed_world.specs.declared.fault.LookFault.{LookFault}
@@ -35,6 +36,7 @@ IsWorldOpened text result =
     × IfOk result (λ w. w.mark ≡ sha256 text)
     × IfOk result (λ w. w.text.items ≡ [])
     × IfOk result (λ w. w.numbers.items ≡ [])
+    × IfOk result (λ w. w.changed ≡ [])
 
 abbrev pub with_stage : EmbeddedWorld → StageView → EmbeddedWorld
 with_stage w stage = record w { stage = stage }
@@ -68,6 +70,16 @@ Lists numbers old result new =
     Gives look.Memory (λ _. new.numbers.items) result numbers
     × OnErr result (new.numbers.items ≡ [])
     × (new ≡ record old { numbers = new.numbers })
+
+-- the fields that were set, and the numbers of their values, were listed of the world, which is
+-- unchanged
+abbrev pub ListsChanged : Result Listing LookFault → EmbeddedWorld → Result (Unit {0}) LookFault
+    → EmbeddedWorld → Type 0
+ListsChanged listing old result new =
+    Gives look.Memory (λ _. (new.changed, new.numbers.items)) result listing
+    × OnErr result (new.changed ≡ [])
+    × OnErr result (new.numbers.items ≡ [])
+    × (new ≡ record old { changed = new.changed; numbers = new.numbers })
 
 -- where a ray enters was returned, and the sensors were listed, of the world, which is unchanged
 abbrev pub Meets : Result (Option ListEntry × List ℤ) LookFault → EmbeddedWorld

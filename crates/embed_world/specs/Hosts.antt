@@ -1,19 +1,26 @@
 -- What the calls on an embedded host answer, and the host that they leave.
-use Rattle.std.specs.Prelude.{◌≡◌, ℕ, ℤ, List, slice_get, nat_lt, if◌then◌else◌, Option, None, Some, Result}
+use Rattle.std.specs.Prelude.{◌≡◌, ◌==◌, ◌&&◌, ℕ, ℤ, Bool, true, false, not, List, length, slice_get, unwrap_or, nat_eq, nat_lt, if◌then◌else◌, Option, None, Some, Result, Ok, Err}
+use Rattle.std.specs.Cmp.Lexicographic.{pointwise}
 use Rattle.std.specs.Option.{option_map}
 use Rattle.sha2.specs.Sha256.{sha256}
 use Rattle.x3d_values.specs.Ranges.{max_viewers}
 use Rattle.share_wire.specs.Datagram.{datagram}
 use Rattle.share_wire.specs.Decoding.{decoded}
+use Rattle.share_wire.specs.declared.fault.WireFault.{WireFault}
 use Rattle.share_wire.specs.declared.message.Body.{Body}
+use Rattle.share_wire.specs.declared.message.Message.{Message}
 use Rattle.share_law.specs.Calls.{IsPartClocked, IsPartTakeOf}
 use Rattle.share_law.specs.Host.{ack_of}
 use Rattle.share_law.specs.Parts.{HostPart, new_part, part_drop_below, part_floor_packet, part_packet}
 use Rattle.share_law.specs.declared.fault.FloorFault.{FloorFault}
 use Rattle.share_law.specs.declared.fault.HostFault.{HostFault}
+use Rattle.share_law.specs.declared.fault.HostFault.TheVariants.{BadViewer}
 use Rattle.share_law.specs.declared.fault.NumberFault.{NumberFault}
 use Rattle.share_law.specs.declared.kept.SeatCount.{SeatCount}
 use Rattle.share_law.specs.declared.reply.HostReply.{HostReply}
+use Rattle.share_turns.specs.Heard.{asked, nobody}
+use Rattle.share_turns.specs.HostTurn.{hears, sender_in}
+use Rattle.share_turns.specs.Runs.{kept_by}
 use Rattle.embed_world.specs.declared.host.EmbeddedHost.{EmbeddedHost}
 
 -- the host of a scene's text, for this number of viewers
@@ -21,21 +28,59 @@ abbrev pub started : List ℕ → ℕ → Option EmbeddedHost
 started text viewers =
     if nat_lt viewers 1 then None
     else if nat_lt max_viewers viewers then None
-    else Some (record { host = record { mark = sha256 text; part = new_part viewers } })
+    else Some (record {
+      host = record { mark = sha256 text; part = new_part viewers };
+      heard = nobody;
+    })
 
 abbrev pub with_part : EmbeddedHost → HostPart → EmbeddedHost
-with_part h part = record { host = record { mark = h.host.mark; part = part } }
+with_part h part = record h { host = record { mark = h.host.mark; part = part } }
 
 -- a clock is numbered, or refused, as share_core's host does
 abbrev pub Clocks : EmbeddedHost → ℤ → Result ℕ NumberFault → EmbeddedHost → Type 0
 Clocks old time result new =
     IsPartClocked old.host.part time result new.host.part × (new ≡ with_part old new.host.part)
 
--- bytes are taken, or refused, as share_core's host does
+-- what the host has heard after these bytes came
+abbrev pub heard_after : EmbeddedHost → List ℕ → List ℕ
+heard_after h bytes = hears h.host.mark (length h.host.part.kept) h.heard bytes
+
+-- bytes are taken, or refused, as share_core's host does; an ask of one of its viewers is heard
 abbrev pub HostTakes : EmbeddedHost → List ℕ → Result HostReply HostFault → EmbeddedHost → Type 0
 HostTakes old bytes result new =
     IsPartTakeOf old.host.mark old.host.part (decoded bytes) result new.host.part
-    × (new ≡ with_part old new.host.part)
+    × (new ≡ record (with_part old new.host.part) { heard = heard_after old bytes })
+
+abbrev pub is_other : ℕ → Option ℕ → Bool
+is_other who None = false
+is_other who (Some sender) = not (sender == who)
+
+-- an offer or an ask, for the scene with this mark, of another viewer than `who`
+abbrev pub is_anothers : (mark : List ℕ) → (who : ℕ) → Result Message WireFault → Bool
+is_anothers mark who (Ok message) =
+    pointwise nat_eq message.mark mark && is_other who (sender_in message.body)
+is_anothers mark who (Err fault) = false
+
+-- bytes are taken, unless they are another's: then nothing changes
+abbrev pub TakesUnless : Bool → EmbeddedHost → List ℕ → Result HostReply HostFault → EmbeddedHost
+    → Type 0
+TakesUnless true old bytes result new = (result ≡ Err BadViewer) × (new ≡ old)
+TakesUnless false old bytes result new = HostTakes old bytes result new
+
+-- bytes that came from viewer `who` are taken
+abbrev pub HostTakesFrom : EmbeddedHost → (who : ℕ) → List ℕ → Result HostReply HostFault
+    → EmbeddedHost → Type 0
+HostTakesFrom old who bytes result new =
+    TakesUnless (is_anothers old.host.mark who (decoded bytes)) old bytes result new
+
+-- the highest number that viewer `who` has asked from, 0 if it hasn't asked
+abbrev pub heard_of : EmbeddedHost → (who : ℕ) → Option ℕ
+heard_of h who =
+    if nat_lt who (length h.host.part.kept) then Some (unwrap_or (asked h.heard who) 0) else None
+
+-- the host without the inputs that every viewer that asked has, except the last `count` of them
+abbrev pub keeping : EmbeddedHost → (count : ℕ) → EmbeddedHost
+keeping h count = with_part h (kept_by (Some count) h.heard h.host.part)
 
 abbrev pub host_datagram : EmbeddedHost → Body → List ℕ
 host_datagram h body = datagram (record { mark = h.host.mark; body = body })

@@ -4,9 +4,8 @@ pub mod Pointing
 pub mod Lines
 pub mod Meeting
 pub mod Names
-pub mod Numbers
-pub mod Values
 pub mod Hosts
 pub mod Viewers
+pub mod Datagrams
 pub mod PeerStatus
 pub mod Status

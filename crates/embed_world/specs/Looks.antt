@@ -13,10 +13,11 @@ use Rattle.snapshot_core.specs.declared.fault.SaveFault.{SaveFault}
 use Rattle.snapshot_core.specs.declared.fault.SaveFault.TheVariants as save
 use Rattle.cascade_trace.specs.LineText.{line_text}
 use Rattle.cascade_world.specs.declared.world.WorldData.{WorldData}
+use Rattle.embed_changes.specs.Changes.{Listing, changes_after}
+use Rattle.embed_changes.specs.Numbers.{node_numbers, numbers_of}
+use Rattle.embed_changes.specs.Values.{value_now}
 use Rattle.embed_world.specs.Lines.{change_text, from_on}
 use Rattle.embed_world.specs.Meeting.{hit_by}
-use Rattle.embed_world.specs.Numbers.{node_numbers, numbers_of}
-use Rattle.embed_world.specs.Values.{value_now}
 use Rattle.x3d_values.specs.Names.{node_type_name}
 use Rattle.x3d_values.specs.Pointing.{RayView}
 use Rattle.x3d_values.specs.ValueText.{value_text}
@@ -105,6 +106,12 @@ numbers_in stage node field =
     of_world (world_in stage.held)
     (λ w. or_fault look.NoSuchField
     (option_map numbers_of (value_now stage.scene w.fields node field)))
+
+-- the fields that inputs after a number set, each once, and the numbers of their current values
+abbrev pub changed_in : StageView → (since : ℕ) → Result Listing LookFault
+changed_in stage since =
+    of_world (world_in stage.held)
+    (λ w. Ok (changes_after stage.scene w.fields w.trace since))
 
 -- ---- rays
 

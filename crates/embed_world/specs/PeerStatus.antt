@@ -1,5 +1,5 @@
 -- The numbers that C sees for the answers of hosts and viewers, and what is returned of them.
-use Rattle.std.specs.Prelude.{ℕ, Result, Ok, Err}
+use Rattle.std.specs.Prelude.{ℕ, ◌^◌, nat_lt, if◌then◌else◌, Result, Ok, Err}
 use Rattle.share_law.specs.declared.fault.FloorFault.{FloorFault}
 use Rattle.share_law.specs.declared.fault.FloorFault.TheVariants as floor
 use Rattle.share_law.specs.declared.fault.GatherFault.{GatherFault}
@@ -76,6 +76,10 @@ status_of_gather gather.Memory = 5
 abbrev pub status_of_join : JoinFault → ℕ
 status_of_join join.NotWhole = 55
 status_of_join (join.Snap fault) = status_of_snap fault
+
+-- the bytes of a snapshot are too many for pieces, or not
+abbrev pub status_of_size : ℕ → ℕ
+status_of_size size = if nat_lt (2 ^ 26) size then 56 else 0
 
 -- ---- answers
 

@@ -106,6 +106,11 @@ abbrev pub Asks : {H A : Type 0} → (H → A) → Option H → ℕ → (old new
 Asks asked None status old new = (status ≡ closed) × (new ≡ old)
 Asks asked (Some w) status old new = (status ≡ 0) × (new ≡ asked w)
 
+-- like Asks, with this status
+abbrev pub AsksBy : {H A : Type 0} → (H → A) → (said : ℕ) → Option H → ℕ → (old new : A) → Type 0
+AsksBy asked said None status old new = (status ≡ closed) × (new ≡ old)
+AsksBy asked said (Some w) status old new = (status ≡ said) × (new ≡ asked w)
+
 -- the number of a field is written, if there is one
 abbrev pub IsFound : Option ℕ → (old status new : ℕ) → Type 0
 IsFound None old status new = (status ≡ no_such_field) × (new ≡ old)
@@ -115,6 +120,16 @@ IsFound (Some field) old status new = (status ≡ 0) × (new ≡ field)
 abbrev pub Finds : {H : Type 0} → (H → Option ℕ) → Option H → ℕ → (old new : ℕ) → Type 0
 Finds found None status old new = (status ≡ closed) × (new ≡ old)
 Finds found (Some h) status old new = IsFound (found h) old status new
+
+-- the number of a viewer is written, if there is such a viewer
+abbrev pub IsHeard : Option ℕ → (old status new : ℕ) → Type 0
+IsHeard None old status new = (status ≡ out_of_range) × (new ≡ old)
+IsHeard (Some n) old status new = (status ≡ 0) × (new ≡ n)
+
+-- a viewer is looked up in what the handle holds, which is unchanged
+abbrev pub Hears : {H : Type 0} → (H → Option ℕ) → Option H → ℕ → (old new : ℕ) → Type 0
+Hears found None status old new = (status ≡ closed) × (new ≡ old)
+Hears found (Some h) status old new = IsHeard (found h) old status new
 
 -- bytes or numbers of what the handle holds are copied
 abbrev pub Copies : {H A : Type 0} → (H → List A) → Option H → ℕ → (old : List A)

@@ -28,6 +28,7 @@ use Rattle.share_core.specs.Viewer.{ViewerView, machine_of, stage_in, with_gathe
 use Rattle.snapshot_core.specs.declared.fault.SaveFault.{SaveFault}
 use Rattle.snapshot_core.specs.declared.fault.SaveFault.TheVariants as save
 use Rattle.snapshot_core.specs.declared.fault.SnapFault.{SnapFault}
+use Rattle.embed_changes.specs.Changes.{Listing}
 use Rattle.embed_world.specs.Looks.{snapshot_in}
 use Rattle.embed_world.specs.declared.fault.LookFault.{LookFault}
 use Rattle.embed_world.specs.declared.fault.LookFault.TheVariants as look
@@ -54,6 +55,7 @@ IsStarted text who boot result =
     (result_map_both (viewer_from (sha256 text) who boot) (λ fault. fault) (opened_stage text))
     × IfOk result (λ v. v.text.items ≡ [])
     × IfOk result (λ v. v.numbers.items ≡ [])
+    × IfOk result (λ v. v.changed ≡ [])
 
 -- -- calls
 
@@ -139,6 +141,16 @@ Lists numbers old result new =
     Gives look.Memory (λ _. new.numbers.items) result numbers
     × OnErr result (new.numbers.items ≡ [])
     × (new ≡ record old { numbers = new.numbers })
+
+-- the fields that were set, and the numbers of their values, were listed of the world, which is
+-- unchanged
+abbrev pub ListsChanged : Result Listing LookFault → EmbeddedViewer → Result (Unit {0}) LookFault
+    → EmbeddedViewer → Type 0
+ListsChanged listing old result new =
+    Gives look.Memory (λ _. (new.changed, new.numbers.items)) result listing
+    × OnErr result (new.changed ≡ [])
+    × OnErr result (new.numbers.items ≡ [])
+    × (new ≡ record old { changed = new.changed; numbers = new.numbers })
 
 -- where a ray enters was returned, and the sensors were listed, of the world, which is unchanged
 abbrev pub Meets : Result (Option ListEntry × List ℤ) LookFault → EmbeddedViewer

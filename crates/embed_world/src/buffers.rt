@@ -4,6 +4,7 @@ ghost use Rattle.std.specs.Option.{option_map};
 ghost use Rattle.embed_world.specs.Status.{IsCopied, IsHandedOut};
 
 use crate::status::{DONE, ROOM};
+use embed_changes::Change;
 use share_wire::Packet;
 
 /// Copies the bytes if `out` has room for all of them, and writes their number to `wanted`. Returns
@@ -29,6 +30,19 @@ pub fn copy_numbers(out: &mut [i64], numbers: &[i64], wanted: &mut usize) -> u8
         return ROOM;
     }
     out[..numbers.len()].copy_from_slice(numbers);
+    DONE
+}
+
+/// Copies the changed fields if `out` has room for all of them, and writes how many there are to
+/// `wanted`. Returns `DONE` or `ROOM`.
+pub fn copy_changes(out: &mut [Change], changes: &[Change], wanted: &mut usize) -> u8
+    ensures { IsCopied changes.now out.old result wanted.new out.new }
+{
+    *wanted = changes.len();
+    if changes.len() > out.len() {
+        return ROOM;
+    }
+    out[..changes.len()].copy_from_slice(changes);
     DONE
 }
 

@@ -1,23 +1,62 @@
 //! The host of a shared world.
 
+ghost use Rattle.std.specs.Prelude.{◌≡◌, nat_eq};
+ghost use Rattle.std.specs.Cmp.Lexicographic.{pointwise};
+ghost use Rattle.embed_world.specs.Hosts.{is_anothers, is_other};
+
 use share_core::Host;
 use share_law::{FloorFault, HostFault, HostReply, NumberFault};
-use share_wire::Packet;
+use share_turns::{Heard, drop_passed, hear, sender_of};
+use share_wire::{Message, Packet, WireFault, decode};
 use snapshot_core::scene_mark;
 use std::alloc::Global;
 use x3d_values::MAX_VIEWERS;
 
-/// The host of a scene, with the scene's mark.
+fn is_other(who: u8, sender: Option<u8>) -> bool
+    ensures { result ≡ is_other who sender }
+{
+    match sender {
+        Some(sender) => sender != who,
+        None => false,
+    }
+}
+
+fn is_same(mark: &[u8; 32], other: &[u8; 32]) -> bool
+    ensures { result ≡ pointwise nat_eq mark.now other.now }
+{
+    mark == other
+}
+
+/// Reports whether a datagram is an offer or an ask, for the scene with this mark, of another
+/// viewer than `who`.
+fn is_anothers(mark: &[u8; 32], who: u8, read: &Result<Message, WireFault>) -> bool
+    ensures { result ≡ is_anothers mark.now who read.now }
+{
+    match read {
+        Ok(message) => {
+            if is_same(&message.mark, mark) {
+                is_other(who, sender_of(read))
+            } else {
+                false
+            }
+        }
+        Err(_) => false,
+    }
+}
+
+/// The host of a scene, with the scene's mark, and what it has heard of its viewers.
 #[derive(Drop)]
 pub struct EmbeddedHost {
     pub(crate) host: Host,
+    pub(crate) heard: Heard,
 }
 
 impl EmbeddedHost {
-    ghost use Rattle.std.specs.Prelude.{◌≡◌, Some, length};
+    ghost use Rattle.std.specs.Prelude.{◌≡◌, ℕ, List, Some, length};
     ghost use Rattle.std.specs.Option.{option_map};
     ghost use Rattle.embed_world.specs.Hosts as spec;
-    ghost use Rattle.embed_world.specs.Hosts.{Clocks, Drops, HostTakes};
+    ghost use Rattle.embed_world.specs.Hosts.{Clocks, Drops, HostTakes, HostTakesFrom};
+    ghost use Rattle.share_wire.specs.Decoding.{decoded};
 
     /// Returns the host of a scene's text, for 1 to `MAX_VIEWERS` viewers, which are numbered from
     /// 0. `None` for another number of viewers. Does not look at the scene.
@@ -32,6 +71,7 @@ impl EmbeddedHost {
         }
         Some(EmbeddedHost {
             host: Host::new(alloc, scene_mark(text), viewers),
+            heard: Heard::nobody(),
         })
     }
 
@@ -43,11 +83,39 @@ impl EmbeddedHost {
         self.host.clock(time)
     }
 
+    /// Takes a datagram that was decoded.
+    fn take_read(&mut self, read: Result<Message, WireFault>) -> Result<HostReply, HostFault>
+        ensures { (bytes : List ℕ) → read ≡ decoded bytes → HostTakes self.old bytes result self.new }
+    {
+        hear(
+            &mut self.heard,
+            &read,
+            &self.host.mark(),
+            self.host.viewers(),
+        );
+        match read {
+            Ok(message) => self.host.take_message(message),
+            Err(fault) => Err(HostFault::Wire(fault)),
+        }
+    }
+
     /// Takes the bytes of a datagram, as `Host::take` of share_core does.
     pub fn take(&mut self, bytes: &[u8]) -> Result<HostReply, HostFault>
         ensures { HostTakes self.old bytes.now result self.new }
     {
-        self.host.take(bytes)
+        self.take_read(decode(bytes))
+    }
+
+    /// Takes the bytes of a datagram that came from viewer `who`, like `take`. An offer or an ask of
+    /// another viewer is refused as `BadViewer` after `WrongScene`, and nothing changes.
+    pub fn take_from(&mut self, who: u8, bytes: &[u8]) -> Result<HostReply, HostFault>
+        ensures { HostTakesFrom self.old who bytes.now result self.new }
+    {
+        let read = decode(bytes);
+        if is_anothers(&self.host.mark(), who, &read) {
+            return Err(HostFault::BadViewer);
+        }
+        self.take_read(read)
     }
 
     /// Returns the datagram of the input with this number, if there is one, as `Host::packet` of
@@ -89,6 +157,26 @@ impl EmbeddedHost {
         ensures { Drops self.old floor result self.new }
     {
         self.host.drop_below(floor)
+    }
+
+    /// Returns the highest number that viewer `who` has asked from, or 0 if it hasn't asked: it has
+    /// all inputs below that. `None` if there is no such viewer.
+    pub fn heard(&self, who: u8) -> Option<u32>
+        ensures { result ≡ spec.heard_of self.now who }
+    {
+        let viewers = self.host.viewers();
+        if who >= viewers {
+            return None;
+        }
+        Some(self.heard.asked(who).unwrap_or(0))
+    }
+
+    /// Drops the inputs that every viewer that asked has, except the last `count` of them. Drops
+    /// nothing if none has asked.
+    pub fn keep(&mut self, count: u32)
+        ensures { self.new ≡ spec.keeping self.old count }
+    {
+        drop_passed(&mut self.host, &self.heard, Some(count));
     }
 
     /// Returns the number of inputs that are numbered.

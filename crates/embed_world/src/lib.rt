@@ -3,14 +3,18 @@
 //! | Modules | Content |
 //! |---|---|
 //! | `world`, `opening`, `input`, `scripts`, `shots` | a world: made, moved on, saved, loaded |
-//! | `host`, `viewer`, `pieces` | a host and a viewer of a shared world |
+//! | `host`, `viewer`, `pieces`, `datagram` | a host and a viewer of a shared world, and what they send |
 //! | `texts`, `lists`, `viewer_texts`, `viewer_lists` | reads of them, as texts and numbers |
-//! | `lines`, `meet`, `named`, `numbers`, `value` | what a read looks up |
-//! | `status`, `peer_status`, `tell`, `buffers` | how C sees an answer |
+//! | `changed` | the fields that were set after an input |
+//! | `lines`, `meet`, `named` | what a read looks up |
+//! | `status`, `peer_status`, `tell`, `buffers`, `aim` | how C sees an answer, and what it passes |
 //! | `fault` | why a read fails |
 #![tactic(auto)]
 
+mod aim;
 mod buffers;
+mod changed;
+mod datagram;
 mod fault;
 mod host;
 mod input;
@@ -18,7 +22,6 @@ mod lines;
 mod lists;
 mod meet;
 mod named;
-mod numbers;
 mod opening;
 mod peer_status;
 mod pieces;
@@ -27,13 +30,16 @@ mod shots;
 mod status;
 mod tell;
 mod texts;
-mod value;
 mod viewer;
 mod viewer_lists;
 mod viewer_texts;
 mod world;
 
-pub use buffers::{copy_numbers, copy_text, hand_out};
+pub use aim::Aim;
+pub use buffers::{copy_changes, copy_numbers, copy_text, hand_out};
+pub use changed::write_changed;
+pub use datagram::{DatagramAs, read_datagram};
+pub use embed_changes::Change;
 pub use fault::LookFault;
 pub use host::EmbeddedHost;
 pub use input::{pointer_of, stamped};
@@ -41,21 +47,19 @@ pub use lines::{push_changes, push_lines};
 pub use lists::{ListEntry, write_children, write_numbers, write_roots, write_sensors};
 pub use meet::{Meeting, met_by};
 pub use named::number_named;
-pub use numbers::{push_nodes, push_numbers};
-pub use peer_status::{NO_PACKET, status_of_floor};
+pub use peer_status::{NO_PACKET, status_of_floor, status_of_size};
 pub use shots::write_snapshot;
 pub use status::{
     CLOSED, DONE, MEMORY, RANGE, status_of_apply, status_of_look, status_of_place, status_of_save,
     status_of_snap,
 };
 pub use tell::{
-    ReplyAs, TakenAs, tell_field, tell_gathered, tell_joined, tell_number, tell_offer, tell_reply,
-    tell_rewound, tell_taken,
+    ReplyAs, TakenAs, tell_field, tell_gathered, tell_heard, tell_joined, tell_number, tell_offer,
+    tell_reply, tell_rewound, tell_taken,
 };
 pub use texts::{
     write_changes, write_field, write_label, write_scene, write_trace, write_type, write_value,
 };
-pub use value::value_now;
 pub use viewer::EmbeddedViewer;
 pub use world::EmbeddedWorld;
 pub use x3d_values::ray_of;

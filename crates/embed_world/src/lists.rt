@@ -7,10 +7,9 @@ ghost use Rattle.embed_world.specs.declared.fault.LookFault.TheVariants.{Memory}
 
 use crate::fault::LookFault;
 use crate::meet::met_by;
-use crate::numbers::{push_nodes, push_numbers};
-use crate::value::value_now;
 use crate::world::EmbeddedWorld;
 use cascade_core::Stage;
+use embed_changes::{push_nodes, push_numbers, value_now};
 use scene_core::Scene;
 use script_boxes::StockScript;
 use x3d_values::Ray;

@@ -3,6 +3,7 @@
 use crate::world::EmbeddedWorld;
 use app_jobs::JobFault;
 use app_program::stage_of;
+use embed_changes::ChangeList;
 use snapshot_core::scene_mark;
 use std::alloc::Global;
 
@@ -15,11 +16,16 @@ impl EmbeddedWorld {
         ensures { IsWorldOpened text.now result }
     {
         let stage = stage_of(alloc, text)?;
+        let Ok(changed) = ChangeList::new(alloc, stage.scene()) else {
+            drop(stage);
+            return Err(JobFault::Memory);
+        };
         Ok(EmbeddedWorld {
             stage,
             mark: scene_mark(text),
             text: Vec::new(alloc),
             numbers: Vec::new(alloc),
+            changed,
         })
     }
 }

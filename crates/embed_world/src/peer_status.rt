@@ -1,9 +1,11 @@
 //! The numbers that C sees for what hosts and viewers answer.
 
-ghost use Rattle.std.specs.Prelude.{◌≡◌};
+ghost use Rattle.std.specs.Prelude.{◌≡◌, length};
 ghost use Rattle.embed_world.specs.PeerStatus as spec;
 
-use crate::status::{BAD_VERSION, MEMORY, SPOILED, TIME_NOT_LATER, WRONG_SCENE, status_of_snap};
+use crate::status::{
+    BAD_VERSION, DONE, MEMORY, SPOILED, TIME_NOT_LATER, WRONG_SCENE, status_of_snap,
+};
 use share_law::{
     FloorFault, GatherFault, HostFault, JoinFault, NumberFault, OfferFault, TakeFault,
 };
@@ -41,6 +43,11 @@ const OFFERS_SPENT: u8 = 53;
 const NOT_PIECE: u8 = 54;
 
 const NOT_WHOLE: u8 = 55;
+
+const TOO_LARGE: u8 = 56;
+
+/// The number of bytes of the longest snapshot that has pieces.
+const MAX_SIZE: usize = 1 << 26;
 
 /// The number for why bytes are not a datagram.
 pub fn status_of_wire(fault: WireFault) -> u8
@@ -136,5 +143,16 @@ pub fn status_of_join(fault: JoinFault) -> u8
     match fault {
         JoinFault::NotWhole => NOT_WHOLE,
         JoinFault::Snap(fault) => status_of_snap(fault),
+    }
+}
+
+/// The number for whether a snapshot of these bytes is too large for pieces.
+pub fn status_of_size(bytes: &[u8]) -> u8
+    ensures { result ≡ spec.status_of_size (length bytes.now) }
+{
+    if bytes.len() > MAX_SIZE {
+        TOO_LARGE
+    } else {
+        DONE
     }
 }

@@ -2,14 +2,14 @@
 
 ghost use Rattle.std.specs.Prelude.{◌≡◌};
 ghost use Rattle.embed_world.specs.Status as answers;
-ghost use Rattle.embed_world.specs.Status.{IsFound};
+ghost use Rattle.embed_world.specs.Status.{IsFound, IsHeard};
 ghost use Rattle.embed_world.specs.PeerStatus as spec;
 
 use crate::peer_status::{
     status_of_gather, status_of_host, status_of_join, status_of_number, status_of_offer,
     status_of_take,
 };
-use crate::status::{DONE, NO_SUCH_FIELD, status_of_snap};
+use crate::status::{DONE, NO_SUCH_FIELD, RANGE, status_of_snap};
 use share_law::{
     GatherFault, Gathered, HostFault, HostReply, JoinFault, NumberFault, OfferFault, TakeFault,
     Taken,
@@ -170,6 +170,18 @@ pub fn tell_field(found: Option<u16>, told: &mut u16) -> u8
         return NO_SUCH_FIELD;
     };
     *told = field;
+    DONE
+}
+
+/// Writes the number that a viewer asked from, if there is such a viewer, to `told`, and returns the
+/// status.
+pub fn tell_heard(found: Option<u32>, told: &mut u32) -> u8
+    ensures { IsHeard found told.old result told.new }
+{
+    let Some(next) = found else {
+        return RANGE;
+    };
+    *told = next;
     DONE
 }
 

@@ -7,9 +7,9 @@ ghost use Rattle.embed_world.specs.declared.fault.LookFault.TheVariants.{Memory}
 
 use crate::fault::LookFault;
 use crate::lines::{push_changes, push_lines};
-use crate::value::value_now;
 use crate::world::EmbeddedWorld;
 use cascade_core::{Stage, TextFault};
+use embed_changes::value_now;
 use scene_core::{End, Scene};
 use script_boxes::StockScript;
 use x3d_values::show_value;

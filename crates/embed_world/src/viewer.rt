@@ -5,6 +5,7 @@ ghost use Rattle.std.specs.Prelude.{◌≡◌, IsTrue};
 use crate::named::number_named;
 use app_jobs::JobFault;
 use app_program::stage_of;
+use embed_changes::{Change, ChangeList};
 use script_boxes::StockScript;
 use share_core::Viewer;
 use share_law::{GatherFault, Gathered, JoinFault, OfferFault, TakeFault, Taken};
@@ -13,12 +14,14 @@ use snapshot_core::{SnapFault, scene_mark};
 use std::alloc::Global;
 use x3d_values::Point;
 
-/// A viewer with the stock scripts, and the text and the numbers that were last read of it.
+/// A viewer with the stock scripts, and the text, the numbers and the changed fields that were last
+/// read of it.
 #[derive(Drop)]
 pub struct EmbeddedViewer {
     pub(crate) viewer: Viewer<StockScript>,
     pub(crate) text: Vec<u8>,
     pub(crate) numbers: Vec<i64>,
+    pub(crate) changed: ChangeList,
 }
 
 impl EmbeddedViewer {
@@ -41,10 +44,15 @@ impl EmbeddedViewer {
         ensures { IsStarted text.now who boot result }
     {
         let stage = stage_of(alloc, text)?;
+        let Ok(changed) = ChangeList::new(alloc, stage.scene()) else {
+            drop(stage);
+            return Err(JobFault::Memory);
+        };
         Ok(EmbeddedViewer {
             viewer: Viewer::start(stage, scene_mark(text), who, boot),
             text: Vec::new(alloc),
             numbers: Vec::new(alloc),
+            changed,
         })
     }
 
@@ -164,5 +172,12 @@ impl EmbeddedViewer {
         ensures { result.now ≡ self.now.numbers.items }
     {
         self.numbers.as_slice()
+    }
+
+    /// Returns the changed fields that were listed last.
+    pub fn changed(&self) -> &[Change]
+        ensures { result.now ≡ self.now.changed }
+    {
+        self.changed.as_slice()
     }
 }

@@ -2,16 +2,18 @@
 
 use crate::named::number_named;
 use cascade_core::Stage;
+use embed_changes::{Change, ChangeList};
 use script_boxes::StockScript;
 
-/// A stage with the stock scripts, the mark of its scene's text, and the text and the numbers that
-/// were last read of it.
+/// A stage with the stock scripts, the mark of its scene's text, and the text, the numbers and the
+/// changed fields that were last read of it.
 #[derive(Drop)]
 pub struct EmbeddedWorld {
     pub(crate) stage: Stage<StockScript>,
     pub(crate) mark: [u8; 32],
     pub(crate) text: Vec<u8>,
     pub(crate) numbers: Vec<i64>,
+    pub(crate) changed: ChangeList,
 }
 
 impl EmbeddedWorld {
@@ -62,5 +64,12 @@ impl EmbeddedWorld {
         ensures { result.now ≡ self.now.numbers.items }
     {
         self.numbers.as_slice()
+    }
+
+    /// Returns the changed fields that were listed last.
+    pub fn changed(&self) -> &[Change]
+        ensures { result.now ≡ self.now.changed }
+    {
+        self.changed.as_slice()
     }
 }

@@ -12,6 +12,7 @@ pub mod Round
 pub mod Agreeing
 pub mod AgreedTexts
 pub mod Heard
+pub mod Attendance
 pub mod Ends
 pub mod Peers
 pub mod Told

@@ -21,3 +21,11 @@ one_more n = min (n + 1) (2 ^ 64 - 1)
 abbrev pub counted : {A E : Type 0} → Result A E → ℕ → ℕ
 counted (Ok a) n = n
 counted (Err fault) n = one_more n
+
+-- what a port has recorded, if it keeps a record, and how many milliseconds its rests took
+pub record Passed : Type 0 where
+  pub told : Option (List Traffic)
+  pub rested : ℕ
+
+abbrev pub passed : Option (List Traffic) → (rested : ℕ) → Passed
+passed told rested = record { told = told; rested = rested }

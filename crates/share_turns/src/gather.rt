@@ -122,7 +122,7 @@ pub fn join_run<B: Behaviour, P: Port>(
         if gather_turn(viewer, boot, port)? {
             return Ok(turn + 1);
         }
-        port.rest(false);
+        let _millis = port.rest(false);
     }
     Err(SeriesFault::TurnsUsedUp)
 }

@@ -87,7 +87,7 @@ fn rest_behind<P: Port>(turn: u32, port: &mut P)
     ensures count { P.failure_count port.new ≡ P.failure_count port.old }
 {
     if turn % IN_A_ROW == IN_A_ROW - 1 {
-        port.rest(true);
+        let _millis = port.rest(true);
     }
 }
 

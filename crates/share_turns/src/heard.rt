@@ -1,13 +1,15 @@
 //! The highest number that each viewer has asked from.
 
-ghost use Rattle.std.specs.Prelude.{◌≡◌};
-ghost use Rattle.share_turns.specs.Heard.{hear, lower, lowest, nobody};
+ghost use Rattle.std.specs.Prelude.{◌≡◌, ◌<◌, ℕ, get_or, length, max};
+ghost use Rattle.x3d_values.specs.Ranges.{max_viewers};
+ghost use Rattle.share_turns.specs.Heard.{asked, hear, heard_count, lower, lowest, nobody};
+ghost use Rattle.share_turns.specs.Heard.{number_of};
 
 use std::marker::Model;
 use x3d_values::MAX_VIEWERS;
 
 /// The number of places: one for each possible viewer.
-const PLACES: usize = MAX_VIEWERS as usize;
+pub(crate) const PLACES: usize = MAX_VIEWERS as usize;
 
 /// What a host has heard of its viewers. Place v has the highest number that viewer v has asked
 /// from, or 0 if viewer v hasn't asked.
@@ -27,8 +29,15 @@ impl Model for Heard {
     ghost invariant = { λ h. length h.nexts ≡ max_viewers };
 }
 
+/// Returns the number that a place holds, if its viewer has asked.
+fn number_of(next: u32) -> Option<u32>
+    ensures { result ≡ number_of next }
+{
+    if next == 0 { None } else { Some(next) }
+}
+
 /// Returns the lower of `next` and `others`. A `next` of 0 doesn't count.
-fn lower(next: u32, others: Option<u32>) -> Option<u32>
+pub(crate) fn lower(next: u32, others: Option<u32>) -> Option<u32>
     ensures { result ≡ lower next others }
 {
     if next == 0 {
@@ -47,6 +56,22 @@ fn lowest(nexts: &[u32]) -> Option<u32>
         [] => None,
         [next, others @ ..] => lower(*next, lowest(others)),
     }
+}
+
+/// Raises each number to the other's at its place.
+fn raise(nexts: &mut [u32; PLACES], others: &[u32; PLACES])
+    ensures { (who : ℕ) → who < max_viewers
+        → get_or nexts.new who 0 ≡ max (get_or nexts.old who 0) (get_or others.now who 0) }
+{
+    for who in 0..PLACES {
+        nexts[who] = nexts[who].max(others[who]);
+    }
+}
+
+fn heard_count(nexts: &[u32]) -> usize
+    ensures { result ≡ heard_count nexts.now }
+{
+    nexts.iter().filter(|next| **next > 0).count()
 }
 
 impl Heard {
@@ -68,11 +93,47 @@ impl Heard {
         }
     }
 
+    /// Returns the highest number that viewer `who` asked from: it has all inputs below it. Returns
+    /// `None` if the viewer wasn't heard of, or if `who` isn't below `MAX_VIEWERS`.
+    pub fn asked(&self, who: u8) -> Option<u32>
+        ensures { result ≡ asked self.now who }
+    {
+        let place = who as usize;
+        if place < PLACES {
+            number_of(self.nexts[place])
+        } else {
+            None
+        }
+    }
+
     /// Returns the lowest number that a viewer asked from: all viewers heard of have asked past the
     /// inputs below it. Returns `None` if no viewer was heard of.
     pub fn lowest(&self) -> Option<u32>
         ensures { result ≡ lowest self.now }
     {
         lowest(&self.nexts)
+    }
+
+    /// Notes all that another record has heard.
+    pub(crate) fn join(&mut self, other: &Heard)
+        ensures numbers { (who : ℕ) → who < max_viewers
+            → get_or self.new who 0 ≡ max (get_or self.old who 0) (get_or other.now who 0) }
+        ensures places { length self.new ≡ max_viewers }
+    {
+        raise(&mut self.nexts, &other.nexts);
+    }
+
+    /// Returns the number of each viewer, or 0 if it wasn't heard of.
+    pub(crate) fn numbers(&self) -> &[u32; PLACES]
+        ensures { result.now ≡ self.now }
+    {
+        &self.nexts
+    }
+
+    /// Returns how many viewers were heard of.
+    pub fn count(&self) -> usize
+        ensures { result ≡ heard_count self.now }
+    {
+        heard_count(&self.nexts)
     }
 }

@@ -74,6 +74,7 @@ fn send_input<P: Port>(host: &Host, number: u32, to: u16, port: &mut P) -> Resul
     ensures sent { AreSent (is_ok result) to (P.told port.old) (P.told port.new)
         (datagrams_of host.now.mark (listed (part_packet host.now.part number))) }
     ensures failures { P.failure_count port.new ≡ counted result (P.failure_count port.old) }
+    ensures time { P.rested port.new ≡ P.rested port.old }
 {
     match host.packet(number) {
         Some(packet) => port.send(to, packet.as_slice()),
@@ -86,6 +87,7 @@ fn send_floor<P: Port>(host: &Host, to: u16, port: &mut P) -> Result<(), PortFau
     ensures sent { AreSent (is_ok result) to (P.told port.old) (P.told port.new)
         (datagrams_of host.now.mark (part_floor_packet host.now.part ∷ [])) }
     ensures failures { P.failure_count port.new ≡ counted result (P.failure_count port.old) }
+    ensures time { P.rested port.new ≡ P.rested port.old }
 {
     port.send(to, host.floor_packet().as_slice())
 }
@@ -101,6 +103,7 @@ fn send_inputs<P: Port>(
     ensures sent { AreSent (is_ok result) to (P.told port.old) (P.told port.new)
         (datagrams_of host.now.mark (inputs_for host.now.part reply)) }
     ensures failures { P.failure_count port.new ≡ counted result (P.failure_count port.old) }
+    ensures time { P.rested port.new ≡ P.rested port.old }
 {
     if let HostReply::Below(_floor) = reply {
         return send_floor(host, to, port);
@@ -125,6 +128,7 @@ fn send_ack<P: Port>(
     ensures sent { AreSent (is_ok result) to (P.told port.old) (P.told port.new)
         (datagrams_of host.now.mark (acks_for host.now.part sender)) }
     ensures failures { P.failure_count port.new ≡ counted result (P.failure_count port.old) }
+    ensures time { P.rested port.new ≡ P.rested port.old }
 {
     let Some(who) = sender else {
         return Ok(());
@@ -151,6 +155,7 @@ pub fn send_for<P: Port>(
     ensures sent { AreSent (is_ok result) to (P.told port.old) (P.told port.new)
         (datagrams_of host.now.mark (bodies_for host.now.part sender reply)) }
     ensures failures { P.failure_count port.new ≡ counted result (P.failure_count port.old) }
+    ensures time { P.rested port.new ≡ P.rested port.old }
 {
     send_inputs(host, reply, to, port)?;
     send_ack(host, sender, to, port)
@@ -192,6 +197,7 @@ fn answer<P: Port>(
         (P.told port.old) (P.told port.new) host.new.part }
     ensures failures { P.failure_count port.new
         ≡ failures_after result (P.failure_count port.old) }
+    ensures time { P.rested port.new ≡ P.rested port.old }
 {
     match take(host, read) {
         Ok(reply) => Ok(send_for(host, reply, sender_of(read), from, port)?),
@@ -260,6 +266,7 @@ pub(crate) fn hearing_turn<P: Port>(
         host.old.part host.new.part heard.old heard.new }
     ensures failures { P.failure_count port.new
         ≡ failures_after result (P.failure_count port.old) }
+    ensures time { P.rested port.new ≡ P.rested port.old }
 {
     let mark = host.mark();
     let viewers = host.viewers();

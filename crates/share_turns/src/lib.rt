@@ -6,10 +6,12 @@
 //! | `host`, `viewer`, `most` | one turn |
 //! | `runs`, `view`, `rounds` | turns one after another: a host, a viewer, all of them together |
 //! | `gather`, `give` | a viewer that joins by pieces of a snapshot, and one that gives them |
-//! | `heard`, `ends` | what each viewer has asked for, and when a host drops inputs or is done |
+//! | `heard`, `attendance` | what each viewer has asked for, and which of them a host counts |
+//! | `ends` | when a host drops inputs or is done |
 //! | `fault` | why a turn ends early |
 #![tactic(auto)]
 
+mod attendance;
 mod ends;
 mod fake;
 mod fault;
@@ -26,7 +28,8 @@ mod udp;
 mod view;
 mod viewer;
 
-pub use ends::{floor_for, is_served};
+pub use attendance::{Attendance, GRACE_MILLIS, SILENT_MILLIS};
+pub use ends::{floor_for, is_done, is_served};
 pub use fake::FakePort;
 pub use fault::{SeriesFault, TurnFault};
 pub use gather::join_run;
@@ -36,7 +39,7 @@ pub use host::{after_clock, after_refusal, hear, host_turn, send_for, sender_of,
 pub use most::MOST;
 pub use port::{Port, PortFault, RECEIVED};
 pub use rounds::{agree, agree_until};
-pub use runs::{HostPlan, drop_passed, host_run, is_over};
+pub use runs::{HostPlan, drop_counted, drop_passed, host_run, is_over};
 pub use traffic::{Bytes, Datagram, Traffic};
 pub use udp::UdpPort;
 pub use view::{ViewPlan, view_run, view_until};

@@ -75,7 +75,7 @@ pub fn view_until<B: Behaviour, P: Port>(
         }
         let point = item_at(points, offered);
         offered = one_more_if(viewer_turn(viewer, point, host, port)?, offered);
-        port.rest(viewer.applied() > before);
+        let _millis = port.rest(viewer.applied() > before);
     }
     if viewer.applied() < until {
         return Err(SeriesFault::TurnsUsedUp);

@@ -19,6 +19,7 @@ fn all_hold<R: Row>(rt: &impl Abort, alloc: Global, rows: &[R]) {
 }
 
 mod agreeing;
+mod attending;
 mod cable;
 mod given;
 mod loading;

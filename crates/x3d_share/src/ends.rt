@@ -15,6 +15,44 @@ impl fmt::Display for BoundAt {
     }
 }
 
+/// What a host's log has as the host begins, in words.
+#[derive(Drop)]
+struct LogBegin {
+    inputs: u64,
+    clocks: usize,
+}
+
+impl fmt::Display for LogBegin {
+    fn fmt<W: fmt::Write>(&self, f: &mut fmt::Formatter<W>) -> fmt::Result {
+        write!(
+            f,
+            "{} inputs in the log, {} clocks left",
+            self.inputs, self.clocks
+        )
+    }
+}
+
+/// How much was cut of a log's file, in words.
+#[derive(Drop)]
+struct LogCut(u64);
+
+impl fmt::Display for LogCut {
+    fn fmt<W: fmt::Write>(&self, f: &mut fmt::Formatter<W>) -> fmt::Result {
+        write!(f, "cut {} bytes of an append that was not finished", self.0)
+    }
+}
+
+/// Reports on standard error what was cut of a log's file, and if `verbose` is set, how many inputs
+/// it has and how many clocks of the job are left.
+pub fn tell_log<R: Eprint>(rt: &R, verbose: bool, inputs: u64, cut: u64, clocks: usize) {
+    if cut > 0 {
+        let _told = rt.eprintln(LogCut(cut));
+    }
+    if verbose {
+        let _told = rt.eprintln(LogBegin { inputs, clocks });
+    }
+}
+
 /// The result of a host's run, in words.
 #[derive(Drop)]
 struct HostEnd {

@@ -1,25 +1,26 @@
 //! The program: its words, its input, and what it prints.
 #![tactic(auto)]
 
+mod defaults;
+mod end;
 mod ends;
+mod files;
+mod logs;
 mod peers;
 mod stack;
 
-ghost use Rattle.app_words.specs.Words.{IsInRange};
+ghost use Rattle.app_words.specs.Words.{HostInRange, IsInRange};
 
+use crate::end::{End, refuse};
+use crate::logs::{host_over_log, recall};
 use crate::peers::{agree, host, rehearse, view};
 use crate::stack::has_room;
-use app_program::{
-    Failure, RunFault, StreamFault, check_text, format_text, refusal_line, run_job, status_of,
-    write_whole,
-};
-use app_words::{Order, OrderFault, Request, hint_of, request_of};
+use app_program::{Failure, RunFault, StreamFault, check_text, format_text, run_job, write_whole};
+use app_words::{HostOrder, LogUse, Order, OrderFault, Request, hint_of, log_file_of, request_of};
 use std::alloc::{AllocError, Global};
 use std::io::{self, Eprint};
-use std::net::Net;
 use std::process::ExitCode;
 use std::rt::Env;
-use std::time::Clock;
 
 /// Returns the program's own name and its words.
 fn own_words<R: Env + AllocGlobal>(rt: &R) -> Result<Vec<String>, OrderFault> {
@@ -58,51 +59,55 @@ fn print_text<R: Print>(rt: &R, text: &str) -> Result<(), Failure> {
     write_whole(&mut io::writer(rt), text.as_bytes()).map_err(output_failure)
 }
 
-/// Carries out a command.
-fn obey<R: AllocGlobal + Input + Print + Net + Eprint + Clock>(
-    rt: &R,
-    order: Order,
-) -> Result<(), Failure>
+/// Runs a host, over the log that the words name if they name one.
+fn host_as(rt: &HostRuntime, words: &[&str], order: &Order, asked: &HostOrder) -> Result<(), End>
+    requires { HostInRange asked.now }
+{
+    if asked.log == LogUse::Without {
+        return Ok(host(rt, order, asked)?);
+    }
+    match log_file_of(rt.alloc(), words)? {
+        Some(file) => host_over_log(rt, order, asked, file),
+        None => Err(End::from(OrderFault::Words)),
+    }
+}
+
+/// Carries out a command. The words are those that ask for it.
+fn obey(rt: &HostRuntime, words: &[&str], order: Order) -> Result<(), End>
     requires { IsInRange order }
 {
     match order {
-        Order::Run => run_own(rt),
-        Order::Format => format_scene(rt),
-        Order::Check => check_scene(rt),
-        Order::Rehearse { viewers } => rehearse(rt, viewers),
-        Order::Agree { viewers, turns } => agree(rt, &order, viewers, turns),
-        Order::Host(asked) => host(rt, &order, &asked),
-        Order::View(asked) => view(rt, &order, &asked),
+        Order::Run => run_own(rt)?,
+        Order::Format => format_scene(rt)?,
+        Order::Check => check_scene(rt)?,
+        Order::Rehearse { viewers } => rehearse(rt, viewers)?,
+        Order::Agree { viewers, turns } => agree(rt, &order, viewers, turns)?,
+        Order::Host(asked) => host_as(rt, words, &order, &asked)?,
+        Order::View(asked) => view(rt, &order, &asked)?,
+        Order::Recall { until } => recall(rt, until)?,
     }
+    Ok(())
 }
 
 /// Prints the text that words ask for, or carries out their command.
-fn answer<R: AllocGlobal + Input + Print + Net + Eprint + Clock>(
-    rt: &R,
-    words: &[&str],
-) -> Result<(), Failure> {
+fn answer(rt: &HostRuntime, words: &[&str]) -> Result<(), End> {
     match request_of(rt.alloc(), words)? {
-        Request::Text(text) => print_text(rt, text.as_str()),
-        Request::Order(order) => obey(rt, order),
+        Request::Text(text) => Ok(print_text(rt, text.as_str())?),
+        Request::Order(order) => obey(rt, words, order),
     }
 }
 
-fn answer_own<R: AllocGlobal + Input + Print + Net + Eprint + Clock>(
-    rt: &R,
-    own: &[String],
-) -> Result<(), Failure> {
+fn answer_own(rt: &HostRuntime, own: &[String]) -> Result<(), End> {
     let Ok(words) = views(rt.alloc(), own) else {
-        return Err(Failure::Order(OrderFault::Memory));
+        return Err(End::from(OrderFault::Memory));
     };
     answer(rt, words.as_slice())
 }
 
-fn work<R: Env + AllocGlobal + Input + Print + Net + Eprint + Clock>(
-    rt: &R,
-) -> Result<(), Failure> {
+fn work(rt: &HostRuntime) -> Result<(), End> {
     let own = own_words(rt)?;
     if !has_room(own.len()) {
-        return Err(Failure::Order(OrderFault::Memory));
+        return Err(End::from(OrderFault::Memory));
     }
     answer_own(rt, own.as_slice())
 }
@@ -116,15 +121,9 @@ fn own_hint<R: Env + AllocGlobal>(rt: &R) -> Result<String, OrderFault> {
     hint_of(rt.alloc(), words.as_slice())
 }
 
-/// Prints the line of a refusal on standard error, and returns its status.
-fn refuse<R: Eprint>(rt: &R, failure: &Failure) -> ExitCode {
-    let _told = rt.eprintln(refusal_line(failure).as_str());
-    ExitCode::from(status_of(failure))
-}
-
 /// Like `refuse`, for words. A second line says which word is wrong, and what is required.
 fn refuse_words<R: Env + AllocGlobal + Eprint>(rt: &R) -> ExitCode {
-    let words = Failure::Order(OrderFault::Words);
+    let words = End::from(OrderFault::Words);
     match own_hint(rt) {
         Ok(hint) => {
             let status = refuse(rt, &words);
@@ -136,14 +135,14 @@ fn refuse_words<R: Env + AllocGlobal + Eprint>(rt: &R) -> ExitCode {
             let _told = rt.eprintln("a word is not UTF-8");
             status
         }
-        Err(OrderFault::Memory) => refuse(rt, &Failure::Order(OrderFault::Memory)),
+        Err(OrderFault::Memory) => refuse(rt, &End::from(OrderFault::Memory)),
     }
 }
 
 fn main(rt: HostRuntime) -> ExitCode {
     match work(&rt) {
         Ok(()) => ExitCode::SUCCESS,
-        Err(Failure::Order(OrderFault::Words)) => refuse_words(&rt),
-        Err(failure) => refuse(&rt, &failure),
+        Err(End::Failure(Failure::Order(OrderFault::Words))) => refuse_words(&rt),
+        Err(end) => refuse(&rt, &end),
     }
 }

@@ -5,11 +5,12 @@ ghost use Rattle.std.specs.Prelude.{◌≡◌, ◌≤◌, IfOk, length};
 ghost use Rattle.x3d_values.specs.Ranges.{max_viewers};
 ghost use Rattle.app_words.specs.Words.{HostInRange, ViewInRange};
 
+use crate::defaults::{turns_of, viewers_of};
 use crate::ends::{tell_host_end, tell_port, tell_view_end};
 use app_commands::{
-    ExactPort, JointJob, PatientPort, Peer, Seat, SharedJob, TellingPort, Watch, agree_job, bound,
-    bound_free, first_boot, give_job, host_job, joint_job, number_of, rehearse_job, seated_job,
-    shared_job, view_job,
+    AskingPort, ExactPort, JointJob, PatientPort, Peer, Seat, SharedJob, TellingPort, Watch,
+    agree_job, bound, bound_free, first_boot, give_job, host_job, joint_job, number_of,
+    rehearse_job, seated_job, shared_job, view_job,
 };
 use app_jobs::JobFault;
 use app_program::{Failure, RunFault, ShareFault, read_whole, write_whole};
@@ -119,16 +120,17 @@ fn hosted<R: AllocGlobal + Net + Eprint + Clock>(
 {
     let bound = bound(rt, asked.port)?;
     tell_port(rt, asked.verbose, &bound);
-    let watch = Watch::new(job.mark, Peer::Host(asked.viewers));
+    let viewers = viewers_of(asked);
+    let watch = Watch::new(job.mark, Peer::Host(viewers));
     let mut port = PatientPort::new(TellingPort::new(bound, rt, asked.verbose, watch), rt);
     let plan = host_plan(asked);
     let mut count = 0;
     let done = host_job(
         rt.alloc(),
         job,
-        asked.viewers,
+        viewers,
         &plan,
-        asked.turns,
+        turns_of(asked),
         &mut port,
         &mut count,
     );
@@ -248,12 +250,13 @@ fn viewed<R: AllocGlobal + Print + Net + Eprint + Clock>(
     let text = view_job(rt.alloc(), seat, asked.port, &plan, &mut port);
     let mut port = port.into_port();
     let done = printed(rt, seat, asked.port, text, &mut port);
-    let mut port = PatientPort::new(port, rt);
+    let asking = AskingPort::new(port, rt, asked.port, seat.viewer.ask());
+    let mut port = PatientPort::new(asking, rt);
     let done = match done {
         Ok(()) => given(rt.alloc(), seat, asked, &mut port),
         Err(failure) => Err(failure),
     };
-    let counts = port.port().port().counts();
+    let counts = port.port().port().port().counts();
     tell_view_end(rt, asked.verbose, seat.viewer.applied(), counts);
     done
 }

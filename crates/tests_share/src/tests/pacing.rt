@@ -1,6 +1,6 @@
 //! When a viewer's asks and offers are sent, by a clock that only moves when it is set.
 
-use app_commands::{ExactPort, Pace, PatientPort};
+use app_commands::{AskingPort, ExactPort, Pace, PatientPort};
 use share_turns::{Bytes, Datagram, FakePort, Port, Traffic};
 use share_wire::{Ack, Ask, Body, Message, Packet, Piece, encode};
 use std::alloc::Global;
@@ -158,4 +158,44 @@ fn an_exact_port_passes_over_what_is_beyond(rt: HostRuntime) {
     }
     drop(port);
     assert!(rt; came && is_empty == [false, true, false, true]);
+}
+
+#[test]
+fn a_port_counts_the_time_between_its_rests(rt: HostRuntime) {
+    let hand = Hand {
+        time: Cell::new(Duration::from_millis(70)),
+    };
+    let mut port = PatientPort::new(FakePort::failing_at(rt.alloc(), 0), &hand);
+    let first = port.rest(false);
+    hand.time.set(Duration::from_micros(71_999));
+    let second = port.rest(false);
+    hand.time.set(Duration::from_millis(2_072));
+    let third = port.rest(false);
+    drop(port);
+    drop(hand);
+    assert!(rt; (first, second, third) == (0, 1, 2_001));
+}
+
+#[test]
+fn a_viewer_that_gives_repeats_its_ask_each_second(rt: HostRuntime) {
+    let hand = Hand {
+        time: Cell::new(Duration::from_millis(5)),
+    };
+    let fake = FakePort::failing_at(rt.alloc(), 0);
+    let ask = packet(Body::Ask(Ask::new(0, 3)));
+    let mut port = AskingPort::new(fake, &hand, HOST, ask);
+    let mut sent = [false; 4];
+    for (turn, (millis, count)) in [(5, 2), (1_004, 3), (1_005, 5), (1_500, 6)]
+        .iter()
+        .enumerate()
+    {
+        hand.time.set(Duration::from_millis(*millis));
+        let given = port.send(HOST + 1, b"piece").is_ok();
+        if let Some(each) = sent.get_mut(turn) {
+            *each = given && has_sent(port.port(), *count);
+        }
+    }
+    drop(port);
+    drop(hand);
+    assert!(rt; sent == [true; 4]);
 }

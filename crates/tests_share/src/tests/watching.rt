@@ -4,7 +4,7 @@ ghost use Rattle.std.specs.Prelude.{IsTrue};
 ghost use Rattle.share_wire.specs.Messages.{is_ordinal};
 
 use app_commands::{Note, Peer, Refusal, Watch};
-use share_wire::{Ack, Ask, Body, Message, Offer, Packet, encode};
+use share_wire::{Ack, Ask, Body, Message, Offer, Packet, Piece, encode};
 use std::process::Abort;
 use x3d_values::{Pointer, Ray, Vec3};
 
@@ -69,4 +69,21 @@ fn a_viewer_tells_of_silence_and_of_a_later_boot(rt: HostRuntime) {
     assert!(rt; watch.comes(40, own.as_slice()) == None);
     let old = Some(Note::Dropped(Refusal::OldBoot, 40));
     assert!(rt; watch.comes(40, later.as_slice()) == old);
+}
+
+/// A viewer that joined by pieces asks a host that isn't there, while further pieces come.
+#[test]
+fn a_viewer_tells_that_no_host_answers_its_asks(rt: HostRuntime) {
+    let mut watch = Watch::new(MARK, Peer::Viewer(2));
+    let piece = packet(MARK, Body::Piece(Piece::new(1, 5, 193, 1, &[0])));
+    let ask = packet(MARK, Body::Ask(Ask::new(0, 6)));
+    for _turn in 0..30 {
+        assert!(rt; watch.comes(41, piece.as_slice()) == None && watch.rests() == None);
+    }
+    for _turn in 1..20 {
+        watch.goes(ask.as_slice());
+        assert!(rt; watch.comes(41, piece.as_slice()) == None && watch.rests() == None);
+    }
+    watch.goes(ask.as_slice());
+    assert!(rt; watch.rests() == Some(Note::NoAnswer) && watch.rests() == None);
 }

@@ -8,7 +8,7 @@ use Rattle.share_turns.proofs.Turning.{turn_cut, turn_end, turn_unclocked, turne
 use Rattle.share_turns.proofs.host.hearing_turn.Goals as goal
 
 pub loop-datagram-init : goal.loop-datagram-init
-loop-datagram-init g c = (turned_begun c.args.host.now.mark c.args.clock (g.P.Port.told c.args.port.now) c.args.host.now.part c.number_clock.new.host.part c.args.heard.now c.in_ok-number_clock.ensures.step, c.in_ok-number_clock.ensures.mark, refl)
+loop-datagram-init g c = (turned_begun c.args.host.now.mark c.args.clock (g.P.Port.told c.args.port.now) c.args.host.now.part c.number_clock.new.host.part c.args.heard.now c.in_ok-number_clock.ensures.step, c.in_ok-number_clock.ensures.mark, refl, refl)
 
 pub returns-in_err-number_clock-clause-turn : goal.returns-in_err-number_clock-clause-turn
 returns-in_err-number_clock-clause-turn g c =
@@ -54,4 +54,5 @@ loop-datagram-preserved g c =
           came c.args.host.now.part c.loop-datagram.host.part c.answer.new.host.part c.args.heard.now c.loop-datagram.heard c.hear.new.heard c.loop-datagram._datagram c.loop-datagram.invariant.0 got.1 hearing exchange,
       c.in_ok-answer-in-Some.ensures.mark ∙ c.loop-datagram.invariant.1,
       c.in_ok-answer-in-Some.ensures.failures ∙ c.in_ok-from.ensures.failures ∙ c.loop-datagram.invariant.2,
+      c.in_ok-answer-in-Some.ensures.time ∙ c.in_ok-from.ensures.time ∙ c.loop-datagram.invariant.3,
     )

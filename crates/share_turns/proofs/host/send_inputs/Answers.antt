@@ -10,7 +10,7 @@ returns-in_err-send_input-clause-sent g c =
     rw c.in-Asked.is (rw failed (
     inputs_lost c.args.host.now.mark c.args.host.now.part c.in-Asked.first c.in-Asked.count c.loop-number.number c.args.to
     (g.P.Port.told c.args.port.now) (g.P.Port.told c.loop-number.port) (g.P.Port.told c.send_input.new.port)
-    i.2 (omega (arith, c.loop-number-test.true)) i.0 c.in_err-send_input.ensures.sent))
+    i.3 (omega (arith, c.loop-number-test.true)) i.0 c.in_err-send_input.ensures.sent))
 
 pub loop-number-preserved : goal.loop-number-preserved
 loop-number-preserved g c =
@@ -18,10 +18,11 @@ loop-number-preserved g c =
     let mark = c.args.host.now.mark in
     let host = c.args.host.now.part in
     let n = c.loop-number.number in (
-      rw (inputs_from-more mark host c.in-Asked.first n i.2)
+      rw (inputs_from-more mark host c.in-Asked.first n i.3)
           (are_sent_then true c.args.to (g.P.Port.told c.args.port.now) (g.P.Port.told c.loop-number.port) (g.P.Port.told c.send_input.new.port) _ _ i.0 c.in_ok-send_input.ensures.sent),
       c.in_ok-send_input.ensures.failures ∙ i.1,
-      omega (arith, i.2),
+      c.in_ok-send_input.ensures.time ∙ i.2,
+      omega (arith, i.3),
       refl,
       omega (arith, c.loop-number-test.true),
     )

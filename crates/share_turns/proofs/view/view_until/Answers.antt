@@ -18,8 +18,8 @@ loop-turn-preserved g c =
     let turn = subst (λ (p : Option Point). IfRunning x.state.view (λ w. IsViewerTurn (machine_of x) x.mark x.who c.args.host p (g.P.Port.told c.loop-turn.port) (g.P.Port.told c.viewer_turn.new.port) x.state (Ok did) y.state)) c.item_at-point.ensures c.in_ok-viewer_turn.ensures.turn in
     let more = viewed_more v x y c.args.host c.args.points.now c.args.until c.loop-turn.turn (g.P.Port.told c.args.port.now) (g.P.Port.told c.loop-turn.port) (g.P.Port.told c.viewer_turn.new.port) c.loop-turn.offered did
     i.0 i.1 few c.in_ok-viewer_turn.ensures.spoiled turn in (
-      rw (c.rest.ensures.told) (subst (λ k. ViewerTurns v c.args.host c.args.points.now c.args.until (c.loop-turn.turn + 1) (g.P.Port.told c.args.port.now) (g.P.Port.told c.viewer_turn.new.port) k y.state) (sym c.one_more_if-offered.ensures.value) more),
+      rw (c.rest-millis.ensures.told) (subst (λ k. ViewerTurns v c.args.host c.args.points.now c.args.until (c.loop-turn.turn + 1) (g.P.Port.told c.args.port.now) (g.P.Port.told c.viewer_turn.new.port) k y.state) (sym c.one_more_if-offered.ensures.value) more),
       c.in_ok-viewer_turn.ensures.others ∙ ap (λ z. with_state z y.state) i.1,
-      c.rest.ensures.count ∙ c.in_ok-viewer_turn.ensures.failures ∙ i.2,
+      c.rest-millis.ensures.count ∙ c.in_ok-viewer_turn.ensures.failures ∙ i.2,
       omega (arith, c.one_more_if-offered.ensures.most, i.3),
     )

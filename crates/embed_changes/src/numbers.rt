@@ -3,7 +3,7 @@
 ghost use Rattle.std.specs.Prelude.{◌≡◌, ◌++◌, ℤ, List, OnOk};
 ghost use Rattle.std.specs.List.{flat_map};
 ghost use Rattle.x3d_values.specs.Vectors.{number_run, pair_run, vector_run, color_run};
-ghost use Rattle.embed_world.specs.Numbers as spec;
+ghost use Rattle.embed_changes.specs.Numbers as spec;
 
 use std::alloc::AllocError;
 use x3d_values::{Color, Value, Vec2, Vec3};

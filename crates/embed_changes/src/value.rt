@@ -2,7 +2,7 @@
 
 ghost use Rattle.std.specs.Prelude.{◌≡◌, slice_get};
 ghost use Rattle.std.specs.Option.{option_copied};
-ghost use Rattle.embed_world.specs.Values as spec;
+ghost use Rattle.embed_changes.specs.Values as spec;
 
 use scene_core::Scene;
 use x3d_values::{Fields, Value};

@@ -1,7 +1,7 @@
 use Rattle.std.proofs.Common.{◌∙◌, ◌++◌, ap, take_all}
 use Rattle.std.specs.List.{flat_map}
-use Rattle.embed_world.proofs.Listed.{listed_next}
-use Rattle.embed_world.proofs.numbers.push_all.Goals as goal
+use Rattle.embed_changes.proofs.Listed.{listed_next}
+use Rattle.embed_changes.proofs.numbers.push_all.Goals as goal
 
 pub loop-item-preserved : goal.loop-item-preserved
 loop-item-preserved g c =

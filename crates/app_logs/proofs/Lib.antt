@@ -1,0 +1,4 @@
+mod Lines
+mod Running
+mod Heads
+mod Recalls
