@@ -19,7 +19,7 @@ except ImportError:
     sys.exit("room: there is no aiohttp: Debian's package python3-aiohttp has it")
 try:
     from library import WASM, x3d
-except (ImportError, OSError) as missing:
+except (ImportError, OSError, AttributeError) as missing:
     sys.exit(f"room: {missing}")
 from explain import Unshown
 from guard import Guard
