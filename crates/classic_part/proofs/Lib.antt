@@ -1,3 +1,4 @@
 pub mod Equations
 pub mod Grown
+pub mod Indexing
 pub mod Walks

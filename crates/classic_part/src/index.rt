@@ -1,6 +1,6 @@
 //! What a round knows, with its names in order.
 
-ghost use Rattle.std.specs.Prelude.{◌≡◌, ◌&&◌, ◌||◌, ◌++◌, ◌∷◌, [], List, ℕ, false, IfOk, option_map};
+ghost use Rattle.std.specs.Prelude.{◌≡◌, ◌&&◌, ◌||◌, ◌++◌, ◌∷◌, [], List, ℕ, true, false, IfOk, option_map, if◌then◌else◌};
 ghost use Rattle.std.specs.List.{list_any};
 ghost use Rattle.std.specs.Str.{bytes_eq};
 ghost use Rattle.classic_part.specs.Index.{IsOf, holds};
@@ -64,7 +64,7 @@ impl<'k> NameSet<'k> {
 
     fn add(&mut self, name: &'k Text) -> Result<(), AllocFailed<&'k str>>
         ensures { IfOk result (λ _. (other : List ℕ)
-            → holds self.new other ≡ (bytes_eq name.now other || holds self.old other)) }
+            → holds self.new other ≡ (if bytes_eq name.now other then true else holds self.old other)) }
     {
         self.names.insert(name.as_str())?;
         Ok(())
