@@ -1,4 +1,3 @@
 pub mod Equations
 pub mod Grown
-pub mod Indexing
 pub mod Walks

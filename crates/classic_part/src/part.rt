@@ -7,8 +7,8 @@ ghost use Rattle.classic_part.specs.Rounds as spec;
 
 use crate::index::Index;
 use crate::knowing::{Known, Refusal};
-use crate::notes::Note;
 use crate::lists::statements_part;
+use crate::notes::Note;
 use classic_tree::{Document, Statement};
 use std::alloc::{AllocError, Global};
 use std::mem;

@@ -9,8 +9,7 @@ use crate::copies::{list_of, plain};
 use crate::index::Index;
 use crate::knowing::Level;
 use crate::leaves::{
-    body_part, declared_part, field_item, full_node, is_nothing, push_grouped, route_part,
-    use_part,
+    body_part, declared_part, field_item, full_node, is_nothing, push_grouped, route_part, use_part,
 };
 use crate::lists::{declarations_part, items_part, nodes_part, statements_part};
 use crate::notes::{Note, NoteKind, push_note};
