@@ -2,7 +2,7 @@
 SHELL := bash
 .SHELLFLAGS := -eu -o pipefail -c
 .PHONY: run try unproved quick picture room test-room test-room-quick measure-room room-library \
-        share soak fuzz test cases prefixes refusals check definitions calls \
+        share soak kill fuzz test cases prefixes refusals check definitions calls \
         bench growth format install library library-unproved bindings fuzz-library wasm \
         dist test-dist abi site
 
@@ -97,6 +97,12 @@ soak:
 	@cd crates/x3d_share && $(RT) run -- --version > /dev/null
 	@scripts/soak $(MINUTES)
 
+# Proves and builds the program, and kills hosts and viewers of worlds that have a log, for MINUTES. It prints a
+# seed, by which it is done again.
+kill:
+	@cd crates/x3d_share && $(RT) run -- --version > /dev/null
+	@scripts/kill $(MINUTES)
+
 # Proves and builds the program, and gives each of its commands TEXTS changed scenes, jobs and schedules.
 TEXTS ?= 10000
 fuzz:
@@ -108,6 +114,7 @@ fuzz:
 # a thousand changed texts, a shared world over UDP, how hosts and viewers end and what they tell, stacks
 # that are too small, and a world
 # with killed viewers and malicious datagrams;
+# hosts over a log that are killed;
 # and jobs from C, Rust and Python, by the library of `make library`, or where it isn't built or is older than a
 # source by one that is built of the same sources without a proof.
 test: definitions
@@ -122,6 +129,7 @@ test: definitions
 	scripts/hosts; \
 	scripts/stack; \
 	scripts/soak 1 --seed 48; \
+	scripts/kill 1; \
 	if $(call fresh,out/libx3d.so); then scripts/abi out/libx3d.so; scripts/bindings --quick; \
 	elif ! command -v "$${CC:-cc}" > /dev/null; then echo "bindings: skipped: no C compiler"; \
 	else $(call fresh,out/quick/libx3d.so) || scripts/unproved_library out/quick; \

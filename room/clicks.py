@@ -99,16 +99,21 @@ def measured(count):
 
 
 def main():
+    if not all(map(str.isdigit, sys.argv[1:])):
+        sys.exit(__doc__)
     counts = [int(word) for word in sys.argv[1:]] or COUNTS
     where = "in the windows" if (WASM / "x3d.wasm").exists() else "in the server"
     load = f"load {os.getloadavg()[0]:.1f} at first, of {os.cpu_count()} processors"
     about = f"{time.strftime('%Y-%m-%d')}, {CLICKS} clicks each, {load}, viewers {where}"
     rows = []
-    try:
-        for count in counts:
+    for count in counts:
+        try:
             rows.append(measured(count))
-    except Skipped as skipped:
-        sys.exit(f"room: {skipped}")
+        except Skipped as skipped:
+            sys.exit(f"room: {skipped}")
+        except Exception as fault:
+            print(f"{count} windows: {fault!r}", file=sys.stderr)
+            rows.append(f"| {count} of chromium | not measured | | {os.getloadavg()[0]:.1f} |")
     print(f"{about}; library {os.environ.get('X3D_SO', '')}\n")
     print("\n".join((f"| Windows | Median | Worst | Load, on {os.cpu_count()} processors |", "|---|---|---|---|", *rows)))
 

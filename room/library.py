@@ -4,6 +4,10 @@ import sys
 from pathlib import Path
 
 TOP = Path(__file__).resolve().parent.parent
+# The library is what X3D_SO names, or else what was built here, or else the system's.
+for built in (TOP / "out/libx3d.so", TOP / "out/quick/libx3d.so"):
+    if "X3D_SO" not in os.environ and built.exists():
+        os.environ["X3D_SO"] = str(built)
 sys.path[:0] = [str(TOP / "bindings/python"), str(TOP / "scripts")]
 import scene_text
 import wire

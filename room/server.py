@@ -97,6 +97,12 @@ def is_no_request(record):
     return bool(record.exc_info) and isinstance(record.exc_info[1], HttpProcessingError)
 
 
+def note_fault(loop, about):
+    """A connection that broke while it was written to, as by a heartbeat, is no fault of the server."""
+    if not isinstance(about.get("exception"), ConnectionError):
+        loop.default_exception_handler(about)
+
+
 async def serve(given):
     services, addresses = services_of(given), given.address or ["127.0.0.1"]
     site = Site(services, given, given.three)
@@ -105,6 +111,7 @@ async def serve(given):
     guard = Guard(0 if given.proxy else 2 * given.each + MORE, runner.server)
     given.connected = guard.connected
     loop, ended = asyncio.get_running_loop(), asyncio.Event()
+    loop.set_exception_handler(note_fault)
     server = await loop.create_server(guard, addresses, given.port, backlog=256)
     for ends in (signal.SIGINT, signal.SIGTERM):
         loop.add_signal_handler(ends, ended.set)

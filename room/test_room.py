@@ -33,6 +33,7 @@ QUICK, BUDGET, END = "--quick" in sys.argv, 40, 55
 GATE = (
     "a_log_has_its_bytes",
     "the_program_recalls_the_log_as_the_job",
+    "the_program_goes_on_with_the_log_and_the_room_with_its",
     "viewers_in_windows_are_equal_over_a_bad_channel",
     "a_viewer_in_a_window_is_stopped_and_restarts",
     "a_late_window_joins_its_viewer_by_pieces",

@@ -1,5 +1,6 @@
 """Tests of a run as a world's log: its bytes by hand, what is refused, what a crash leaves, and that the program reads it."""
 import os
+import socket
 import subprocess
 import tempfile
 from pathlib import Path
@@ -10,7 +11,7 @@ from library import TOP, wire
 from log_file import EMPTY, SHUT, Damaged, Writer, entry_of, framed, head_of, read_log
 from record import Record
 from replay import read_run
-from served import DRILL, Skipped, scene
+from served import DRILL, LATER, Skipped, scene
 from store import Store
 from tests_room import recorded
 
@@ -184,3 +185,37 @@ def test_the_program_recalls_the_log_as_the_job():
         assert told + b"scene\n" + record.text == record.job(), (told[:300], record.job()[:300])
         world = record.world.trace() + record.world.scene()
         assert does("run", record.job()).decode() == world, world[:300]
+
+
+def free_port():
+    """A port of UDP that no one has."""
+    with socket.socket(socket.AF_INET, socket.SOCK_DGRAM) as end:
+        end.bind(("127.0.0.1", 0))
+        return str(end.getsockname()[1])
+
+
+def test_the_program_goes_on_with_the_log_and_the_room_with_its():
+    """A host over the room's log numbers one clock more; its viewer has the room's world then, and the room reads it."""
+    record, place = recorded(300).record, program()
+    before = len(record.inputs)
+    until = ("--until", str(before + 1))
+    with tempfile.TemporaryDirectory() as folder:
+        job, log = Path(folder, "door.job"), Path(folder, "door.x3dlog")
+        job.write_bytes(b"clock %d\nscene\n" % (record.inputs.time(before) // wire.MILLION + 1) + record.text)
+        log.write_bytes(record.x3dlog())
+        log.chmod(0o600)
+        ends = "--port", free_port()
+        with job.open() as steps:
+            host = subprocess.Popen([place, "host", *ends, "--log", log, *until], stdin=steps)
+        try:
+            words = [place, "view", *ends, "--who", "1", "--boot", str(2**31), *until]
+            given = {"input": b"scene\n" + record.text, "timeout": 3 * LATER}
+            told = subprocess.run(words, **given, capture_output=True, check=True).stdout
+            assert host.wait(3 * LATER) == 0
+        finally:
+            host.kill()
+            host.wait()
+        again = read_run(log)
+        assert len(again.inputs) == before + 1 and again.inputs.run == record.inputs.run
+        assert told.decode() == again.world.trace() + again.world.scene()
+        assert again.job().startswith(record.inputs.lines(1).encode())

@@ -100,7 +100,8 @@ def test_seats_have_limits_and_more_windows_watch():
         assert served.client().seat["kind"] == "refused"
         # Whoever leaves frees the seat, and a token gives it back to its own window alone.
         clients[0].close()
-        time.sleep(0.3)
+        while any(person["id"] == clients[0].seat["id"] for person in clients[1].until("people")["people"]):
+            pass
         assert served.client(token=clients[1].seat["token"]).seat["who"] == 1
         assert served.client(token=clients[0].seat["token"]).seat["who"] == 0
 
@@ -302,7 +303,8 @@ def test_a_restarted_server_goes_on():
             # It may be logged before the last point is answered.
             while not any(each["text"] == said for event in client.events for each in event.get("log", ())):
                 client.until("log")
-            time.sleep(1.5)
+            while client.until("status")["numbered"] < 60:
+                pass
             mine = {"X-Room-Token": client.seat["token"]}
             stored, job = served.ask("GET", "/door/x3dlog", **mine), served.ask("GET", "/door/job", **mine)
             assert stored[0] == 200 and Writer(read_log(stored[1])[1]).whole(wire.mark_of(scene().encode())) == stored[1], stored[0]

@@ -118,7 +118,7 @@ def test_the_camera_is_each_windows_own():
 
         empty = [120, 700]
         one.mouse("mouseMoved", empty)
-        time.sleep(0.5)
+        one.wait("room.pointer.due === null && !room.pointer.busy && !room.pointer.waits.length")
         before = one.value(offers)
         for buttons, what in ((1, "orbit"), (2, "pan")):
             one.mouse("mousePressed", empty, buttons)

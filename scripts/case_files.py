@@ -16,6 +16,8 @@ TIMES = re.compile(rb"\\\*(\d+) (.*)")
 ESCAPES = {b"r": b"\r", b"t": b"\t", b"\\": b"\\"}
 # The commands whose input is lines of steps, a line `scene`, and a scene.
 OF_JOBS = {"run", "rehearse", "agree", "host", "view"}
+# Those whose input is bytes without a scene.
+OF_LOGS = {"recall"}
 
 
 def stop(why):
@@ -100,6 +102,8 @@ def cases_of(file):
 
 def scene_of(words, given):
     """The scene in a command's input, if there is one."""
+    if words[:1] and words[0] in OF_LOGS:
+        return None
     if words[:1] and words[0] not in OF_JOBS:
         return given
     found = re.search(rb"^scene\r?\n", given, re.M)

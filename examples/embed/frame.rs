@@ -26,7 +26,8 @@ type Picture = BTreeMap<(u32, u16), Vec<i64>>;
 fn walked(world: &mut World) -> Result<Picture, Fault> {
     let mut picture = Picture::new();
     for node in 0..u32::try_from(world.node_count()).expect("node numbers have 32 bits") {
-        for field in 0..u16::try_from(world.field_count(node)).expect("field numbers have 16 bits") {
+        for field in 0..u16::try_from(world.field_count(node)).expect("field numbers have 16 bits")
+        {
             match world.numbers(node, field) {
                 Ok(numbers) => picture.insert((node, field), numbers),
                 Err(Fault::NoSuchField) => None, // it only sends or receives

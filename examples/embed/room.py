@@ -89,6 +89,9 @@ class Server:
             writer.close()
 
     async def run(self):
+        # Only clients that have asked hold the floor back.
+        while None in (self.host.heard(0), self.host.heard(1)):
+            await asyncio.sleep(TICK)
         for clock in range(CLOCKS):
             self.host.clock(10_000_000 + clock * 20_000)
             self.host.keep(KEPT)

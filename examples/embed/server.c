@@ -141,13 +141,19 @@ static void take(struct server *s, const struct sockaddr_in *from, const uint8_t
   answer(s, who, &reply);
 }
 
+/* The number that a client asked from last; 0 if it hasn't asked. Only clients that have asked hold
+ * the floor back, so the first clock waits for two of them. */
+static uint32_t heard(struct server *s, uint8_t who) {
+  uint32_t asked;
+  must(x3d_host_heard(&s->host, who, &asked) == X3D_DONE, "the host is closed");
+  return asked;
+}
+
 /* Whether the host has heard that all clients have everything. */
 static bool all_have(struct server *s) {
-  uint32_t asked, count;
-  must(x3d_host_count(&s->host, &count) == X3D_DONE, "the host is closed");
   for (uint8_t who = 0; who < CLIENTS; who++)
-    if (x3d_host_heard(&s->host, who, &asked) != X3D_DONE || asked <= UNTIL) return false;
-  return count >= UNTIL;
+    if (heard(s, who) <= UNTIL) return false;
+  return true;
 }
 
 static void start(uint8_t who);
@@ -165,7 +171,7 @@ static void serve(int end) {
     must(turn < TURNS, "the clients don't end");
     for (int k = 0; k < MOST && (length = receive(end, bytes, &from, k ? 0 : TICK_MS)) > 0; k++)
       take(&s, &from, bytes, length);
-    if (clocks < CLOCKS && s.known[0] && s.known[1])
+    if (clocks < CLOCKS && heard(&s, 0) && heard(&s, 1))
       must(x3d_host_clock(&s.host, 10000000 + ++clocks * 20000, &number) == X3D_DONE,
            "a clock is refused");
     must(x3d_host_keep(&s.host, KEPT) == X3D_DONE &&

@@ -40,6 +40,24 @@ pub struct Meeting {
     pub sensors: Vec<u32>,
 }
 
+/// The status of a copy without room for all.
+const ROOM: u8 = 12;
+
+/// Leaves in `out` all that `call` copies to a place with room for a number of items. The call
+/// writes how many there are.
+pub(crate) fn copied<T: Clone + Default>(
+    out: &mut Vec<T>,
+    mut call: impl FnMut(*mut T, usize, *mut usize) -> u8,
+) {
+    let mut wanted = out.capacity();
+    let mut status = ROOM;
+    while status == ROOM {
+        out.resize(wanted, T::default());
+        status = call(out.as_mut_ptr(), out.len(), &mut wanted);
+    }
+    out.truncate(wanted);
+}
+
 /// The methods that read, by the calls of one of the two.
 macro_rules! readable {
     (
@@ -98,19 +116,9 @@ macro_rules! readable {
                 changed: &mut ChangedFields,
             ) -> Result<(), Fault> {
                 Fault::told(unsafe { raw::$list_changed(&mut self.handle, since) })?;
-                let mut wanted = changed.fields.capacity();
-                for _call in 0..2 {
-                    changed.fields.resize(wanted, RawChange::default());
-                    unsafe {
-                        raw::$copy_changed(
-                            &mut self.handle,
-                            changed.fields.as_mut_ptr(),
-                            changed.fields.len(),
-                            &mut wanted,
-                        )
-                    };
-                }
-                changed.fields.truncate(wanted);
+                copied(&mut changed.fields, |out, room, wanted| unsafe {
+                    raw::$copy_changed(&mut self.handle, out, room, wanted)
+                });
                 self.listed_into(&mut changed.numbers);
                 Ok(())
             }
@@ -207,15 +215,10 @@ macro_rules! readable {
 
             /// The bytes that were made last.
             fn text(&mut self) -> Vec<u8> {
-                let mut wanted = 0;
                 let mut out = Vec::new();
-                // The first call tells how many there are, the second copies them.
-                for _call in 0..2 {
-                    out.resize(wanted, 0);
-                    unsafe {
-                        raw::$copy_text(&mut self.handle, out.as_mut_ptr(), out.len(), &mut wanted)
-                    };
-                }
+                copied(&mut out, |out, room, wanted| unsafe {
+                    raw::$copy_text(&mut self.handle, out, room, wanted)
+                });
                 out
             }
 
@@ -231,18 +234,9 @@ macro_rules! readable {
             }
 
             fn listed_into(&mut self, out: &mut Vec<i64>) {
-                let mut wanted = out.capacity();
-                for _call in 0..2 {
-                    out.resize(wanted, 0);
-                    unsafe {
-                        raw::$copy_numbers(
-                            &mut self.handle,
-                            out.as_mut_ptr(),
-                            out.len(),
-                            &mut wanted,
-                        )
-                    };
-                }
+                copied(out, |out, room, wanted| unsafe {
+                    raw::$copy_numbers(&mut self.handle, out, room, wanted)
+                });
             }
 
             fn nodes(&mut self) -> Vec<u32> {

@@ -4,8 +4,8 @@ use crate::changed::ChangedFields;
 use crate::changes::Changes;
 use crate::fault::{Fault, Refusal};
 use crate::packet::{Packet, packet};
-use crate::raw::{self, RawChange, RawMet, RawTaken, RawViewer};
-use crate::reading::{Aim, Meeting, readable};
+use crate::raw::{self, RawMet, RawTaken, RawViewer};
+use crate::reading::{Aim, Meeting, copied, readable};
 use std::ptr;
 
 /// What a viewer made of a datagram.

@@ -3,8 +3,8 @@
 use crate::changed::ChangedFields;
 use crate::changes::Changes;
 use crate::fault::{Fault, Refusal};
-use crate::raw::{self, RawChange, RawMet, RawSaved, RawWork, RawWorld};
-use crate::reading::{Aim, Meeting, readable};
+use crate::raw::{self, RawMet, RawSaved, RawWork, RawWorld};
+use crate::reading::{Aim, Meeting, copied, readable};
 use std::ptr;
 
 /// What an input gave rise to.

@@ -2,6 +2,7 @@
 use Rattle.std.specs.Prelude.{◌≡◌, ◌⊎◌, Option, ℕ, List, Result, Ok, Err}
 use Rattle.x3d_values.specs.Stamp.{StampedView}
 use Rattle.classic_text.specs.Reading.{read_text}
+use Rattle.classic_tree.specs.declared.tree.Document.{Document}
 use Rattle.proto_flat.specs.declared.flat.Flat.{Flat}
 use Rattle.proto_meaning.specs.Flat.{flat}
 use Rattle.scene_core.specs.Building.{scene_of}
@@ -47,6 +48,10 @@ flattened text = next of_read (read_text text) (λ d. next of_expand (flat d) go
 -- the scene of a text, and its routes
 unfoldable pub opened : List ℕ → Result OpenedScene JobFault
 opened text = next same (flattened text) built
+
+-- the scene of a document, and its routes
+unfoldable pub opened_document : Document → Result OpenedScene JobFault
+opened_document d = next of_expand (flat d) built
 
 abbrev pub with_inputs : List StampedView → OpenedScene → Result Job JobFault
 with_inputs inputs o = Ok (record { inputs = inputs; scene = o.scene; routes = o.routes })

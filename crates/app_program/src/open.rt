@@ -5,13 +5,15 @@ ghost use Rattle.std.specs.Io.KnownBytes.{Consumes, IsAtEnd};
 ghost use Rattle.x3d_lists.specs.Answers.{Gives};
 ghost use Rattle.cascade_core.specs.InOrder.{AreInOrder};
 ghost use Rattle.app_jobs.specs.Schedule.{schedule_lines};
-ghost use Rattle.app_program.specs.Opening.{routed, built, flattened, opened, opened_job, IsDeviceOrMemory};
+ghost use Rattle.app_program.specs.Opening.{routed, built, flattened, opened, opened_document, opened_job};
+ghost use Rattle.app_program.specs.Opening.{IsDeviceOrMemory};
 ghost use Rattle.app_program.specs.Opening.{IsNoJob, IsNoSchedule};
 ghost use Rattle.app_jobs.specs.declared.fault.JobFault.TheVariants.{Memory};
 
 use crate::stream::read_whole;
 use app_jobs::{JobFault, JobInputs, Schedule, job_of, schedule_of};
 use classic_text::read;
+use classic_tree::Document;
 use proto_expand::expand;
 use proto_flat::Flat;
 use route_core::Routes;
@@ -72,6 +74,19 @@ pub fn open_scene(alloc: Global, text: &[u8]) -> Result<OpenedScene, JobFault>
     ensures { Gives Memory (λ o. o) result (opened text.now) }
 {
     let flat = flattened(alloc, text)?;
+    let opened = built(alloc, &flat);
+    // For the prover: an explicit call. At an exit, the drop of `flat` is proved in place.
+    drop(flat);
+    opened
+}
+
+/// Returns the scene of a document, and its routes. Fails with the first fault of the document, or
+/// with `Memory` if memory is refused.
+#[tactic(auto, unfolding(crate::specs::Opening::opened_document))]
+pub fn open_document(alloc: Global, document: Document) -> Result<OpenedScene, JobFault>
+    ensures { Gives Memory (λ o. o) result (opened_document document) }
+{
+    let flat = expand(alloc, document)?;
     let opened = built(alloc, &flat);
     // For the prover: an explicit call. At an exit, the drop of `flat` is proved in place.
     drop(flat);

@@ -95,7 +95,8 @@ pub fn status_of(failure: &Failure) -> u8
     }
 }
 
-fn job_fault_name(fault: &JobFault) -> &'static str
+/// Returns the name of the innermost fault.
+pub fn job_fault_name(fault: &JobFault) -> &'static str
     ensures name { result.now ≡ job_fault_name fault.now }
     ensures short { length result.now ≤ 20 }
 {

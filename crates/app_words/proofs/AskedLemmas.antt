@@ -3,14 +3,14 @@ use Rattle.std.proofs.Common.{◌≡◌, ◌≤◌, ℕ, List, codes, Option, So
 use Rattle.clap.specs.Words.{Row, Text}
 use Rattle.app_words.specs.declared.order.HostOrder.{HostOrder}
 use Rattle.app_words.specs.declared.order.Order.{Order}
-use Rattle.app_words.specs.declared.order.Order.TheVariants.{Run, Format, Check, Rehearse, Agree, Host, View}
+use Rattle.app_words.specs.declared.order.Order.TheVariants.{Run, Format, Check, Rehearse, Agree, Host, View, Recall}
 use Rattle.app_words.specs.declared.order.ViewEnd.{ViewEnd}
 use Rattle.app_words.specs.declared.order.ViewEnd.TheVariants.{Until, Exactly}
 use Rattle.app_words.specs.declared.order.ViewOrder.{ViewOrder}
-use Rattle.app_words.specs.Misfits.{misfit_of}
+use Rattle.app_words.specs.Misfits.{host_misfit, misfit_of}
 use Rattle.app_words.specs.declared.misfit.Misfit.{Misfit}
 use Rattle.app_words.specs.Words.{Asks, AsksHost, AsksView, IsEnd, IsInRange, IsViewers, IsTurns, MayHaveExactly, MayHaveNumberIn, MayHaveUntil, end_count, end_of}
-use Rattle.app_words.proofs.OneOrder.{one_view, without}
+use Rattle.app_words.proofs.OneOrder.{one_host, one_view, without}
 
 pub agree_needs : (rows : List Row) (o : Order) → Asks o (codes "agree", rows)
     → (viewers : ℕ) × (turns : ℕ) × IsViewers rows viewers × IsTurns rows turns
@@ -27,9 +27,11 @@ agree_needs rows (Host asked) h =
     let bad : 97 ≡ 104 = ap (λ t. slice_index t 0) h.0 in absurd (omega (arith, bad))
 agree_needs rows (View asked) h =
     let bad : 97 ≡ 118 = ap (λ t. slice_index t 0) h.0 in absurd (omega (arith, bad))
+agree_needs rows (Recall until) h =
+    let bad : 97 ≡ 114 = ap (λ t. slice_index t 0) h.0 in absurd (omega (arith, bad))
 
 pub host_needs : (rows : List Row) (o : Order) → Asks o (codes "host", rows)
-    → (asked : HostOrder) × AsksHost rows asked
+    → (asked : HostOrder) × AsksHost rows asked × (host_misfit asked ≡ None)
 host_needs rows Run h =
     let bad : 104 ≡ 114 = ap (λ t. slice_index t 0) h in absurd (omega (arith, bad))
 host_needs rows Format h =
@@ -40,9 +42,11 @@ host_needs rows (Rehearse viewers) h =
     let bad : 104 ≡ 114 = ap (λ t. slice_index t 0) h.0 in absurd (omega (arith, bad))
 host_needs rows (Agree viewers turns) h =
     let bad : 104 ≡ 97 = ap (λ t. slice_index t 0) h.0 in absurd (omega (arith, bad))
-host_needs rows (Host asked) h = (asked, h.1)
+host_needs rows (Host asked) h = (asked, h.1, h.2)
 host_needs rows (View asked) h =
     let bad : 104 ≡ 118 = ap (λ t. slice_index t 0) h.0 in absurd (omega (arith, bad))
+host_needs rows (Recall until) h =
+    let bad : 104 ≡ 114 = ap (λ t. slice_index t 0) h.0 in absurd (omega (arith, bad))
 
 pub view_needs : (rows : List Row) (o : Order) → Asks o (codes "view", rows)
     → (asked : ViewOrder) × AsksView rows asked × (misfit_of asked ≡ None)
@@ -59,6 +63,8 @@ view_needs rows (Agree viewers turns) h =
 view_needs rows (Host asked) h =
     let bad : 118 ≡ 104 = ap (λ t. slice_index t 0) h.0 in absurd (omega (arith, bad))
 view_needs rows (View asked) h = (asked, h.1, h.2)
+view_needs rows (Recall until) h =
+    let bad : 118 ≡ 114 = ap (λ t. slice_index t 0) h.0 in absurd (omega (arith, bad))
 
 -- options that don't go together ask for nothing
 pub no_view_of_misfit : (rows : List Row) (asked : ViewOrder) (why : Misfit) → AsksView rows asked → Some why ≡ misfit_of asked
@@ -67,6 +73,14 @@ no_view_of_misfit rows asked why read misfit o h =
     let given = view_needs rows o h in
     let same : asked ≡ given.0 = one_view rows asked given.0 read given.1 in
     let bad : Some why ≡ None = misfit ∙ ap (λ v. misfit_of v) same ∙ given.2 in
+    (cc)
+
+pub no_host_of_misfit : (rows : List Row) (asked : HostOrder) (why : Misfit) → AsksHost rows asked → Some why ≡ host_misfit asked
+    → (o : Order) → ¬ Asks o (codes "host", rows)
+no_host_of_misfit rows asked why read misfit o h =
+    let given = host_needs rows o h in
+    let same : asked ≡ given.0 = one_host rows asked given.0 read given.1 in
+    let bad : Some why ≡ None = misfit ∙ ap (λ v. host_misfit v) same ∙ given.2 in
     (cc)
 
 -- an end takes what both options may have
@@ -124,12 +138,13 @@ asked_range (Rehearse viewers) p h = (h.1.low_end, h.1.high_end)
 asked_range (Agree viewers turns) p h = (h.1.low_end, h.1.high_end)
 asked_range (Host asked) p h = record {
   port_low = h.1.port.low_end;
-  viewers_low = h.1.viewers.low_end;
-  viewers_high = h.1.viewers.high_end;
+  viewers_low = at_least (codes "viewers") p.1 1 64 asked.viewers h.1.viewers;
+  viewers_high = at_most (codes "viewers") p.1 1 64 asked.viewers h.1.viewers;
   until_high = at_most (codes "until") p.1 0 1048576 asked.until h.1.until;
   keep_high = at_most (codes "keep") p.1 0 1048576 asked.keep h.1.keep;
-  turns_low = h.1.turns.low_end;
-  turns_high = h.1.turns.high_end;
+  turns_low = at_least (codes "turns") p.1 1 10000000 asked.turns h.1.turns;
+  turns_high = at_most (codes "turns") p.1 1 10000000 asked.turns h.1.turns;
+  together = h.2;
 }
 asked_range (View asked) p h = record {
   port_low = h.1.port.low_end;
@@ -143,6 +158,7 @@ asked_range (View asked) p h = record {
   give_turns_low = h.1.give_turns.low_end;
   together = h.2;
 }
+asked_range (Recall until) p h = at_most (codes "until") p.1 0 1048576 until h.1
 
 pub some_range : (o : Order) (x : Option (Text × List Row)) → IsSomeAnd x (Asks o) → IsInRange o
 some_range o (Some p) h = asked_range o p h

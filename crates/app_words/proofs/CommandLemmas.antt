@@ -4,8 +4,8 @@ use Rattle.std.specs.List.{fold}
 use Rattle.std.proofs.lemmas.List.Folds.{fold-map}
 use Rattle.std.proofs.lemmas.List.Sums.{fold_more}
 use Rattle.app_words.specs.declared.commands.CommandWords.{CommandWords}
-use Rattle.app_words.specs.Commands.{app_with, with_command, program, local_program, single_program, bare_program}
-use Rattle.app_words.specs.Commands.{run_app, format_app, check_app, rehearse_app, agree_app, host_app, view_app}
+use Rattle.app_words.specs.Commands.{app_with, with_command, program, shared_program, local_program, single_program, bare_program}
+use Rattle.app_words.specs.Commands.{run_app, format_app, check_app, rehearse_app, agree_app, host_app, view_app, recall_app}
 
 pub one_more : {X Y : Type 0} (f : Y → X → Y) (a : Y) (xs : List X) (i : ℕ) (d : X) (now next : Y) → i < length xs
     → now ≡ fold f a (take i xs) → next ≡ f now (get_or xs i d) → next ≡ fold f a (take (i + 1) xs)
@@ -13,7 +13,7 @@ one_more f a xs i d now next small e step =
     step ∙ ap (λ y. f y (get_or xs i d)) e ∙ sym (fold_more f a xs i d small)
 
 pub all_commands : (ws : List CommandWords)
-    → map app_with ws ≡ run_app ∷ format_app ∷ check_app ∷ rehearse_app ∷ agree_app ∷ host_app ∷ view_app ∷ []
+    → map app_with ws ≡ run_app ∷ format_app ∷ check_app ∷ rehearse_app ∷ agree_app ∷ host_app ∷ view_app ∷ recall_app ∷ []
     → fold (λ a w. with_command a (app_with w)) bare_program ws ≡ program
-unfolding program local_program single_program
+unfolding program shared_program local_program single_program
 all_commands ws e = sym (fold-map with_command app_with bare_program ws) ∙ ap (fold with_command bare_program) e

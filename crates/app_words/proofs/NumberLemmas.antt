@@ -9,8 +9,8 @@ use Rattle.std.specs.Str.Parse.{IsNumeral, digits_value, without_leading_plus, P
 use Rattle.std.specs.Prelude.{Result, codes, is_some, option_and_then, option_map, slice_get, unwrap_or}
 use Rattle.std.specs.declared.num.ParseIntError.{ParseIntError}
 use Rattle.std.proofs.lemmas.Option.{none-some}
-use Rattle.clap.proofs.WalkLemmas.{one_text-rows}
-use Rattle.clap.specs.Words.{Row, Text, first_value, matched_of, one_of, read_as, rows_of}
+use Rattle.clap.proofs.WalkLemmas.{first_value-rows, one_text-rows}
+use Rattle.clap.specs.Words.{Row, Text, first_of, first_value, matched_of, one_of, read_as, rows_of}
 use Rattle.clap.specs.Matches.{ReadsOne}
 use Rattle.clap.specs.declared.parser.matches.Found.{Found}
 use Rattle.clap.specs.declared.parser.matches.MatchedArg.{MatchedArg}
@@ -91,3 +91,13 @@ pub not_left_out : (f : Found) (id : Text) (r : Option (Bor Text)) (b : Bool) �
 not_left_out f id None b found is e none = absurd (true≢false (sym (is ∙ ap not e)))
 not_left_out f id (Some s) b found is e none =
     none-some s.now (sym (found ∙ none_written (matched_of f id) (one_text-rows f id ∙ none)))
+
+-- ---- texts
+
+pub text_of : (f : Found) (id : Text) (r : Option (Bor Text)) → option_map (λ s. s.now) r ≡ first_value f id
+    → option_map (λ s. s.now) r ≡ first_of id (rows_of f)
+text_of f id r found = found ∙ first_value-rows f id
+
+pub some_text : (r : Option (Bor Text)) (o : Option Text) → option_map (λ s. s.now) r ≡ o → is_some r ≡ is_some o
+some_text None o e = ap (λ x. is_some x) e
+some_text (Some s) o e = ap (λ x. is_some x) e

@@ -6,7 +6,7 @@ use Rattle.clap.specs.Words.{Row, Text, subcommand_of}
 use Rattle.app_words.specs.Commands.{program}
 use Rattle.app_words.specs.declared.order.HostOrder.{HostOrder}
 use Rattle.app_words.specs.declared.order.Order.{Order}
-use Rattle.app_words.specs.declared.order.Order.TheVariants.{Run, Format, Check, Rehearse, Agree, Host, View}
+use Rattle.app_words.specs.declared.order.Order.TheVariants.{Run, Format, Check, Rehearse, Agree, Host, View, Recall}
 use Rattle.app_words.specs.declared.order.ViewEnd.{ViewEnd}
 use Rattle.app_words.specs.declared.order.ViewEnd.TheVariants.{Until, Exactly}
 use Rattle.app_words.specs.declared.order.ViewOrder.{ViewOrder}
@@ -38,11 +38,13 @@ one_end rows (Until n) (Exactly m) a b = absurd (without a.0 b.0)
 one_end rows (Exactly n) (Until m) a b = absurd (without b.0 a.0)
 one_end rows (Exactly n) (Exactly m) a b = ap (λ k. Exactly k) (one a.1 b.1)
 
-one_host : (rows : List Row) (x y : HostOrder) → AsksHost rows x → AsksHost rows y → x ≡ y
+pub one_host : (rows : List Row) (x y : HostOrder) → AsksHost rows x → AsksHost rows y → x ≡ y
 one_host rows x y a b =
+    let log : Some x.log ≡ Some y.log = sym a.log ∙ b.log in
     ap (λ n. record x { port = n }) (one a.port b.port)
-    ∙ ap (λ n. record x { port = y.port; viewers = n }) (one a.viewers b.viewers)
-    ∙ ap (λ n. record x { port = y.port; viewers = y.viewers; turns = n }) (one a.turns b.turns)
+    ∙ ap (λ u. record x { port = y.port; log = u }) (let same : x.log ≡ y.log = (cc) in same)
+    ∙ ap (λ n. record x { port = y.port; log = y.log; viewers = n }) (one_or_none _ rows _ _ x.viewers y.viewers a.viewers b.viewers)
+    ∙ ap (λ n. record y { turns = n; keep = x.keep; until = x.until; verbose = x.verbose }) (one_or_none _ rows _ _ x.turns y.turns a.turns b.turns)
     ∙ ap (λ o. record y { keep = o; until = x.until; verbose = x.verbose }) (one_or_none _ rows _ _ x.keep y.keep a.keep b.keep)
     ∙ ap (λ o. record y { until = o; verbose = x.verbose }) (one_or_none _ rows _ _ x.until y.until a.until b.until)
     ∙ ap (λ v. record y { verbose = v }) (a.verbose ∙ sym b.verbose)
@@ -86,6 +88,10 @@ run_alone (View asked2) p h g =
     let x : slice_index p.0 0 ≡ 114 = ap (λ t. slice_index t 0) h in
     let y : slice_index p.0 0 ≡ 118 = ap (λ t. slice_index t 0) g.0 in
     absurd (omega (arith, x, y))
+run_alone (Recall until2) p h g =
+    let x : slice_index p.0 1 ≡ 117 = ap (λ t. slice_index t 1) h in
+    let y : slice_index p.0 1 ≡ 101 = ap (λ t. slice_index t 1) g.0 in
+    absurd (omega (arith, x, y))
 
 format_alone : (o : Order) (p : Text × List Row) → Asks Format p → Asks o p → Format ≡ o
 format_alone Run p h g =
@@ -112,6 +118,10 @@ format_alone (Host asked2) p h g =
 format_alone (View asked2) p h g =
     let x : slice_index p.0 0 ≡ 102 = ap (λ t. slice_index t 0) h in
     let y : slice_index p.0 0 ≡ 118 = ap (λ t. slice_index t 0) g.0 in
+    absurd (omega (arith, x, y))
+format_alone (Recall until2) p h g =
+    let x : slice_index p.0 0 ≡ 102 = ap (λ t. slice_index t 0) h in
+    let y : slice_index p.0 0 ≡ 114 = ap (λ t. slice_index t 0) g.0 in
     absurd (omega (arith, x, y))
 
 check_alone : (o : Order) (p : Text × List Row) → Asks Check p → Asks o p → Check ≡ o
@@ -140,6 +150,10 @@ check_alone (View asked2) p h g =
     let x : slice_index p.0 0 ≡ 99 = ap (λ t. slice_index t 0) h in
     let y : slice_index p.0 0 ≡ 118 = ap (λ t. slice_index t 0) g.0 in
     absurd (omega (arith, x, y))
+check_alone (Recall until2) p h g =
+    let x : slice_index p.0 0 ≡ 99 = ap (λ t. slice_index t 0) h in
+    let y : slice_index p.0 0 ≡ 114 = ap (λ t. slice_index t 0) g.0 in
+    absurd (omega (arith, x, y))
 
 rehearse_alone : (viewers : ℕ) (o : Order) (p : Text × List Row) → Asks (Rehearse viewers) p → Asks o p → Rehearse viewers ≡ o
 rehearse_alone viewers Run p h g =
@@ -166,6 +180,10 @@ rehearse_alone viewers (Host asked2) p h g =
 rehearse_alone viewers (View asked2) p h g =
     let x : slice_index p.0 0 ≡ 114 = ap (λ t. slice_index t 0) h.0 in
     let y : slice_index p.0 0 ≡ 118 = ap (λ t. slice_index t 0) g.0 in
+    absurd (omega (arith, x, y))
+rehearse_alone viewers (Recall until2) p h g =
+    let x : slice_index p.0 2 ≡ 104 = ap (λ t. slice_index t 2) h.0 in
+    let y : slice_index p.0 2 ≡ 99 = ap (λ t. slice_index t 2) g.0 in
     absurd (omega (arith, x, y))
 
 agree_alone : (viewers : ℕ) (turns : ℕ) (o : Order) (p : Text × List Row) → Asks (Agree viewers turns) p → Asks o p → Agree viewers turns ≡ o
@@ -194,6 +212,10 @@ agree_alone viewers turns (View asked2) p h g =
     let x : slice_index p.0 0 ≡ 97 = ap (λ t. slice_index t 0) h.0 in
     let y : slice_index p.0 0 ≡ 118 = ap (λ t. slice_index t 0) g.0 in
     absurd (omega (arith, x, y))
+agree_alone viewers turns (Recall until2) p h g =
+    let x : slice_index p.0 0 ≡ 97 = ap (λ t. slice_index t 0) h.0 in
+    let y : slice_index p.0 0 ≡ 114 = ap (λ t. slice_index t 0) g.0 in
+    absurd (omega (arith, x, y))
 
 host_alone : (asked : HostOrder) (o : Order) (p : Text × List Row) → Asks (Host asked) p → Asks o p → Host asked ≡ o
 host_alone asked Run p h g =
@@ -220,6 +242,10 @@ host_alone asked (Host asked2) p h g = ap (λ x. Host x) (one_host p.1 asked ask
 host_alone asked (View asked2) p h g =
     let x : slice_index p.0 0 ≡ 104 = ap (λ t. slice_index t 0) h.0 in
     let y : slice_index p.0 0 ≡ 118 = ap (λ t. slice_index t 0) g.0 in
+    absurd (omega (arith, x, y))
+host_alone asked (Recall until2) p h g =
+    let x : slice_index p.0 0 ≡ 104 = ap (λ t. slice_index t 0) h.0 in
+    let y : slice_index p.0 0 ≡ 114 = ap (λ t. slice_index t 0) g.0 in
     absurd (omega (arith, x, y))
 
 view_alone : (asked : ViewOrder) (o : Order) (p : Text × List Row) → Asks (View asked) p → Asks o p → View asked ≡ o
@@ -248,6 +274,41 @@ view_alone asked (Host asked2) p h g =
     let y : slice_index p.0 0 ≡ 104 = ap (λ t. slice_index t 0) g.0 in
     absurd (omega (arith, x, y))
 view_alone asked (View asked2) p h g = ap (λ x. View x) (one_view p.1 asked asked2 h.1 g.1)
+view_alone asked (Recall until2) p h g =
+    let x : slice_index p.0 0 ≡ 118 = ap (λ t. slice_index t 0) h.0 in
+    let y : slice_index p.0 0 ≡ 114 = ap (λ t. slice_index t 0) g.0 in
+    absurd (omega (arith, x, y))
+
+recall_alone : (until : Option ℕ) (o : Order) (p : Text × List Row) → Asks (Recall until) p → Asks o p → Recall until ≡ o
+recall_alone until Run p h g =
+    let x : slice_index p.0 1 ≡ 101 = ap (λ t. slice_index t 1) h.0 in
+    let y : slice_index p.0 1 ≡ 117 = ap (λ t. slice_index t 1) g in
+    absurd (omega (arith, x, y))
+recall_alone until Format p h g =
+    let x : slice_index p.0 0 ≡ 114 = ap (λ t. slice_index t 0) h.0 in
+    let y : slice_index p.0 0 ≡ 102 = ap (λ t. slice_index t 0) g in
+    absurd (omega (arith, x, y))
+recall_alone until Check p h g =
+    let x : slice_index p.0 0 ≡ 114 = ap (λ t. slice_index t 0) h.0 in
+    let y : slice_index p.0 0 ≡ 99 = ap (λ t. slice_index t 0) g in
+    absurd (omega (arith, x, y))
+recall_alone until (Rehearse viewers2) p h g =
+    let x : slice_index p.0 2 ≡ 99 = ap (λ t. slice_index t 2) h.0 in
+    let y : slice_index p.0 2 ≡ 104 = ap (λ t. slice_index t 2) g.0 in
+    absurd (omega (arith, x, y))
+recall_alone until (Agree viewers2 turns2) p h g =
+    let x : slice_index p.0 0 ≡ 114 = ap (λ t. slice_index t 0) h.0 in
+    let y : slice_index p.0 0 ≡ 97 = ap (λ t. slice_index t 0) g.0 in
+    absurd (omega (arith, x, y))
+recall_alone until (Host asked2) p h g =
+    let x : slice_index p.0 0 ≡ 114 = ap (λ t. slice_index t 0) h.0 in
+    let y : slice_index p.0 0 ≡ 104 = ap (λ t. slice_index t 0) g.0 in
+    absurd (omega (arith, x, y))
+recall_alone until (View asked2) p h g =
+    let x : slice_index p.0 0 ≡ 114 = ap (λ t. slice_index t 0) h.0 in
+    let y : slice_index p.0 0 ≡ 118 = ap (λ t. slice_index t 0) g.0 in
+    absurd (omega (arith, x, y))
+recall_alone until (Recall until2) p h g = ap (λ o. Recall o) (one_or_none _ p.1 _ _ until until2 h.1 g.1)
 
 asks_one : (a b : Order) (p : Text × List Row) → Asks a p → Asks b p → a ≡ b
 asks_one Run b p h g = run_alone b p h g
@@ -257,6 +318,7 @@ asks_one (Rehearse viewers) b p h g = rehearse_alone viewers b p h g
 asks_one (Agree viewers turns) b p h g = agree_alone viewers turns b p h g
 asks_one (Host asked) b p h g = host_alone asked b p h g
 asks_one (View asked) b p h g = view_alone asked b p h g
+asks_one (Recall until) b p h g = recall_alone until b p h g
 
 some_one : (x : Option (Text × List Row)) (a b : Order) → IsSomeAnd x (Asks a) → IsSomeAnd x (Asks b) → a ≡ b
 some_one (Some p) a b h g = asks_one a b p h g

@@ -1,24 +1,24 @@
 -- Words that `clap` refuses mean nothing.
 use Rattle.std.specs.Prelude.{Option, IsSomeAnd}
-use Rattle.std.proofs.Common.{◌≡◌, ◌⊎◌, ◌∙◌, List, [], ◌∷◌, inl, inr, refl, true}
+use Rattle.std.proofs.Common.{◌≡◌, ◌≢◌, ◌⊎◌, ◌∙◌, List, [], ◌∷◌, ap, inl, inr, refl, true}
 use Rattle.clap.specs.Words.{App, Row, Text, fault_of, is_simple, is_simple_and_free, subcommand_of, IsAmong, Kinds}
 use Rattle.clap.specs.declared.error.ErrorKind.{ErrorKind}
 use Rattle.clap.specs.declared.error.ErrorKind.TheVariants as kind
 use Rattle.app_words.specs.declared.order.Order.{Order}
 use Rattle.app_words.specs.declared.order.OrderFault.{OrderFault}
 use Rattle.app_words.specs.declared.order.OrderFault.TheVariants as fault
-use Rattle.app_words.specs.Commands.{program, local_program, single_program, bare_program}
+use Rattle.app_words.specs.Commands.{program, shared_program, local_program, single_program, bare_program}
 use Rattle.app_words.specs.Commands.{run_app, format_app, check_app, rehearse_app, agree_app, host_app}
-use Rattle.app_words.specs.Commands.{view_app}
+use Rattle.app_words.specs.Commands.{view_app, recall_app}
 use Rattle.app_words.specs.Request.{RequestsNothing}
-use Rattle.app_words.specs.Words.{Asks, Means, IsText, IsRefusal, AsksForText, AsksOnlyForText}
+use Rattle.app_words.specs.Words.{Asks, Means, IsText, IsRefusal, AsksForText, AsksOnlyForText, log_file_named}
 
 program_is_simple : is_simple_and_free program ≡ true
-unfolding program local_program single_program bare_program run_app format_app check_app rehearse_app agree_app host_app view_app
+unfolding program shared_program local_program single_program bare_program run_app format_app check_app rehearse_app agree_app host_app view_app recall_app
 program_is_simple = refl
 
 program_is_plain : is_simple program ≡ true
-unfolding program local_program single_program bare_program run_app format_app check_app rehearse_app agree_app host_app view_app
+unfolding program shared_program local_program single_program bare_program run_app format_app check_app rehearse_app agree_app host_app view_app recall_app
 program_is_plain = refl
 
 -- words that are taken mean what their command asks for
@@ -90,3 +90,26 @@ pub refused_by : (a : App) (words : List Text) (k : ErrorKind) (f : OrderFault) 
     → (f ≡ fault.Memory) ⊎ ((f ≡ fault.Words) × IsRefusal k) → (f ≡ fault.Memory) ⊎ ((f ≡ fault.Words) × RequestsNothing words)
 refused_by a words k f e h (inl memory) = inl memory
 refused_by a words k f e h (inr refused) = inr (refused.0, nothing_by a words k e h refused.1)
+
+-- ---- the log's file
+
+pub file_named : (a : App) (words : List Text) (rows : Option (Text × List Row)) (file : Option Text) → a ≡ program
+    → (is_simple a ≡ true → rows ≡ subcommand_of a words) → file ≡ log_file_named rows
+    → file ≡ log_file_named (subcommand_of program words)
+file_named a words rows file e found named =
+    let same : rows ≡ subcommand_of program words = rw e at (found (rw e program_is_plain)) in
+    named ∙ ap log_file_named same
+
+pub file_refused : (a : App) (words : List Text) (k said : ErrorKind) (f : OrderFault) → a ≡ program → IsAnswered a words k → said ≡ k
+    → (f ≡ fault.Memory) ⊎ ((f ≡ fault.Words) × (said ≢ kind.OutOfMemory))
+    → (f ≡ fault.Memory) ⊎ ((f ≡ fault.Words) × (fault_of program words ≢ []))
+file_refused a words k said f e h is (inl memory) = inl memory
+file_refused a words k said f e h is (inr refused) = inr (
+  refused.0,
+  λ none.
+      let faults : fault_of a words ≡ [] = rw e none in
+      elim (h (rw e program_is_simple)) [
+        | inl memory ↦ refused.1 (is ∙ memory)
+        | inr among ↦ none_among k (fault_of a words) faults among
+      ],
+)

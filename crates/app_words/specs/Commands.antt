@@ -5,11 +5,13 @@ use Rattle.clap.specs.Words.{App, Rule, Text, new_app, with_rule, with_subcomman
 use Rattle.clap.specs.Simple.{on_top}
 use Rattle.app_words.specs.Options.{viewers_rule, turns_rule, port_rule, keep_rule, until_rule}
 use Rattle.app_words.specs.Options.{who_rule, boot_rule, exactly_rule, at_rule, give_rule}
-use Rattle.app_words.specs.Options.{give_turns_rule}
+use Rattle.app_words.specs.Options.{give_turns_rule, host_viewers_rule, host_turns_rule}
+use Rattle.app_words.specs.Options.{log_rule, new_log_rule, text_rule}
 use Rattle.app_words.specs.Options.{join_rule, verbose_rule, number_rule, flag_rule}
 use Rattle.app_words.specs.declared.commands.CommandWords.{CommandWords}
 use Rattle.app_words.specs.declared.options.FlagOption.{FlagOption}
 use Rattle.app_words.specs.declared.options.NumberOption.{NumberOption}
+use Rattle.app_words.specs.declared.options.TextOption.{TextOption}
 
 -- the program without its commands. A command is required, and every command knows `--version`
 unfoldable pub bare_program : App
@@ -44,10 +46,11 @@ rehearse_app = taking (codes "rehearse") (viewers_rule ∷ [])
 unfoldable pub agree_app : App
 agree_app = taking (codes "agree") (viewers_rule ∷ turns_rule ∷ [])
 
--- `host --port P --viewers K --until N --keep N --turns T -v`
+-- `host --port P --viewers K --until N --keep N --turns T --log FILE --new-log FILE -v`
 unfoldable pub host_app : App
 host_app = taking (codes "host")
-    (port_rule ∷ viewers_rule ∷ until_rule ∷ keep_rule ∷ turns_rule ∷ verbose_rule ∷ [])
+    (port_rule ∷ host_viewers_rule ∷ until_rule ∷ keep_rule ∷ host_turns_rule ∷ log_rule
+    ∷ new_log_rule ∷ verbose_rule ∷ [])
 
 -- `view --port P --who V --boot B --until N --exactly N --turns T --at Q --give Q --give-turns T
 -- --join -v`
@@ -56,8 +59,12 @@ view_app = taking (codes "view")
     (port_rule ∷ who_rule ∷ boot_rule ∷ until_rule ∷ exactly_rule ∷ turns_rule ∷ at_rule
     ∷ give_rule ∷ give_turns_rule ∷ join_rule ∷ verbose_rule ∷ [])
 
+-- `recall --until N`
+unfoldable pub recall_app : App
+recall_app = taking (codes "recall") (until_rule ∷ [])
+
 -- the program with the commands that take no options; then with `rehearse` and `agree`; then with
--- all
+-- `host` and `view`; then with all
 unfoldable pub single_program : App
 single_program =
     with_subcommand (with_subcommand (with_subcommand bare_program run_app.top) format_app.top)
@@ -66,20 +73,28 @@ single_program =
 unfoldable pub local_program : App
 local_program = with_subcommand (with_subcommand single_program rehearse_app.top) agree_app.top
 
+unfoldable pub shared_program : App
+shared_program = with_subcommand (with_subcommand local_program host_app.top) view_app.top
+
 unfoldable pub program : App
-program = with_subcommand (with_subcommand local_program host_app.top) view_app.top
+program = with_subcommand shared_program recall_app.top
 
 -- ---- the program's table
 
 abbrev pub with_option : App → NumberOption → App
 with_option a o = with_rule a (number_rule o)
 
+abbrev pub with_text : App → TextOption → App
+with_text a o = with_rule a (text_rule o)
+
 abbrev pub with_flag : App → FlagOption → App
 with_flag a o = with_rule a (flag_rule o)
 
 -- a command of the program's table as a `clap` command
 abbrev pub app_with : CommandWords → App
-app_with w = fold with_flag (fold with_option (new_app w.name.now) w.options.now) w.flags.now
+app_with w =
+    fold with_flag
+    (fold with_text (fold with_option (new_app w.name.now) w.options.now) w.texts.now) w.flags.now
 
 abbrev pub with_command : App → App → App
 with_command a command = with_subcommand a command.top

@@ -1,7 +1,10 @@
--- Options of `view` that don't go together, though each has its range (our choice).
-use Rattle.std.specs.Prelude.{ℕ, ◌==◌, nat_lt, not, is_none, Option, None, Some, if◌then◌else◌}
+-- Options of `view` and of `host` that don't go together, though each has its range (our choice).
+use Rattle.std.specs.Prelude.{ℕ, Bool, true, false, ◌==◌, ◌&&◌, nat_lt, not, is_none, is_some, Option, None, Some, if◌then◌else◌}
 use Rattle.app_words.specs.declared.misfit.Misfit.{Misfit}
 use Rattle.app_words.specs.declared.misfit.Misfit.TheVariants as misfit
+use Rattle.app_words.specs.declared.order.HostOrder.{HostOrder}
+use Rattle.app_words.specs.declared.order.LogUse.{LogUse}
+use Rattle.app_words.specs.declared.order.LogUse.TheVariants.{Without, GoesOn, Makes}
 use Rattle.app_words.specs.declared.order.ViewOrder.{ViewOrder}
 
 -- a viewer joins in a boot above that of a snapshot, which is at least 1, and at a port that the
@@ -36,3 +39,14 @@ or_else (Some first) later = Some first
 abbrev pub misfit_of : ViewOrder → Option Misfit
 misfit_of o =
     or_else (join_misfit o) (or_else (at_misfit o.port o.at) (give_misfit o.port o.at o.give))
+
+-- ---- hosts
+
+abbrev pub has_log : LogUse → Bool
+has_log Without = false
+has_log GoesOn = true
+has_log Makes = true
+
+-- a host with a log keeps all inputs
+abbrev pub host_misfit : HostOrder → Option Misfit
+host_misfit o = if has_log o.log && is_some o.keep then Some misfit.KeepsAll else None

@@ -1,5 +1,6 @@
--- The options of the commands as `clap` options. An option has a name and a range; it has a
--- default, is required, or may be left out. A flag has no value.
+-- The options of the commands as `clap` options. An option of a number has a name and a range; it
+-- has a default, is required, or may be left out. One of a text may be left out. A flag has no
+-- value.
 use Rattle.std.specs.Prelude.{ℕ, ◌-◌, [], ◌∷◌, Some, codes, pos, true}
 use Rattle.clap.specs.Words.{Rule, Text, new_rule}
 use Rattle.clap.specs.declared.builder.action.ArgAction.TheVariants.{SetTrue}
@@ -7,6 +8,7 @@ use Rattle.clap.specs.declared.builder.value_parser.ValueParser.TheVariants.{Sig
 use Rattle.x3d_values.specs.Ranges.{max_viewers, max_inputs}
 use Rattle.app_words.specs.declared.options.FlagOption.{FlagOption}
 use Rattle.app_words.specs.declared.options.NumberOption.{NumberOption}
+use Rattle.app_words.specs.declared.options.TextOption.{TextOption}
 use Rattle.app_words.specs.declared.options.Unless.{Unless}
 use Rattle.app_words.specs.declared.options.Unless.TheVariants.{Refused, Has, Nothing}
 
@@ -29,6 +31,20 @@ viewers_rule = record (ranged (codes "viewers") 1 max_viewers) { defaults = code
 -- `--turns T`, from 1 to 10000000, by default 1000000
 abbrev pub turns_rule : Rule
 turns_rule = record (ranged (codes "turns") 1 10000000) { defaults = codes "1000000" ∷ [] }
+
+-- `--viewers K` and `--turns T` of `host`, which may be left out
+abbrev pub host_viewers_rule : Rule
+host_viewers_rule = ranged (codes "viewers") 1 max_viewers
+
+abbrev pub host_turns_rule : Rule
+host_turns_rule = ranged (codes "turns") 1 10000000
+
+-- `--log FILE` and `--new-log FILE`
+abbrev pub log_rule : Rule
+log_rule = option (codes "log")
+
+abbrev pub new_log_rule : Rule
+new_log_rule = option (codes "new-log")
 
 -- `--port P`, from 1 to 65535, required
 abbrev pub port_rule : Rule
@@ -88,6 +104,9 @@ with_unless Nothing r = r
 -- an option of the program's table as a `clap` option
 abbrev pub number_rule : NumberOption → Rule
 number_rule o = with_unless o.unless (ranged_rule o)
+
+abbrev pub text_rule : TextOption → Rule
+text_rule o = option o.name.now
 
 abbrev pub flag_rule : FlagOption → Rule
 flag_rule o = record (flag o.name.now) { short = o.letter }

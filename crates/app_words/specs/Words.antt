@@ -1,19 +1,21 @@
 -- What the command words mean, given how `clap` parses them.
 use Rattle.std.specs.Prelude.{◌≡◌, ◌≢◌, ◌⊎◌, ◌<◌, ◌≤◌, ℕ, Bool, List, [], ◌∷◌, Option, Some, None, codes, ⊤}
-use Rattle.std.specs.Prelude.{IsSomeAnd, IfSome, false}
+use Rattle.std.specs.Prelude.{IsSomeAnd, IfSome, true, false, is_some}
 use Rattle.std.specs.Option.{option_map_or}
 use Rattle.std.specs.Str.{bytes_eq}
 use Rattle.std.specs.Str.Parse.{IsNumeral, digits_value, without_leading_plus}
-use Rattle.clap.specs.Words.{Row, Text, one_of, subcommand_of, fault_of, IsAmong}
+use Rattle.clap.specs.Words.{Row, Text, first_of, one_of, subcommand_of, fault_of, IsAmong}
 use Rattle.clap.specs.declared.error.kind.ErrorKind.{ErrorKind}
 use Rattle.clap.specs.declared.error.kind.ErrorKind.TheVariants as kind
 use Rattle.x3d_values.specs.Ranges.{max_viewers, max_inputs}
 use Rattle.app_words.specs.Commands.{program}
-use Rattle.app_words.specs.Misfits.{misfit_of}
+use Rattle.app_words.specs.Misfits.{host_misfit, misfit_of}
 use Rattle.app_words.specs.Options.{max_who}
 use Rattle.app_words.specs.declared.order.HostOrder.{HostOrder}
+use Rattle.app_words.specs.declared.order.LogUse.{LogUse}
+use Rattle.app_words.specs.declared.order.LogUse.TheVariants.{Without, GoesOn, Makes}
 use Rattle.app_words.specs.declared.order.Order.{Order}
-use Rattle.app_words.specs.declared.order.Order.TheVariants.{Run, Format, Check, Rehearse, Agree, Host, View}
+use Rattle.app_words.specs.declared.order.Order.TheVariants.{Run, Format, Check, Rehearse, Agree, Host, View, Recall}
 use Rattle.app_words.specs.declared.order.OrderFault.{OrderFault}
 use Rattle.app_words.specs.declared.order.OrderFault.TheVariants.{Words, Memory}
 use Rattle.app_words.specs.declared.order.ViewEnd.{ViewEnd}
@@ -67,6 +69,13 @@ IsWho rows who = HasNumberIn (codes "who") rows 0 max_who who
 abbrev pub IsBoot : List Row → ℕ → Type 0
 IsBoot rows boot = HasNumberIn (codes "boot") rows 1 4294967295 boot
 
+-- `--viewers` and `--turns` of `host`, which may be left out
+abbrev pub MayHaveViewers : List Row → Option ℕ → Type 0
+MayHaveViewers rows viewers = MayHaveNumberIn (codes "viewers") rows 1 max_viewers viewers
+
+abbrev pub MayHaveTurns : List Row → Option ℕ → Type 0
+MayHaveTurns rows turns = MayHaveNumberIn (codes "turns") rows 1 10000000 turns
+
 abbrev pub MayHaveKeep : List Row → Option ℕ → Type 0
 MayHaveKeep rows keep = MayHaveNumberIn (codes "keep") rows 0 max_inputs keep
 
@@ -93,13 +102,47 @@ end_of (Some n) None = Some (Until n)
 end_of None (Some n) = Some (Exactly n)
 end_of _ _ = None
 
+-- ---- the log of a host
+
+-- the text that an option has, if it was given
+abbrev pub is_text_given : Text → List Row → Bool
+is_text_given id rows = is_some (first_of id rows)
+
+-- what is done with a log, by which of `--log` and `--new-log` was given. Both don't go together
+abbrev pub log_use_of : (goes_on makes : Bool) → Option LogUse
+log_use_of false false = Some Without
+log_use_of true false = Some GoesOn
+log_use_of false true = Some Makes
+log_use_of true true = None
+
+-- the use of a log that the two options ask for
+abbrev pub log_use_in : List Row → Option LogUse
+log_use_in rows =
+    log_use_of (is_text_given (codes "log") rows) (is_text_given (codes "new-log") rows)
+
+abbrev pub first_some : Option Text → Option Text → Option Text
+first_some (Some one) other = Some one
+first_some None other = other
+
+-- the name of the log's file
+abbrev pub log_file_in : List Row → Option Text
+log_file_in rows = first_some (first_of (codes "log") rows) (first_of (codes "new-log") rows)
+
+-- the name of the log's file, among the options of the command that words name
+abbrev pub log_file_named : Option (Text × List Row) → Option Text
+log_file_named None = None
+log_file_named (Some p) = log_file_in p.1
+
+-- ---- orders
+
 -- the matches of `host` ask for this
 pub record AsksHost (rows : List Row) (o : HostOrder) : Type 0 where
   pub port : IsPort rows o.port
-  pub viewers : IsViewers rows o.viewers
+  pub log : log_use_in rows ≡ Some o.log
+  pub viewers : MayHaveViewers rows o.viewers
   pub until : MayHaveUntil rows o.until
   pub keep : MayHaveKeep rows o.keep
-  pub turns : IsTurns rows o.turns
+  pub turns : MayHaveTurns rows o.turns
   pub verbose : o.verbose ≡ is_given (codes "verbose") rows
 
 -- the matches of `view` have these options; what they ask for also goes together
@@ -123,8 +166,9 @@ Asks Check p = p.0 ≡ codes "check"
 Asks (Rehearse viewers) p = (p.0 ≡ codes "rehearse") × IsViewers p.1 viewers
 Asks (Agree viewers turns) p =
     (p.0 ≡ codes "agree") × IsViewers p.1 viewers × IsTurns p.1 turns
-Asks (Host o) p = (p.0 ≡ codes "host") × AsksHost p.1 o
+Asks (Host o) p = (p.0 ≡ codes "host") × AsksHost p.1 o × (host_misfit o ≡ None)
 Asks (View o) p = (p.0 ≡ codes "view") × AsksView p.1 o × (misfit_of o ≡ None)
+Asks (Recall until) p = (p.0 ≡ codes "recall") × MayHaveUntil p.1 until
 
 -- `clap` takes the words, and the command that they name asks for this
 pub record Means (words : List Text) (order : Order) : Type 0 where
@@ -141,12 +185,13 @@ end_count (Exactly n) = n
 -- the numbers of a host's order are in their ranges
 pub record HostInRange (o : HostOrder) : Type 0 where
   pub port_low : 1 ≤ o.port
-  pub viewers_low : 1 ≤ o.viewers
-  pub viewers_high : o.viewers ≤ max_viewers
+  pub viewers_low : IfSome o.viewers (λ n. 1 ≤ n)
+  pub viewers_high : IfSome o.viewers (λ n. n ≤ max_viewers)
   pub until_high : IfSome o.until (λ n. n ≤ max_inputs)
   pub keep_high : IfSome o.keep (λ n. n ≤ max_inputs)
-  pub turns_low : 1 ≤ o.turns
-  pub turns_high : o.turns ≤ 10000000
+  pub turns_low : IfSome o.turns (λ n. 1 ≤ n)
+  pub turns_high : IfSome o.turns (λ n. n ≤ 10000000)
+  pub together : host_misfit o ≡ None
 
 -- the numbers of a viewer's order are in their ranges, and go together
 pub record ViewInRange (o : ViewOrder) : Type 0 where
@@ -167,6 +212,7 @@ IsInRange (Rehearse viewers) = (1 ≤ viewers) × (viewers ≤ max_viewers)
 IsInRange (Agree viewers turns) = (1 ≤ viewers) × (viewers ≤ max_viewers)
 IsInRange (Host o) = HostInRange o
 IsInRange (View o) = ViewInRange o
+IsInRange (Recall until) = IfSome until (λ n. n ≤ max_inputs)
 IsInRange _ = ⊤
 
 -- why the process's own words can't be read: memory was refused, or one of them is not a text

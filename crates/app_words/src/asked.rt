@@ -1,20 +1,22 @@
 //! What a command with its options asks for.
 
-ghost use Rattle.std.specs.Prelude.{◌≡◌, ℕ, Option, IfSome, IfNone, IsSomeAnd, codes};
+ghost use Rattle.std.specs.Prelude.{◌≡◌, ℕ, Option, IfSome, IfNone, IsSomeAnd, codes, option_map};
 ghost use Rattle.clap.specs.Words.{rows_of, found_of, subcommand_rows_of};
 ghost use Rattle.app_words.specs.Words.{Asks, AsksHost, AsksView, IsEnd, end_of};
+ghost use Rattle.app_words.specs.Words.{log_file_in, log_file_named, log_use_in, log_use_of};
 ghost use Rattle.app_words.specs.Words.{IsViewers, IsTurns, IsGiveTurns, IsPort, IsWho, IsBoot};
 ghost use Rattle.app_words.specs.Words.{MayHaveAt, MayHaveGive, MayHaveKeep};
+ghost use Rattle.app_words.specs.Words.{MayHaveTurns, MayHaveViewers};
 ghost use Rattle.app_words.specs.Words.{MayHaveUntil, MayHaveExactly, MayHaveNumberIn};
 ghost use Rattle.app_words.specs.declared.order.HostOrder.{HostOrder as HostOf};
 ghost use Rattle.app_words.specs.declared.order.Order.{Order as OrderOf};
 ghost use Rattle.app_words.specs.declared.order.ViewEnd.{ViewEnd as EndOf};
 ghost use Rattle.app_words.specs.declared.order.ViewOrder.{ViewOrder as ViewOf};
 
-use crate::misfit::{Misfit, misfit_of};
-use crate::numbers::{is_named, number_in, optional_in};
+use crate::misfit::{Misfit, host_misfit, misfit_of};
+use crate::numbers::{is_named, is_text_given, number_in, optional_in, text_in};
 use crate::options::MAX_WHO;
-use crate::order::{HostOrder, Order, ViewEnd, ViewOrder};
+use crate::order::{HostOrder, LogUse, Order, ViewEnd, ViewOrder};
 use clap::ArgMatches;
 use x3d_values::{MAX_INPUTS, MAX_VIEWERS};
 
@@ -31,6 +33,27 @@ fn turns_in(found: &ArgMatches<'_>) -> Option<u32>
     ensures none { IfNone result ((n : ℕ) → ¬ IsTurns (rows_of (found_of found.now)) n) }
 {
     number_in(found, "turns", 1, 10_000_000)
+}
+
+/// Returns the number of viewers of `host`, or `Some(None)` if it was left out.
+fn viewers_or_none(found: &ArgMatches<'_>) -> Option<Option<u8>>
+    ensures some { IfSome result (λ o. MayHaveViewers (rows_of (found_of found.now)) o) }
+    ensures none { IfNone result
+        ((o : Option ℕ) → ¬ MayHaveViewers (rows_of (found_of found.now)) o) }
+{
+    match optional_in(found, "viewers", 1, MAX_VIEWERS as u32) {
+        Some(Some(viewers)) => Some(Some(viewers as u8)),
+        Some(None) => Some(None),
+        None => None,
+    }
+}
+
+fn turns_or_none(found: &ArgMatches<'_>) -> Option<Option<u32>>
+    ensures some { IfSome result (λ o. MayHaveTurns (rows_of (found_of found.now)) o) }
+    ensures none { IfNone result
+        ((o : Option ℕ) → ¬ MayHaveTurns (rows_of (found_of found.now)) o) }
+{
+    optional_in(found, "turns", 1, 10_000_000)
 }
 
 fn port_in(found: &ArgMatches<'_>) -> Option<u16>
@@ -170,6 +193,26 @@ fn agree_in(found: &ArgMatches<'_>) -> Option<Order>
     Some(Order::Agree { viewers, turns })
 }
 
+/// Returns what is done with a log, by which of `--log` and `--new-log` was given, unless both were.
+fn log_use_of(goes_on: bool, makes: bool) -> Option<LogUse>
+    ensures { result ≡ log_use_of goes_on makes }
+{
+    match (goes_on, makes) {
+        (false, false) => Some(LogUse::Without),
+        (true, false) => Some(LogUse::GoesOn),
+        (false, true) => Some(LogUse::Makes),
+        (true, true) => None,
+    }
+}
+
+fn log_use_in(found: &ArgMatches<'_>) -> Option<LogUse>
+    ensures { result ≡ log_use_in (rows_of (found_of found.now)) }
+{
+    let goes_on = is_text_given(found, "log");
+    let makes = is_text_given(found, "new-log");
+    log_use_of(goes_on, makes)
+}
+
 fn host_asked(found: &ArgMatches<'_>) -> Option<HostOrder>
     ensures some { IfSome result (λ o. AsksHost (rows_of (found_of found.now)) o) }
     ensures none { IfNone result ((o : HostOf) → ¬ AsksHost (rows_of (found_of found.now)) o) }
@@ -177,10 +220,13 @@ fn host_asked(found: &ArgMatches<'_>) -> Option<HostOrder>
     let Some(port) = port_in(found) else {
         return None;
     };
-    let Some(viewers) = viewers_in(found) else {
+    let Some(log) = log_use_in(found) else {
         return None;
     };
-    let Some(turns) = turns_in(found) else {
+    let Some(viewers) = viewers_or_none(found) else {
+        return None;
+    };
+    let Some(turns) = turns_or_none(found) else {
         return None;
     };
     let Some(keep) = keep_in(found) else {
@@ -191,6 +237,7 @@ fn host_asked(found: &ArgMatches<'_>) -> Option<HostOrder>
     };
     Some(HostOrder {
         port,
+        log,
         viewers,
         turns,
         keep,
@@ -207,7 +254,10 @@ fn host_in(found: &ArgMatches<'_>) -> Option<Order>
     let Some(asked) = host_asked(found) else {
         return None;
     };
-    Some(Order::Host(asked))
+    match host_misfit(&asked) {
+        None => Some(Order::Host(asked)),
+        Some(_) => None,
+    }
 }
 
 fn view_asked(found: &ArgMatches<'_>) -> Option<ViewOrder>
@@ -266,10 +316,25 @@ fn view_in(found: &ArgMatches<'_>) -> Option<Order>
     }
 }
 
-/// Returns why the options of `view` don't go together, if the matches are of `view` and they
-/// don't.
+fn recall_in(found: &ArgMatches<'_>) -> Option<Order>
+    ensures some { IfSome result (λ o. Asks o (codes "recall", rows_of (found_of found.now))) }
+    ensures none { IfNone result
+        ((o : OrderOf) → ¬ Asks o (codes "recall", rows_of (found_of found.now))) }
+{
+    let Some(until) = until_in(found) else {
+        return None;
+    };
+    Some(Order::Recall { until })
+}
+
+/// Returns why the options of `view` or of `host` don't go together, if the matches are of one of
+/// these and they don't.
 pub fn misfit_in(matches: &ArgMatches<'_>) -> Option<Misfit> {
     match matches.subcommand()? {
+        ("host", found) => match host_asked(found) {
+            Some(asked) => host_misfit(&asked),
+            None => Some(Misfit::TwoLogs),
+        },
         ("view", found) => match view_asked(found) {
             Some(asked) => misfit_of(&asked),
             None => Some(Misfit::End),
@@ -292,6 +357,7 @@ fn order_of(name: &str, found: &ArgMatches<'_>) -> Option<Order>
         "agree" => agree_in(found),
         "host" => host_in(found),
         "view" => view_in(found),
+        "recall" => recall_in(found),
         _ => None,
     }
 }
@@ -304,4 +370,24 @@ pub fn order_in(matches: &ArgMatches<'_>) -> Option<Order>
 {
     let (name, found) = matches.subcommand()?;
     order_of(name, found)
+}
+
+/// Returns the file of the log that the options of a command name, if they do.
+fn log_file_of<'a>(found: &ArgMatches<'a>) -> Option<&'a str>
+    ensures { option_map (λ s. s.now) result ≡ log_file_in (rows_of (found_of found.now)) }
+{
+    match text_in(found, "log") {
+        Some(file) => Some(file),
+        None => text_in(found, "new-log"),
+    }
+}
+
+/// Returns the file of the log that the options of the subcommand name, if they do.
+pub fn log_file_in<'a>(matches: &ArgMatches<'a>) -> Option<&'a str>
+    ensures { option_map (λ s. s.now) result ≡ log_file_named (subcommand_rows_of matches.now) }
+{
+    match matches.subcommand() {
+        Some((_name, found)) => log_file_of(found),
+        None => None,
+    }
 }

@@ -6,11 +6,12 @@ ghost use Rattle.clap.specs.Words.{app_of, with_subcommand};
 ghost use Rattle.clap.specs.declared.builder.command.Command.TheViews.{out-Command as fields_of};
 ghost use Rattle.app_words.specs.Commands.{bare_program, program, app_with, with_command};
 ghost use Rattle.app_words.specs.Commands.{run_app, format_app, check_app};
-ghost use Rattle.app_words.specs.Commands.{rehearse_app, agree_app, host_app, view_app};
+ghost use Rattle.app_words.specs.Commands.{rehearse_app, agree_app, host_app, view_app, recall_app};
 
 use crate::options::{
-    AT, BOOT, EXACTLY, FlagOption, GIVE, GIVE_TURNS, HOST_UNTIL, JOIN, KEEP, NumberOption, PORT,
-    TURNS, VERBOSE, VIEW_UNTIL, VIEWERS, WHO, flag_arg, number_arg,
+    AT, BOOT, EXACTLY, FlagOption, GIVE, GIVE_TURNS, HOST_TURNS, HOST_UNTIL, HOST_VIEWERS, JOIN,
+    KEEP, LOG, NEW_LOG, NumberOption, PORT, RECALL_UNTIL, TURNS, TextOption, VERBOSE, VIEW_UNTIL,
+    VIEWERS, WHO, flag_arg, number_arg, text_arg,
 };
 use clap::Command;
 use std::alloc::{AllocError, Global};
@@ -111,15 +112,35 @@ snapshot of another viewer (`view --join`), or never catches up. A viewer that h
 seconds doesn't count until it asks again.
 A turn takes up to 64 datagrams. If nothing comes, the host rests between turns for 1 to 50
 milliseconds, so 1000000 turns last up to 14 hours.
+With --new-log FILE the host makes a log, and stores each input in it before it sends it. After the
+host has ended, even if it was killed, `host --log FILE` goes on with the same world: it skips the
+clocks that the log already has. With a log the turns have no end, and --keep isn't taken.
 
-Example:
+Examples:
   x3d_share host --port 4000 --until 2 < examples/two-clocks.job
+  x3d_share host --port 4000 --new-log w.x3dlog < examples/two-clocks.job
+  x3d_share host --port 4000 --log w.x3dlog < examples/two-clocks.job
 
 Status:
   0  all turns were taken, or with --until N, the inputs were numbered and asked for
-  1  the scene is refused
-  2  the words or the job are refused
+  1  the scene or the log is refused
+  2  the words or the job are refused, or the log's file doesn't fit them
   3  with --until N, all turns were used up
+  4  a device failed, or another host has the log
+  5  memory ran out";
+
+const RECALL_HELP: &str = "The file of a host's log is read from standard input.
+
+The inputs are printed in order, as lines `clock T` and `point V D ox oy oz dx dy dz`. Followed by a
+line `scene` and the scene, they are a job. Its run prints what each viewer of that world prints.
+
+Example:
+  (x3d_share recall < w.x3dlog; echo scene; cat scene.x3dv) | x3d_share run
+
+Status:
+  0  the steps are printed
+  1  the log is refused
+  2  the words are refused
   4  a device failed
   5  memory ran out";
 
@@ -154,15 +175,17 @@ struct CommandWords {
     about: &'static str,
     after_help: &'static str,
     options: &'static [NumberOption],
+    texts: &'static [TextOption],
     flags: &'static [FlagOption],
 }
 
-static COMMANDS: [CommandWords; 7] = [
+static COMMANDS: [CommandWords; 8] = [
     CommandWords {
         name: "run",
         about: "Run a job, and print its trace and then the scene",
         after_help: RUN_HELP,
         options: &[],
+        texts: &[],
         flags: &[],
     },
     CommandWords {
@@ -170,6 +193,7 @@ static COMMANDS: [CommandWords; 7] = [
         about: "Print a scene as it is written, one item a line",
         after_help: FORMAT_HELP,
         options: &[],
+        texts: &[],
         flags: &[],
     },
     CommandWords {
@@ -177,6 +201,7 @@ static COMMANDS: [CommandWords; 7] = [
         about: "Print how many nodes and routes a scene has",
         after_help: CHECK_HELP,
         options: &[],
+        texts: &[],
         flags: &[],
     },
     CommandWords {
@@ -184,6 +209,7 @@ static COMMANDS: [CommandWords; 7] = [
         about: "Take a host and viewers through a schedule, and print each step's answer",
         after_help: REHEARSE_HELP,
         options: &[VIEWERS],
+        texts: &[],
         flags: &[],
     },
     CommandWords {
@@ -191,13 +217,15 @@ static COMMANDS: [CommandWords; 7] = [
         about: "Have a host and viewers do a job over UDP, and print trace and scene of viewer 0",
         after_help: AGREE_HELP,
         options: &[VIEWERS, TURNS],
+        texts: &[],
         flags: &[],
     },
     CommandWords {
         name: "host",
         about: "Number the inputs of viewers, and send them to each, over UDP",
         after_help: HOST_HELP,
-        options: &[PORT, VIEWERS, HOST_UNTIL, KEEP, TURNS],
+        options: &[PORT, HOST_VIEWERS, HOST_UNTIL, KEEP, HOST_TURNS],
+        texts: &[LOG, NEW_LOG],
         flags: &[VERBOSE],
     },
     CommandWords {
@@ -207,14 +235,23 @@ static COMMANDS: [CommandWords; 7] = [
         options: &[
             PORT, WHO, BOOT, VIEW_UNTIL, EXACTLY, TURNS, AT, GIVE, GIVE_TURNS,
         ],
+        texts: &[],
         flags: &[JOIN, VERBOSE],
+    },
+    CommandWords {
+        name: "recall",
+        about: "Print the inputs of a host's log as the steps of a job",
+        after_help: RECALL_HELP,
+        options: &[RECALL_UNTIL],
+        texts: &[],
+        flags: &[],
     },
 ];
 
 /// Returns the commands in the order of help.
 fn commands() -> &'static [CommandWords]
     ensures { map app_with result.now ≡ run_app ∷ format_app ∷ check_app ∷ rehearse_app ∷ agree_app
-        ∷ host_app ∷ view_app ∷ [] }
+        ∷ host_app ∷ view_app ∷ recall_app ∷ [] }
 {
     &COMMANDS
 }
@@ -230,6 +267,9 @@ fn command<'a>(alloc: Global, words: &CommandWords) -> Result<Command<'a>, Alloc
         .display_name("x3d_share")?;
     for option in words.options {
         command = command.arg(number_arg(alloc, option))?;
+    }
+    for text in words.texts {
+        command = command.arg(text_arg(alloc, text))?;
     }
     for flag in words.flags {
         command = command.arg(flag_arg(alloc, flag))?;

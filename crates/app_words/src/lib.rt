@@ -13,5 +13,5 @@ mod words;
 
 pub use hint::hint_of;
 pub use laws::{help_and_version_are_asked_for, words_mean_one_order};
-pub use order::{HostOrder, Order, OrderFault, Request, ViewEnd, ViewOrder};
-pub use words::request_of;
+pub use order::{HostOrder, LogUse, Order, OrderFault, Request, ViewEnd, ViewOrder};
+pub use words::{log_file_of, request_of};

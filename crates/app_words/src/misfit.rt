@@ -1,12 +1,13 @@
-//! Options of `view` that don't go together.
+//! Options of `view` and of `host` that don't go together.
 
 ghost use Rattle.std.specs.Prelude.{◌≡◌};
-ghost use Rattle.app_words.specs.Misfits.{at_misfit, give_misfit, join_misfit, misfit_of};
+ghost use Rattle.app_words.specs.Misfits.{at_misfit, give_misfit, has_log, host_misfit};
+ghost use Rattle.app_words.specs.Misfits.{join_misfit, misfit_of};
 
-use crate::order::ViewOrder;
+use crate::order::{HostOrder, LogUse, ViewOrder};
 use thiserror::Error;
 
-/// Why the options of `view` don't go together.
+/// Why the options of `view` or of `host` don't go together.
 #[derive(Clone, Copy, Debug, PartialEq, Eq, Error)]
 pub enum Misfit {
     /// `--until` and `--exactly` were both given, or neither.
@@ -27,6 +28,12 @@ pub enum Misfit {
     /// A viewer gives to itself.
     #[error("--give {0}: a port other than this viewer's own")]
     GivesToItself(u16),
+    /// `--log` and `--new-log` were both given.
+    #[error("one of --log and --new-log, and not both")]
+    TwoLogs,
+    /// A host with a log is to keep some inputs alone.
+    #[error("--keep: not with a log, of which the host keeps all inputs")]
+    KeepsAll,
 }
 
 fn join_misfit(asked: &ViewOrder) -> Option<Misfit>
@@ -74,4 +81,25 @@ pub(crate) fn misfit_of(asked: &ViewOrder) -> Option<Misfit>
         return Some(misfit);
     }
     give_misfit(asked)
+}
+
+fn has_log(log: LogUse) -> bool
+    ensures { result ≡ has_log log }
+{
+    match log {
+        LogUse::Without => false,
+        LogUse::GoesOn => true,
+        LogUse::Makes => true,
+    }
+}
+
+/// Returns why the options of `host` don't go together, if they don't. Each has its range already.
+pub(crate) fn host_misfit(asked: &HostOrder) -> Option<Misfit>
+    ensures { result ≡ host_misfit asked.now }
+{
+    if has_log(asked.log) && asked.keep.is_some() {
+        Some(Misfit::KeepsAll)
+    } else {
+        None
+    }
 }

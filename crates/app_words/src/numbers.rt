@@ -1,9 +1,10 @@
 //! The numbers of options, and whether an option was given.
 
 ghost use Rattle.std.specs.Prelude.{◌≡◌, ◌<◌, ◌≤◌, ◌^◌, ℕ, true, false, Option, IfSome, IfNone};
-ghost use Rattle.clap.specs.Words.{rows_of, found_of};
+ghost use Rattle.std.specs.Prelude.{option_map};
+ghost use Rattle.clap.specs.Words.{first_of, rows_of, found_of};
 ghost use Rattle.app_words.specs.Words.{HasNumber, HasNumberIn, IsLeftOut, MayHaveNumberIn};
-ghost use Rattle.app_words.specs.Words.{is_given};
+ghost use Rattle.app_words.specs.Words.{is_given, is_text_given};
 
 use clap::ArgMatches;
 
@@ -60,4 +61,18 @@ pub fn is_named(matches: &ArgMatches<'_>, id: &str) -> bool
     ensures { result ≡ is_given id.now (rows_of (found_of matches.now)) }
 {
     matches.get_one::<bool>(id).unwrap_or(false)
+}
+
+/// Returns the text of an option, if it was given.
+pub fn text_in<'a>(matches: &ArgMatches<'a>, id: &str) -> Option<&'a str>
+    ensures { option_map (λ s. s.now) result ≡ first_of id.now (rows_of (found_of matches.now)) }
+{
+    matches.get_str(id)
+}
+
+/// Reports whether an option that takes a text was given.
+pub fn is_text_given(matches: &ArgMatches<'_>, id: &str) -> bool
+    ensures { result ≡ is_text_given id.now (rows_of (found_of matches.now)) }
+{
+    text_in(matches, id).is_some()
 }

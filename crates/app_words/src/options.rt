@@ -3,7 +3,7 @@
 ghost use Rattle.std.specs.Prelude.{◌≡◌, false, pos};
 ghost use Rattle.clap.specs.Words.{rule_of};
 ghost use Rattle.clap.specs.declared.builder.value_parser.ValueParser.TheVariants.{Signed};
-ghost use Rattle.app_words.specs.Options.{flag_rule, number_rule, ranged_rule};
+ghost use Rattle.app_words.specs.Options.{flag_rule, number_rule, ranged_rule, text_rule};
 
 use clap::builder::ValueParser;
 use clap::{Arg, ArgAction};
@@ -29,6 +29,15 @@ pub struct NumberOption {
     pub high: u32,
     pub unless: Unless,
     /// The name of the number in help.
+    pub value: &'static str,
+    pub help: &'static str,
+}
+
+/// An option that takes a text and may be left out.
+#[derive(Clone, Copy)]
+pub struct TextOption {
+    pub name: &'static str,
+    /// The name of the text in help.
     pub value: &'static str,
     pub help: &'static str,
 }
@@ -73,6 +82,38 @@ pub const PORT: NumberOption = NumberOption {
     unless: Unless::Refused,
     value: "P",
     help: "The host's UDP port on 127.0.0.1, 1 to 65535",
+};
+
+/// The option `--viewers` of `host`.
+pub const HOST_VIEWERS: NumberOption = NumberOption {
+    name: "viewers",
+    low: 1,
+    high: MAX_VIEWERS as u32,
+    unless: Unless::Nothing,
+    value: "K",
+    help: "How many viewers, 1 to 64 [default: 2, or with --log those of the log]",
+};
+
+/// The option `--turns` of `host`.
+pub const HOST_TURNS: NumberOption = NumberOption {
+    name: "turns",
+    low: 1,
+    high: 10_000_000,
+    unless: Unless::Nothing,
+    value: "T",
+    help: "How many turns at most, 1 to 10000000 [default: 1000000, or with a log no end]",
+};
+
+pub const LOG: TextOption = TextOption {
+    name: "log",
+    value: "FILE",
+    help: "Goes on with the log of FILE",
+};
+
+pub const NEW_LOG: TextOption = TextOption {
+    name: "new-log",
+    value: "FILE",
+    help: "Makes a log in FILE, which is missing or empty",
 };
 
 pub const KEEP: NumberOption = NumberOption {
@@ -129,6 +170,16 @@ pub const EXACTLY: NumberOption = NumberOption {
     unless: Unless::Nothing,
     value: "N",
     help: "Ends once N inputs are applied, and ignores later ones, 0 to 1048576",
+};
+
+/// The option `--until` of `recall`.
+pub const RECALL_UNTIL: NumberOption = NumberOption {
+    name: "until",
+    low: 0,
+    high: MAX_INPUTS,
+    unless: Unless::Nothing,
+    value: "N",
+    help: "Prints the first N inputs, 0 to 1048576 [default: all]",
 };
 
 pub const AT: NumberOption = NumberOption {
@@ -200,6 +251,17 @@ pub fn number_arg<'a>(alloc: Global, option: &NumberOption) -> Arg<'a>
         Unless::Has(text) => arg.default_value(text),
         Unless::Nothing => arg,
     }
+}
+
+/// Builds the option of `clap`, which takes a text.
+pub fn text_arg<'a>(alloc: Global, option: &TextOption) -> Arg<'a>
+    ensures rule { rule_of result ≡ text_rule option.now }
+    ensures local { result.global ≡ false }
+{
+    Arg::new(alloc, option.name)
+        .long(option.name)
+        .value_name(option.value)
+        .help(option.help)
 }
 
 /// Builds the option of `clap`, a flag that is set if it is given.

@@ -9,15 +9,27 @@ use std::alloc::AllocError;
 use std::io;
 use thiserror::Error;
 
+/// Whether a host has a log, and whether its file is there. `log_file_of` returns the file's name.
+#[derive(Clone, Copy, PartialEq, Eq)]
+pub enum LogUse {
+    /// The host has no log.
+    Without,
+    /// `--log`: the host goes on with the log of a file.
+    GoesOn,
+    /// `--new-log`: the host makes a log.
+    Makes,
+}
+
 /// What `host` does; its input is a job of clocks.
 #[derive(Clone, Copy, PartialEq, Eq)]
 pub struct HostOrder {
     /// The UDP port of 127.0.0.1 to bind, 1 to 65,535.
     pub port: u16,
-    /// How many viewers there can be, 1 to `MAX_VIEWERS` of x3d_values.
-    pub viewers: u8,
-    /// The limit of turns, 1 to 10,000,000.
-    pub turns: u32,
+    pub log: LogUse,
+    /// How many viewers there can be, 1 to `MAX_VIEWERS` of x3d_values, if that is given.
+    pub viewers: Option<u8>,
+    /// The limit of turns, 1 to 10,000,000, if there is one.
+    pub turns: Option<u32>,
     /// How many of the last inputs are kept for viewers that have them, 0 to 2^20; `None` keeps
     /// all.
     pub keep: Option<u32>,
@@ -75,6 +87,8 @@ pub enum Order {
     Agree { viewers: u8, turns: u32 },
     Host(HostOrder),
     View(ViewOrder),
+    /// `recall`: the input is a log's file; at most this many of its inputs, 0 to 2^20, or all.
+    Recall { until: Option<u32> },
 }
 
 /// What words ask for: the text of `--help` or `--version`, or a command.

@@ -1,13 +1,15 @@
 //! What words ask for, as parsed by `clap`.
 
-ghost use Rattle.std.specs.Prelude.{◌≡◌, ◌⊎◌, map};
+ghost use Rattle.std.specs.Prelude.{◌≡◌, ◌≢◌, ◌⊎◌, [], map, option_map};
 ghost use Rattle.std.specs.Prelude.{IfOk, IfErr};
-ghost use Rattle.clap.specs.Words.{kind_of};
-ghost use Rattle.app_words.specs.Words.{IsText, IsRefusal};
+ghost use Rattle.clap.specs.Words.{fault_of, kind_of, subcommand_of};
+ghost use Rattle.app_words.specs.Commands.{program};
+ghost use Rattle.app_words.specs.Words.{IsText, IsRefusal, log_file_named};
 ghost use Rattle.app_words.specs.Request.{IsRequest, RequestsNothing};
 ghost use Rattle.app_words.specs.declared.order.OrderFault.TheVariants as fault;
+ghost use Rattle.clap.specs.declared.error.kind.ErrorKind.TheVariants as error_kind;
 
-use crate::asked::order_in;
+use crate::asked::{log_file_in, order_in};
 use crate::commands::program_command;
 use crate::order::{OrderFault, Request};
 use clap::Error;
@@ -43,5 +45,32 @@ fn shown(alloc: Global, error: &Error) -> Result<String, OrderFault>
         ErrorKind::DisplayHelp | ErrorKind::DisplayVersion => Ok(error.to_string(alloc)?),
         ErrorKind::OutOfMemory => Err(OrderFault::Memory),
         _ => Err(OrderFault::Words),
+    }
+}
+
+/// Returns the fault of words that `clap` refuses, or answers with a text.
+fn refusal_of(kind: ErrorKind) -> OrderFault
+    ensures { (result ≡ fault.Memory)
+        ⊎ ((result ≡ fault.Words) × (kind ≢ error_kind.OutOfMemory)) }
+{
+    match kind {
+        ErrorKind::OutOfMemory => OrderFault::Memory,
+        _ => OrderFault::Words,
+    }
+}
+
+/// Returns the name of the log's file that words name with `--log` or `--new-log`, if they do.
+///
+/// Fails with `Words` if they are not a command, and with `Memory` if memory is refused.
+pub fn log_file_of<'a>(alloc: Global, words: &'a [&'a str]) -> Result<Option<&'a str>, OrderFault>
+    ensures named { IfOk result (λ o. option_map (λ s. s.now) o
+        ≡ log_file_named (subcommand_of program (map (λ w. w.now) words.entry.now))) }
+    ensures refused { IfErr result (λ f. (f ≡ fault.Memory)
+        ⊎ ((f ≡ fault.Words) × (fault_of program (map (λ w. w.now) words.entry.now) ≢ []))) }
+{
+    let command = program_command(alloc)?;
+    match command.try_get_matches_from(words) {
+        Ok(matches) => Ok(log_file_in(&matches)),
+        Err(error) => Err(refusal_of(error.kind())),
     }
 }

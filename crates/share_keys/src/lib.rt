@@ -4,8 +4,6 @@
 //! a line of a key file. `hmac` is HMAC-SHA256 (RFC 2104).
 #![tactic(auto)]
 
-#[cfg(test)]
-mod by_hand;
 mod keys;
 mod mac;
 mod sealing;

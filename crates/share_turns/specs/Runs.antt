@@ -5,7 +5,7 @@ use Rattle.share_turns.specs.Heard.{lowest, nobody}
 use Rattle.share_turns.specs.Attendance.{IsNoted, later, lowest_counted, lowest_dropped, none_heard}
 use Rattle.share_turns.specs.Told.{Passed}
 use Rattle.share_turns.specs.declared.attendance.Attendance.{Attendance}
-use Rattle.share_turns.specs.Ends.{floor_for, is_served}
+use Rattle.share_turns.specs.Ends.{floor_for, is_done}
 use Rattle.share_law.specs.Parts.{HostPart, part_drop_below}
 use Rattle.share_turns.specs.declared.fault.SeriesFault.{SeriesFault}
 use Rattle.share_turns.specs.declared.fault.SeriesFault.TheVariants as series
@@ -61,7 +61,7 @@ pub record IsKeptTurn (mark : List ℕ) (keep : Option ℕ) (clock : Option ℤ)
 -- the host has heard of a viewer and numbered the inputs that `plan` requires, and all viewers that
 -- it counts have asked past them
 abbrev pub is_over : HostPlan → Hosting → Bool
-is_over plan h = is_served plan.until (is_some (lowest h.attendance.heard))
+is_over plan h = is_done plan.until (is_some (lowest h.attendance.heard))
     (lowest_counted h.attendance) h.part.count
 
 -- `turns` turns, each while it isn't over. Turn n, counted from 0, has the clock at place n of the

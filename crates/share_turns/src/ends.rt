@@ -1,7 +1,7 @@
 //! From which number on a host keeps its inputs, and when it is done.
 
 ghost use Rattle.std.specs.Prelude.{◌≡◌, ◌<◌, ◌+◌, ◌^◌};
-ghost use Rattle.share_turns.specs.Ends.{floor_for, is_past, is_served};
+ghost use Rattle.share_turns.specs.Ends.{floor_for, is_done, is_past, is_served, lacks};
 
 /// Returns the floor of a host that keeps the last `keep` of the inputs below `lowest`: those that
 /// every viewer it heard of has asked past. The floor is never below `floor`, the previous one. It
@@ -18,18 +18,42 @@ fn is_past(until: u32, lowest: Option<u32>) -> bool
 {
     match lowest {
         Some(lowest) => until < lowest,
-        None => true,
+        None => false,
     }
 }
 
-/// Reports whether a host that has numbered `count` inputs is done: it has heard of a viewer,
-/// `until` inputs are numbered, and every viewer that it counts has asked past them. `lowest` is the
-/// lowest number that these asked from, if it counts one. Without `until` it is never done.
-pub fn is_served(until: Option<u32>, is_any: bool, lowest: Option<u32>, count: u32) -> bool
-    ensures { result ≡ is_served until is_any lowest count }
+/// Reports whether a host that has numbered `count` inputs is done: `until` inputs are numbered,
+/// and every viewer it heard of, at least one, has asked past them. Without `until` it is never
+/// done.
+pub fn is_served(until: Option<u32>, lowest: Option<u32>, count: u32) -> bool
+    ensures { result ≡ is_served until lowest count }
 {
     match until {
-        Some(until) if is_any => until <= count && is_past(until, lowest),
+        Some(until) => until <= count && is_past(until, lowest),
+        None => false,
+    }
+}
+
+/// Reports whether a viewer that the host counts lacks input `until`. `lowest` is the lowest number
+/// that one of these asked from, if the host counts any.
+fn lacks(until: u32, lowest: Option<u32>) -> bool
+    ensures { result ≡ lacks until lowest }
+{
+    match lowest {
+        Some(lowest) => lowest <= until,
+        None => false,
+    }
+}
+
+/// Reports whether a host that has numbered `count` inputs, and gives up silent viewers, is done:
+/// it has heard of a viewer, `until` inputs are numbered, and no viewer that it counts lacks one of
+/// them. `lowest` is the lowest number that one of these asked from, if it counts any. Without
+/// `until` it is never done.
+pub fn is_done(until: Option<u32>, is_any: bool, lowest: Option<u32>, count: u32) -> bool
+    ensures { result ≡ is_done until is_any lowest count }
+{
+    match until {
+        Some(until) if is_any => until <= count && !lacks(until, lowest),
         _ => false,
     }
 }

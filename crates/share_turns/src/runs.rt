@@ -9,7 +9,7 @@ ghost use Rattle.share_turns.specs.Views.{failures_in};
 ghost use Rattle.share_turns.specs.declared.fault.SeriesFault.TheVariants.{TurnsUsedUp};
 
 use crate::attendance::Attendance;
-use crate::ends::{floor_for, is_served};
+use crate::ends::{floor_for, is_done};
 use crate::fault::{SeriesFault, TurnFault};
 use crate::heard::Heard;
 use crate::host::hearing_turn;
@@ -113,7 +113,7 @@ pub fn is_over(host: &Host, attendance: &Attendance, plan: &HostPlan) -> bool
     ensures { result ≡ is_over plan.now (hosting host.now.part attendance.now) }
 {
     let is_any = attendance.is_any_heard();
-    is_served(plan.until, is_any, attendance.lowest(), host.len())
+    is_done(plan.until, is_any, attendance.lowest(), host.len())
 }
 
 /// Returns the result of a host that has taken all its turns and isn't done.

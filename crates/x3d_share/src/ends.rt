@@ -15,10 +15,48 @@ impl fmt::Display for BoundAt {
     }
 }
 
+/// What a host's log has as the host begins, in words.
+#[derive(Drop)]
+struct LogBegin {
+    inputs: u64,
+    clocks: usize,
+}
+
+impl fmt::Display for LogBegin {
+    fn fmt<W: fmt::Write>(&self, f: &mut fmt::Formatter<W>) -> fmt::Result {
+        write!(
+            f,
+            "{} inputs in the log, {} clocks left",
+            self.inputs, self.clocks
+        )
+    }
+}
+
+/// How much was cut of a log's file, in words.
+#[derive(Drop)]
+struct LogCut(u64);
+
+impl fmt::Display for LogCut {
+    fn fmt<W: fmt::Write>(&self, f: &mut fmt::Formatter<W>) -> fmt::Result {
+        write!(f, "cut {} bytes of an append that was not finished", self.0)
+    }
+}
+
+/// Reports on standard error what was cut of a log's file, and if `verbose` is set, how many inputs
+/// it has and how many clocks of the job are left.
+pub fn tell_log<R: Eprint>(rt: &R, verbose: bool, inputs: u64, cut: u64, clocks: usize) {
+    if cut > 0 {
+        let _told = rt.eprintln(LogCut(cut));
+    }
+    if verbose {
+        let _told = rt.eprintln(LogBegin { inputs, clocks });
+    }
+}
+
 /// The result of a host's run, in words.
 #[derive(Drop)]
 struct HostEnd {
-    inputs: u32,
+    inputs: u64,
     dropped: u64,
     counts: Counts,
 }
@@ -56,13 +94,13 @@ pub fn tell_port<R: Eprint>(rt: &R, verbose: bool, port: &UdpPort) {
 
 /// Returns how many of a host's clocks were dropped: the clocks that its turns had, less those that
 /// became inputs. The inputs that aren't clocks are the points that it numbered.
-fn dropped(clocks: usize, inputs: u32, counts: &Counts) -> u64 {
+fn dropped(clocks: usize, inputs: u64, counts: &Counts) -> u64 {
     let handed = counts.turns.min(clocks as u64);
-    handed.saturating_sub(u64::from(inputs).saturating_sub(counts.points))
+    handed.saturating_sub(inputs.saturating_sub(counts.points))
 }
 
 /// Reports the result of a host's run with this many clocks, if `verbose` is set.
-pub fn tell_host_end<R: Eprint>(rt: &R, verbose: bool, clocks: usize, inputs: u32, counts: Counts) {
+pub fn tell_host_end<R: Eprint>(rt: &R, verbose: bool, clocks: usize, inputs: u64, counts: Counts) {
     if verbose {
         let dropped = dropped(clocks, inputs, &counts);
         let _told = rt.eprintln(HostEnd {

@@ -1,28 +1,30 @@
 //! The program: its words, its input, and what it prints.
 #![tactic(auto)]
 
+mod defaults;
+mod end;
 mod ends;
+mod files;
+mod logs;
 mod peers;
 mod refused;
 mod stack;
 
-ghost use Rattle.app_words.specs.Words.{IsInRange};
+ghost use Rattle.app_words.specs.Words.{HostInRange, IsInRange};
 
+use crate::end::{End, refuse};
+use crate::logs::{host_over_log, recall};
 use crate::peers::{agree, host, rehearse, view};
-use crate::refused::{Refused, refused_job, refused_scene};
+use crate::refused::{refused_job, refused_scene};
 use crate::stack::has_room;
 use app_program::{
-    Failure, RunFault, StreamFault, check_text, format_text, read_whole, refusal_line, run_job,
-    status_of, write_whole,
+    Failure, RunFault, StreamFault, check_text, format_text, read_whole, run_job, write_whole,
 };
-use app_words::{Order, OrderFault, Request, hint_of, request_of};
-use proto_blame::instance_words;
+use app_words::{HostOrder, LogUse, Order, OrderFault, Request, hint_of, log_file_of, request_of};
 use std::alloc::{AllocError, Global};
 use std::io::{self, Eprint};
-use std::net::Net;
 use std::process::ExitCode;
 use std::rt::Env;
-use std::time::Clock;
 
 /// Returns the program's own name and its words.
 fn own_words<R: Env + AllocGlobal>(rt: &R) -> Result<Vec<String>, OrderFault> {
@@ -45,7 +47,7 @@ fn read_own<R: AllocGlobal + Input>(rt: &R) -> Result<Vec<u8>, Failure> {
 }
 
 /// Reads a job, runs it with boxes of the stock, and prints the trace and the scene.
-fn run_own<R: AllocGlobal + Input + Print>(rt: &R) -> Result<(), Refused> {
+fn run_own<R: AllocGlobal + Input + Print>(rt: &R) -> Result<(), End> {
     let job = read_own(rt)?;
     let mut reader = job.as_slice();
     match run_job(rt.alloc(), &mut reader, &mut io::writer(rt)) {
@@ -61,7 +63,7 @@ fn format_scene<R: AllocGlobal + Input + Print>(rt: &R) -> Result<(), Failure> {
 }
 
 /// Reads a scene and prints how many nodes and routes it has.
-fn check_scene<R: AllocGlobal + Input + Print>(rt: &R) -> Result<(), Refused> {
+fn check_scene<R: AllocGlobal + Input + Print>(rt: &R) -> Result<(), End> {
     let scene = read_own(rt)?;
     let mut reader = scene.as_slice();
     match check_text(rt.alloc(), &mut reader, &mut io::writer(rt)) {
@@ -78,51 +80,55 @@ fn print_text<R: Print>(rt: &R, text: &str) -> Result<(), Failure> {
     write_whole(&mut io::writer(rt), text.as_bytes()).map_err(stream_failure)
 }
 
-/// Carries out a command.
-fn obey<R: AllocGlobal + Input + Print + Net + Eprint + Clock>(
-    rt: &R,
-    order: Order,
-) -> Result<(), Refused>
+/// Runs a host, over the log that the words name if they name one.
+fn host_as(rt: &HostRuntime, words: &[&str], order: &Order, asked: &HostOrder) -> Result<(), End>
+    requires { HostInRange asked.now }
+{
+    if asked.log == LogUse::Without {
+        return Ok(host(rt, order, asked)?);
+    }
+    match log_file_of(rt.alloc(), words)? {
+        Some(file) => host_over_log(rt, order, asked, file),
+        None => Err(End::from(OrderFault::Words)),
+    }
+}
+
+/// Carries out a command. The words are those that ask for it.
+fn obey(rt: &HostRuntime, words: &[&str], order: Order) -> Result<(), End>
     requires { IsInRange order }
 {
     match order {
-        Order::Run => run_own(rt),
-        Order::Format => Ok(format_scene(rt)?),
-        Order::Check => check_scene(rt),
-        Order::Rehearse { viewers } => Ok(rehearse(rt, viewers)?),
-        Order::Agree { viewers, turns } => Ok(agree(rt, &order, viewers, turns)?),
-        Order::Host(asked) => Ok(host(rt, &order, &asked)?),
-        Order::View(asked) => Ok(view(rt, &order, &asked)?),
+        Order::Run => run_own(rt)?,
+        Order::Format => format_scene(rt)?,
+        Order::Check => check_scene(rt)?,
+        Order::Rehearse { viewers } => rehearse(rt, viewers)?,
+        Order::Agree { viewers, turns } => agree(rt, &order, viewers, turns)?,
+        Order::Host(asked) => host_as(rt, words, &order, &asked)?,
+        Order::View(asked) => view(rt, &order, &asked)?,
+        Order::Recall { until } => recall(rt, until)?,
     }
+    Ok(())
 }
 
 /// Prints the text that words ask for, or carries out their command.
-fn answer<R: AllocGlobal + Input + Print + Net + Eprint + Clock>(
-    rt: &R,
-    words: &[&str],
-) -> Result<(), Refused> {
-    match request_of(rt.alloc(), words).map_err(Failure::Order)? {
+fn answer(rt: &HostRuntime, words: &[&str]) -> Result<(), End> {
+    match request_of(rt.alloc(), words)? {
         Request::Text(text) => Ok(print_text(rt, text.as_str())?),
-        Request::Order(order) => obey(rt, order),
+        Request::Order(order) => obey(rt, words, order),
     }
 }
 
-fn answer_own<R: AllocGlobal + Input + Print + Net + Eprint + Clock>(
-    rt: &R,
-    own: &[String],
-) -> Result<(), Refused> {
+fn answer_own(rt: &HostRuntime, own: &[String]) -> Result<(), End> {
     let Ok(words) = views(rt.alloc(), own) else {
-        return Err(Refused::from(Failure::Order(OrderFault::Memory)));
+        return Err(End::from(OrderFault::Memory));
     };
     answer(rt, words.as_slice())
 }
 
-fn work<R: Env + AllocGlobal + Input + Print + Net + Eprint + Clock>(
-    rt: &R,
-) -> Result<(), Refused> {
-    let own = own_words(rt).map_err(Failure::Order)?;
+fn work(rt: &HostRuntime) -> Result<(), End> {
+    let own = own_words(rt)?;
     if !has_room(own.len()) {
-        return Err(Refused::from(Failure::Order(OrderFault::Memory)));
+        return Err(End::from(OrderFault::Memory));
     }
     answer_own(rt, own.as_slice())
 }
@@ -136,15 +142,9 @@ fn own_hint<R: Env + AllocGlobal>(rt: &R) -> Result<String, OrderFault> {
     hint_of(rt.alloc(), words.as_slice())
 }
 
-/// Prints the line of a refusal on standard error, and returns its status.
-fn refuse<R: Eprint>(rt: &R, failure: &Failure) -> ExitCode {
-    let _told = rt.eprintln(refusal_line(failure).as_str());
-    ExitCode::from(status_of(failure))
-}
-
 /// Like `refuse`, for words. A second line says which word is wrong, and what is required.
 fn refuse_words<R: Env + AllocGlobal + Eprint>(rt: &R) -> ExitCode {
-    let words = Failure::Order(OrderFault::Words);
+    let words = End::from(OrderFault::Words);
     match own_hint(rt) {
         Ok(hint) => {
             let status = refuse(rt, &words);
@@ -156,25 +156,14 @@ fn refuse_words<R: Env + AllocGlobal + Eprint>(rt: &R) -> ExitCode {
             let _told = rt.eprintln("a word is not UTF-8");
             status
         }
-        Err(OrderFault::Memory) => refuse(rt, &Failure::Order(OrderFault::Memory)),
+        Err(OrderFault::Memory) => refuse(rt, &End::from(OrderFault::Memory)),
     }
-}
-
-/// Like `refuse`. A second line says which instance's braces hold the value at fault.
-fn refuse_with<R: Eprint>(rt: &R, refused: &Refused) -> ExitCode {
-    let status = refuse(rt, &refused.failure);
-    if refused.instance != 0 {
-        let _told = rt.eprintln(instance_words(refused.instance).as_str());
-    }
-    status
 }
 
 fn main(rt: HostRuntime) -> ExitCode {
     match work(&rt) {
         Ok(()) => ExitCode::SUCCESS,
-        Err(refused) => match refused.failure {
-            Failure::Order(OrderFault::Words) => refuse_words(&rt),
-            _ => refuse_with(&rt, &refused),
-        },
+        Err(End::Failure(Failure::Order(OrderFault::Words))) => refuse_words(&rt),
+        Err(end) => refuse(&rt, &end),
     }
 }

@@ -5,6 +5,7 @@ ghost use Rattle.std.specs.Prelude.{◌≡◌, ◌≤◌, IfOk, length};
 ghost use Rattle.x3d_values.specs.Ranges.{max_viewers};
 ghost use Rattle.app_words.specs.Words.{HostInRange, ViewInRange};
 
+use crate::defaults::{turns_of, viewers_of};
 use crate::ends::{tell_host_end, tell_port, tell_view_end};
 use app_commands::{
     AskingPort, ExactPort, JointJob, PatientPort, Peer, Seat, SharedJob, TellingPort, Watch,
@@ -119,21 +120,28 @@ fn hosted<R: AllocGlobal + Net + Eprint + Clock>(
 {
     let bound = bound(rt, asked.port)?;
     tell_port(rt, asked.verbose, &bound);
-    let watch = Watch::new(job.mark, Peer::Host(asked.viewers));
+    let viewers = viewers_of(asked);
+    let watch = Watch::new(job.mark, Peer::Host(viewers));
     let mut port = PatientPort::new(TellingPort::new(bound, rt, asked.verbose, watch), rt);
     let plan = host_plan(asked);
     let mut count = 0;
     let done = host_job(
         rt.alloc(),
         job,
-        asked.viewers,
+        viewers,
         &plan,
-        asked.turns,
+        turns_of(asked),
         &mut port,
         &mut count,
     );
     let clocks = job.inputs.as_slice().len();
-    tell_host_end(rt, asked.verbose, clocks, count, port.port().counts());
+    tell_host_end(
+        rt,
+        asked.verbose,
+        clocks,
+        u64::from(count),
+        port.port().counts(),
+    );
     done
 }
 

@@ -7,7 +7,7 @@ use super::cable::{Cable, End, HOST, laid};
 use super::given::{Job, ONE_POINTER, ORDER, TEN_CLOCKS, TWO_CLOCKS, TWO_POINTERS, joined, run_of};
 use super::{Row, all_hold};
 use app_commands::{JointJob, host_job, joint_job, seated_job, shared_job, view_job};
-use app_words::{HostOrder, Order, ViewEnd, ViewOrder};
+use app_words::{HostOrder, LogUse, Order, ViewEnd, ViewOrder};
 use share_core::Host;
 use share_turns::{HostPlan, Port, PortFault, ViewPlan, host_run, view_run};
 use std::alloc::{AllocError, Global};
@@ -127,8 +127,9 @@ impl<'a> Port for Between<'a> {
 fn hosts(alloc: Global, bytes: &[u8], port: &mut Between<'_>) -> bool {
     let order = Order::Host(HostOrder {
         port: HOST,
-        viewers: 2,
-        turns: TURNS,
+        log: LogUse::Without,
+        viewers: Some(2),
+        turns: Some(TURNS),
         keep: None,
         until: None,
         verbose: false,

@@ -1,6 +1,7 @@
 //! A host and viewers alone: damaged datagrams and snapshots, growths that are refused, and a port
 //! that fails.
 
+mod calls;
 mod damaged;
 mod drags;
 mod gathering;

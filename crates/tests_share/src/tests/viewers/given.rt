@@ -9,6 +9,7 @@ ghost use Rattle.script_host.specs.Attaching.{Fits};
 
 use app_program::{OpenedScene, RunFault, attach, open_scene};
 use cascade_core::{LoadFault, Stage};
+use laws_calls::start_viewer;
 use scene_core::Scene;
 use script_boxes::{StockScript, boxes_of};
 use script_host::Scripts;
@@ -65,7 +66,7 @@ pub(super) fn viewer_of(alloc: Global, text: &str) -> Result<Viewer<StockScript>
         return Err(LoadFault::Memory);
     };
     let stage = stage_of(alloc, opened)?;
-    Ok(Viewer::start(stage, MARK, 0, 1))
+    Ok(start_viewer(stage, MARK, 0, 1))
 }
 
 /// Returns the clock of this number, at as many seconds.

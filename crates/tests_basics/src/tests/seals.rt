@@ -1,7 +1,7 @@
 //! The vectors of RFC 4231, a seal and lines of a key file by hand. The seal is by Python's hmac.
 
-use crate::{Direction, Key, hmac, key_of, seal, unsealed};
 use hex::FromHex;
+use share_keys::{Direction, Key, hmac, key_of, seal, unsealed};
 use std::alloc::Global;
 use std::test::Fail;
 

@@ -1,0 +1,5 @@
+mod Lines
+mod Running
+mod Heads
+mod Recalls
+mod Lasting

@@ -1,0 +1,171 @@
+//! A log's file as the steps of a job.
+
+ghost use Rattle.std.specs.Prelude.{◌≡◌, ◌≢◌, ◌⊎◌, IfErr, IfOk, IsTrue, OnOk, Ok};
+ghost use Rattle.sqlite_disk.specs.Memory.{memory_bytes, memory_is_usable};
+ghost use Rattle.share_entries.specs.Head.{is_viewer_count};
+ghost use Rattle.share_file.specs.Contents.{FileView};
+ghost use Rattle.share_file.specs.Entries.{head_among};
+ghost use Rattle.share_file.specs.declared.fault.OpenFault.TheVariants as open_fault;
+ghost use Rattle.share_log.specs.Frames.{frames_of};
+ghost use Rattle.share_log.specs.Log.{payloads};
+ghost use Rattle.share_logged.specs.Making.{IsLogOf};
+ghost use Rattle.app_logs.specs.Beginning.{IsNotResumed};
+ghost use Rattle.app_logs.specs.Faults.{open_fault_of};
+ghost use Rattle.app_logs.specs.Recalling.{IsNoLog, IsRecalled, first_of, log_in, mark_of};
+ghost use Rattle.app_logs.specs.Steps.{steps_text};
+ghost use Rattle.app_logs.specs.declared.fault.LogFault.TheVariants.{Memory as NoMemory};
+
+use crate::beginning::resumed;
+use crate::fault::{LogFault, open_fault_of};
+use crate::steps::push_steps;
+use share_entries::{Entry, Head, head_of};
+use share_file::{Expected, OpenFault, Opened, open};
+use share_log::look;
+use sqlite_disk::{Disk, Memory};
+use std::alloc::{AllocError, Global};
+
+/// A log that a file has.
+#[derive(Drop)]
+struct FoundLog {
+    head: Head,
+    entries: Vec<Entry>,
+}
+
+/// Returns a file in memory with these bytes.
+fn file_of(alloc: Global, bytes: &[u8]) -> Result<Memory, AllocError>
+    ensures bytes { IfOk result (λ m. memory_bytes m ≡ bytes.now) }
+    ensures usable { IfOk result (λ m. IsTrue (memory_is_usable m)) }
+{
+    let mut file = Memory::new(alloc);
+    match file.write_at(0, bytes) {
+        Ok(()) => Ok(file),
+        Err(_) => Err(AllocError),
+    }
+}
+
+/// Returns the mark of the scene that the first frame names; zeros if it is no head.
+fn mark_among(frames: &[Vec<u8>]) -> [u8; 32]
+    ensures { result ≡ mark_of (head_among (payloads frames.now)) }
+{
+    let [first, ..] = frames else {
+        return [0; 32];
+    };
+    match head_of(first) {
+        Ok(head) => head.mark,
+        Err(_) => [0; 32],
+    }
+}
+
+/// Returns the mark of the scene that a file in memory names; zeros if it names no scene.
+fn mark_in(alloc: Global, file: &mut Memory) -> Result<[u8; 32], AllocError>
+    requires { IsTrue (memory_is_usable file.old) }
+    ensures mark { IfOk result (λ m. m ≡ mark_of (head_among (frames_of (memory_bytes file.old)))) }
+    ensures usable { OnOk result (IsTrue (memory_is_usable file.new)) }
+    ensures same { memory_bytes file.new ≡ memory_bytes file.old }
+{
+    match look(alloc, file) {
+        Ok(found) => Ok(mark_among(&found.frames)),
+        Err(_) => Err(AllocError),
+    }
+}
+
+/// Returns why a file in memory isn't opened. Its device fails only if memory is refused.
+fn memory_fault_of(fault: OpenFault) -> LogFault
+    ensures device { fault ≡ open_fault.Device → result ≡ NoMemory }
+    ensures other { (result ≡ NoMemory) ⊎ (result ≡ open_fault_of fault) }
+{
+    match fault {
+        OpenFault::Device => LogFault::Memory,
+        _ => open_fault_of(fault),
+    }
+}
+
+/// Finds the log of a file in memory, of the scene with this mark.
+fn find_log(alloc: Global, file: Memory, mark: [u8; 32]) -> Result<FoundLog, LogFault>
+    requires usable { IsTrue (memory_is_usable file) }
+    requires mark { mark ≡ mark_of (head_among (frames_of (memory_bytes file))) }
+    ensures found { IfOk result (λ f. (v : FileView) × (log_in (memory_bytes file) ≡ Ok v)
+        × (v.head ≡ f.head) × (v.entries ≡ f.entries.items)) }
+    ensures refused { IfErr result
+        (λ fault. (fault ≡ NoMemory) ⊎ IsNoLog (memory_bytes file) fault) }
+{
+    let expected = Expected {
+        mark,
+        viewers: None,
+    };
+    match open(alloc, file, &expected) {
+        Ok(found) => {
+            let Opened {
+                log,
+                head,
+                entries,
+                cut: _,
+            } = found;
+            drop(log);
+            Ok(FoundLog { head, entries })
+        }
+        Err((fault, file)) => {
+            drop(file);
+            Err(memory_fault_of(fault))
+        }
+    }
+}
+
+/// Finds the log of these bytes.
+fn found_in(alloc: Global, bytes: &[u8]) -> Result<FoundLog, LogFault>
+    ensures found { IfOk result (λ f. (v : FileView) × (log_in bytes.now ≡ Ok v)
+        × (v.head ≡ f.head) × (v.entries ≡ f.entries.items)) }
+    ensures refused { IfErr result (λ fault. (fault ≡ NoMemory) ⊎ IsNoLog bytes.now fault) }
+{
+    let mut file = file_of(alloc, bytes)?;
+    let mark = mark_in(alloc, &mut file)?;
+    find_log(alloc, file, mark)
+}
+
+/// Checks that a host wrote the entries of a log.
+fn is_written(alloc: Global, found: &FoundLog) -> Result<(), LogFault>
+    ensures log { OnOk result (IsLogOf found.now.head.viewers found.now.entries.items) }
+    ensures refused { IfErr result
+        (λ fault. IsNotResumed found.now.head.viewers found.now.entries.items fault) }
+{
+    match resumed(alloc, &found.head, &found.entries) {
+        Ok(hosting) => {
+            drop(hosting);
+            Ok(())
+        }
+        Err(fault) => Err(fault),
+    }
+}
+
+/// Returns the first entries, or all.
+fn first_of(entries: &[Entry], until: Option<u32>) -> &[Entry]
+    ensures { result.now ≡ first_of until entries.now }
+{
+    match until {
+        Some(number) => &entries[..(number as usize).min(entries.len())],
+        None => entries,
+    }
+}
+
+/// Returns the lines of the first entries, or of all.
+fn text_of(alloc: Global, entries: &[Entry], until: Option<u32>) -> Result<Vec<u8>, AllocError>
+    ensures { IfOk result (λ v. v.items ≡ steps_text (first_of until entries.now)) }
+{
+    let mut text = Vec::new(alloc);
+    push_steps(first_of(entries, until), &mut text)?;
+    Ok(text)
+}
+
+/// Returns the inputs of the log that these bytes are, or the first `until` of them, as the lines
+/// of a job.
+///
+/// Fails with `BadHead` or `LogDamaged` if the bytes are no log, with `NotALog` and the number of
+/// the first entry that no host wrote there, or with `Memory`.
+pub fn recalled(alloc: Global, bytes: &[u8], until: Option<u32>) -> Result<Vec<u8>, LogFault>
+    ensures found { IfOk result (λ text. IsRecalled until bytes.now text.items) }
+    ensures refused { IfErr result (λ fault. (fault ≡ NoMemory) ⊎ IsNoLog bytes.now fault) }
+{
+    let found = found_in(alloc, bytes)?;
+    is_written(alloc, &found)?;
+    Ok(text_of(alloc, &found.entries, until)?)
+}

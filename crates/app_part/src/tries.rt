@@ -1,0 +1,106 @@
+//! One try: the part of a document without what is refused, and whether it is a scene.
+
+ghost use Rattle.std.specs.Prelude.{◌≡◌, ◌⊎◌, [], IfOk, IfErr, OnOk};
+ghost use Rattle.app_jobs.specs.declared.fault.JobFault.TheVariants.{Memory};
+ghost use Rattle.app_part.specs.Parts as spec;
+ghost use Rattle.classic_tree.specs.Writing.{document_text};
+
+use app_jobs::JobFault;
+use app_program::open_document;
+use classic_part::{Note, Refusal, part_of};
+use classic_tree::{Document, write};
+use proto_flat::{ExpandFault, ExpandFaultKind};
+use std::alloc::{AllocError, Global};
+use x3d_values::Items;
+
+/// A part that is a scene: its text, and the notes on what was left out.
+#[derive(Drop)]
+pub(crate) struct Made {
+    pub text: Vec<u8>,
+    pub left: Items<Note>,
+}
+
+/// Returns the fault of a document whose rounds or tries have no end.
+pub(crate) fn endless() -> JobFault
+    ensures { result ≡ spec.endless }
+{
+    JobFault::Expand(ExpandFault {
+        kind: ExpandFaultKind::TooLarge,
+        line: 0,
+    })
+}
+
+/// Returns what stays of a document without what is refused, and appends the notes on what goes.
+fn settled(
+    alloc: Global,
+    document: &Document,
+    refused: &[Refusal],
+    left: &mut Items<Note>,
+) -> Result<Document, JobFault>
+    requires { left.old ≡ [] }
+    ensures made { IfOk result (spec.IsPart document.now refused.now left.new) }
+    ensures refused { IfErr result (λ f. (f ≡ Memory) ⊎ (f ≡ spec.endless)) }
+{
+    match part_of(alloc, document, refused, left)? {
+        Some(round) => Ok(round.document),
+        None => Err(endless()),
+    }
+}
+
+/// Tells whether a document is a scene.
+fn judged(alloc: Global, document: Document) -> Result<(), JobFault>
+    ensures good { OnOk result (spec.IsGood document) }
+    ensures bad { IfErr result (λ f. (f ≡ Memory) ⊎ spec.IsBad document f) }
+{
+    match open_document(alloc, document) {
+        Ok(opened) => {
+            drop(opened);
+            Ok(())
+        }
+        Err(fault) => Err(fault),
+    }
+}
+
+fn text_of(alloc: Global, document: &Document) -> Result<Vec<u8>, AllocError>
+    ensures { IfOk result (λ v. v.items ≡ document_text document.now) }
+{
+    let mut text = Vec::new(alloc);
+    write(document, &mut text)?;
+    Ok(text)
+}
+
+/// Returns the text of a document that is a scene.
+fn text_if_good(alloc: Global, document: Document) -> Result<Vec<u8>, JobFault>
+    ensures text { IfOk result (λ v. v.items ≡ document_text document) }
+    ensures good { OnOk result (spec.IsGood document) }
+    ensures bad { IfErr result (λ f. (f ≡ Memory) ⊎ spec.IsBad document f) }
+{
+    let Ok(text) = text_of(alloc, &document) else {
+        drop(document);
+        return Err(JobFault::Memory);
+    };
+    judged(alloc, document)?;
+    Ok(text)
+}
+
+/// Returns the part of a document without what is refused, if that is a scene. Fails with the fault
+/// of that part.
+pub(crate) fn tried(
+    alloc: Global,
+    document: &Document,
+    refused: &[Refusal],
+) -> Result<Made, JobFault>
+    ensures made { IfOk result (λ m. spec.IsMade document.now refused.now m.text.items m.left) }
+    ensures refused { IfErr result
+        (λ f. spec.IsNoTry f ⊎ spec.IsTurnedDown document.now refused.now f) }
+{
+    let mut left = Items::new(alloc);
+    let part = settled(alloc, document, refused, &mut left)?;
+    match text_if_good(alloc, part) {
+        Ok(text) => Ok(Made { text, left }),
+        Err(fault) => {
+            drop(left);
+            Err(fault)
+        }
+    }
+}

@@ -1,0 +1,5 @@
+pub mod Places
+pub mod Hosts
+pub mod Viewers
+pub mod Saving
+pub mod Begins

@@ -1,0 +1,4 @@
+pub mod Peers
+pub mod Leads
+pub mod Moves
+pub mod Begins

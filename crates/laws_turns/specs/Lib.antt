@@ -1,0 +1,5 @@
+pub mod HostDoings
+pub mod ViewerDoings
+pub mod Turns
+pub mod Rounds
+pub mod Steps
