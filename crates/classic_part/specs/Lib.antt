@@ -1,4 +1,5 @@
 pub mod Groupings
+pub mod Index
 pub mod Notes
 pub mod Part
 pub mod Rounds

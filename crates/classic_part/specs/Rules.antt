@@ -31,11 +31,13 @@ grouped word [] = Nothing
 grouped word (row ∷ others) =
     if bytes_eq word row.word then Grouped row.becomes row.children else grouped word others
 
+abbrev pub declared_or_grouped : Bool → List ℕ → Meant
+declared_or_grouped is_declared word = if is_declared then Prototype else grouped word table
+
 -- a prototype, or a grouping node; in the first round any word is taken for a prototype
 abbrev pub untyped : List ℕ → Option (List Note) → Meant
 untyped word None = Prototype
-untyped word (Some notes) =
-    if list_any (declares word) notes then Prototype else grouped word table
+untyped word (Some notes) = declared_or_grouped (list_any (declares word) notes) word
 
 abbrev pub typed_or : Meant → Option NodeType → Meant
 typed_or other None = other

@@ -8,7 +8,8 @@ ghost use Rattle.classic_part.specs.Part as spec;
 ghost use Rattle.classic_part.specs.Rules.{word_of};
 
 use crate::copies::copied_route;
-use crate::knowing::{Known, Level};
+use crate::index::Index;
+use crate::knowing::Level;
 use crate::notes::{Note, NoteKind, push_note};
 use crate::rules::Meant;
 use classic_tree::{
@@ -33,7 +34,7 @@ pub(crate) fn use_part(
     line: u32,
     name: &Text,
     field: &str,
-    known: &Known,
+    known: &Index<'_>,
     notes: &mut Items<Note>,
 ) -> Result<Option<NodeText>, AllocError>
     ensures made { IfOk result
@@ -56,7 +57,7 @@ pub(crate) fn use_part(
 fn joined_part(
     alloc: Global,
     route: &RouteText,
-    known: &Known,
+    known: &Index<'_>,
     notes: &mut Items<Note>,
 ) -> Result<Option<RouteText>, AllocError>
     ensures made { IfOk result (λ r. r ≡ (spec.joined_part known.now route.now).kept) }
@@ -80,7 +81,7 @@ fn joined_part(
 pub(crate) fn route_part(
     alloc: Global,
     route: &RouteText,
-    known: &Known,
+    known: &Index<'_>,
     notes: &mut Items<Note>,
 ) -> Result<Option<RouteText>, AllocError>
     ensures made { IfOk result (λ r. r ≡ (spec.route_part known.now route.now).kept) }

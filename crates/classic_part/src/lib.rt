@@ -5,16 +5,18 @@
 //!
 //! | Modules | Content |
 //! |---|---|
-//! | `notes`, `knowing` | what one round says of the tree, and what the next round knows by it |
+//! | `notes`, `knowing`, `index` | what one round says of the tree, and what the next round knows by it |
 //! | `grouping_nodes`, `rules` | grouping nodes outside the table; what stays of nodes and fields |
-//! | `copies`, `leaves`, `walk` | the tree that stays in one round |
+//! | `copies`, `leaves`, `lists`, `walk` | the tree that stays in one round |
 //! | `part` | a round over a document, and rounds until nothing more goes |
 #![tactic(auto)]
 
 mod copies;
 mod grouping_nodes;
+mod index;
 mod knowing;
 mod leaves;
+mod lists;
 mod notes;
 mod part;
 mod rules;

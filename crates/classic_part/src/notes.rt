@@ -60,6 +60,20 @@ impl NoteKind {
     {
         !matches!(self, NoteKind::Named | NoteKind::Declared)
     }
+
+    /// Reports whether the note names a node that stays.
+    pub(crate) fn is_named(self) -> bool
+        ensures { result ≡ spec.is_named self }
+    {
+        matches!(self, NoteKind::Named)
+    }
+
+    /// Reports whether the note names a prototype that stays.
+    pub(crate) fn is_declared(self) -> bool
+        ensures { result ≡ spec.is_declared self }
+    {
+        matches!(self, NoteKind::Declared)
+    }
 }
 
 /// Appends a note. Fails, with the list unchanged, if memory runs out.

@@ -2,12 +2,14 @@
 
 ghost use Rattle.std.specs.Prelude.{◌≡◌, ◌++◌, IfOk, IfSome, OnOk};
 ghost use Rattle.std.specs.List.{flat_map, list_any};
+ghost use Rattle.classic_part.specs.Part.{kept_in, notes_in, statement_part};
 ghost use Rattle.classic_part.specs.Rounds as spec;
 
+use crate::index::Index;
 use crate::knowing::{Known, Refusal};
+use crate::lists::statements_part;
 use crate::notes::Note;
-use crate::walk::statements_part;
-use classic_tree::Document;
+use classic_tree::{Document, Statement};
 use std::alloc::{AllocError, Global};
 use std::mem;
 use x3d_values::{Duplicate, Items};
@@ -34,6 +36,21 @@ pub fn any_goes(notes: &[Note]) -> bool
     notes.iter().any(|note| goes(note))
 }
 
+/// Returns what stays of statements in one round.
+fn known_part(
+    alloc: Global,
+    statements: &[Statement],
+    known: &Known,
+    notes: &mut Items<Note>,
+) -> Result<Items<Statement>, AllocError>
+    ensures made { IfOk result (λ r. r ≡ kept_in (statement_part known.now) statements.now) }
+    ensures told { OnOk result
+        (notes.new ≡ notes.old ++ notes_in (statement_part known.now) statements.now) }
+{
+    let index = Index::of(alloc, known)?;
+    statements_part(alloc, statements, &index, notes)
+}
+
 /// Returns what stays of a document in one round. Fails if memory runs out.
 pub fn one_round(alloc: Global, document: &Document, known: &Known) -> Result<Round, AllocError>
     ensures { IfOk result (λ r. r ≡ spec.one_round known.now document.now) }
@@ -42,7 +59,7 @@ pub fn one_round(alloc: Global, document: &Document, known: &Known) -> Result<Ro
     let components = document.components.duplicate(alloc)?;
     let metas = document.metas.duplicate(alloc)?;
     let mut notes = Items::new(alloc);
-    let statements = statements_part(alloc, document.statements.as_slice(), known, &mut notes)?;
+    let statements = known_part(alloc, document.statements.as_slice(), known, &mut notes)?;
     Ok(Round {
         document: Document {
             version: document.version,

@@ -1,12 +1,11 @@
 //! What stays of nodes and fields.
 
-ghost use Rattle.std.specs.Prelude.{◌≡◌, map, Some};
+ghost use Rattle.std.specs.Prelude.{◌≡◌, map};
 ghost use Rattle.classic_part.specs.Rules as spec;
 ghost use Rattle.classic_part.specs.Groupings.{entry};
 
 use crate::grouping_nodes::{ChildrenField, Grouping, groupings};
-use crate::knowing::{Known, any_declares};
-use crate::notes::Note;
+use crate::index::Index;
 use classic_tree::{Given, NodeText, RawValue};
 use x3d_values::{FieldType, NodeType, field_of};
 
@@ -48,26 +47,26 @@ fn grouped(rows: &[Grouping], word: &str) -> Meant
     }
 }
 
-fn declared_or_grouped(notes: &[Note], word: &str) -> Meant
-    ensures { result ≡ spec.untyped word.now (Some notes.now) }
+fn declared_or_grouped(is_declared: bool, word: &str) -> Meant
+    ensures { result ≡ spec.declared_or_grouped is_declared word.now }
 {
-    if any_declares(word, notes) {
+    if is_declared {
         return Meant::Prototype;
     }
     grouped(groupings(), word)
 }
 
-fn untyped(known: &Known, word: &str) -> Meant
+fn untyped(known: &Index<'_>, word: &str) -> Meant
     ensures { result ≡ spec.untyped word.now known.now.notes }
 {
-    match &known.notes {
+    match known.declares(word) {
         None => Meant::Prototype,
-        Some(notes) => declared_or_grouped(notes.as_slice(), word),
+        Some(is_declared) => declared_or_grouped(is_declared, word),
     }
 }
 
 /// Returns what the word before a node's braces means.
-pub(crate) fn meaning_of(known: &Known, word: &str) -> Meant
+pub(crate) fn meaning_of(known: &Index<'_>, word: &str) -> Meant
     ensures { result ≡ spec.meaning_of known.now word.now }
 {
     match NodeType::named(word) {

@@ -1,17 +1,17 @@
 //! The tree that stays in one round. Each function returns what stays of one part, if it does, and
 //! appends the notes on it.
 
-ghost use Rattle.std.specs.Prelude.{◌≡◌, ◌++◌, [], IfOk, OnOk};
+ghost use Rattle.std.specs.Prelude.{◌≡◌, ◌++◌, IfOk, OnOk};
 ghost use Rattle.classic_part.specs.Part as spec;
-ghost use Rattle.classic_part.specs.Part.{kept_in, notes_in};
 ghost use Rattle.classic_part.specs.Rules.{turns};
 
 use crate::copies::{list_of, plain};
-use crate::knowing::{Known, Level};
+use crate::index::Index;
+use crate::knowing::Level;
 use crate::leaves::{
-    body_part, declared_part, field_item, full_node, is_nothing, push_grouped, push_some,
-    route_part, use_part,
+    body_part, declared_part, field_item, full_node, is_nothing, push_grouped, route_part, use_part,
 };
+use crate::lists::{declarations_part, items_part, nodes_part, statements_part};
 use crate::notes::{Note, NoteKind, push_note};
 use crate::rules::{FieldRule, Meant, field_rule, meaning_of, turns};
 use classic_tree::{BodyItem, Declaration, Given, NodeText, ProtoText, RawValue, Statement};
@@ -21,11 +21,11 @@ use x3d_values::{Duplicate, Items, Text};
 /// Returns what stays of a node in a field of that name, which is empty for a statement.
 #[cycle(part)]
 #[tactic(auto, using(crate::proofs::Equations::node_lemmas))]
-fn node_part(
+pub(crate) fn node_part(
     alloc: Global,
     node: &NodeText,
     field: &str,
-    known: &Known,
+    known: &Index<'_>,
     notes: &mut Items<Note>,
 ) -> Result<Option<NodeText>, AllocError>
     ensures made { IfOk result
@@ -55,11 +55,11 @@ fn node_part(
 /// Returns what stays of an item between the braces of a node, by what the word before them means.
 #[cycle(part)]
 #[tactic(auto, using(crate::proofs::Equations::item_lemmas))]
-fn item_part(
+pub(crate) fn item_part(
     alloc: Global,
     item: &BodyItem,
     meant: Meant,
-    known: &Known,
+    known: &Index<'_>,
     notes: &mut Items<Note>,
 ) -> Result<Option<BodyItem>, AllocError>
     ensures made { IfOk result (λ r. r ≡ (spec.item_part known.now item.now meant).kept) }
@@ -94,7 +94,7 @@ fn field_part(
     name: &Text,
     given: &Given<NodeText>,
     meant: Meant,
-    known: &Known,
+    known: &Index<'_>,
     notes: &mut Items<Note>,
 ) -> Result<Option<BodyItem>, AllocError>
     ensures made { IfOk result
@@ -129,7 +129,7 @@ fn ruled_part(
     name: &str,
     given: &Given<NodeText>,
     rule: FieldRule,
-    known: &Known,
+    known: &Index<'_>,
     notes: &mut Items<Note>,
 ) -> Result<Option<BodyItem>, AllocError>
     ensures made { IfOk result
@@ -161,7 +161,7 @@ fn named_part(
     line: u32,
     name: &str,
     given: &Given<NodeText>,
-    known: &Known,
+    known: &Index<'_>,
     notes: &mut Items<Note>,
 ) -> Result<Option<BodyItem>, AllocError>
     ensures made { IfOk result
@@ -184,7 +184,7 @@ fn given_part(
     alloc: Global,
     name: &str,
     given: &Given<NodeText>,
-    known: &Known,
+    known: &Index<'_>,
     notes: &mut Items<Note>,
 ) -> Result<Option<Given<NodeText>>, AllocError>
     ensures made { IfOk result
@@ -210,7 +210,7 @@ fn value_part(
     alloc: Global,
     name: &str,
     value: &RawValue<NodeText>,
-    known: &Known,
+    known: &Index<'_>,
     notes: &mut Items<Note>,
 ) -> Result<Option<RawValue<NodeText>>, AllocError>
     ensures made { IfOk result
@@ -235,10 +235,10 @@ fn value_part(
 }
 
 #[cycle(part)]
-fn declaration_part(
+pub(crate) fn declaration_part(
     alloc: Global,
     declaration: &Declaration<NodeText>,
-    known: &Known,
+    known: &Index<'_>,
     notes: &mut Items<Note>,
 ) -> Result<Option<Declaration<NodeText>>, AllocError>
     ensures made { IfOk result
@@ -263,7 +263,7 @@ fn declaration_part(
 fn proto_part(
     alloc: Global,
     proto: &ProtoText,
-    known: &Known,
+    known: &Index<'_>,
     notes: &mut Items<Note>,
 ) -> Result<Option<ProtoText>, AllocError>
     ensures made { IfOk result (λ r. r ≡ (spec.proto_part known.now proto.now).kept) }
@@ -291,10 +291,10 @@ fn proto_part(
 
 #[cycle(part)]
 #[tactic(auto, using(crate::proofs::Equations::statement_lemmas))]
-fn statement_part(
+pub(crate) fn statement_part(
     alloc: Global,
     statement: &Statement,
-    known: &Known,
+    known: &Index<'_>,
     notes: &mut Items<Note>,
 ) -> Result<Option<Statement>, AllocError>
     ensures made { IfOk result (λ r. r ≡ (spec.statement_part known.now statement.now).kept) }
@@ -315,92 +315,4 @@ fn statement_part(
             None => Ok(None),
         },
     }
-}
-
-/// Returns what stays of the items between the braces of a node.
-#[cycle(part)]
-fn items_part(
-    alloc: Global,
-    items: &[BodyItem],
-    meant: Meant,
-    known: &Known,
-    notes: &mut Items<Note>,
-) -> Result<Items<BodyItem>, AllocError>
-    ensures made { IfOk result
-        (λ r. r ≡ kept_in (λ i. spec.item_part known.now i meant) items.now) }
-    ensures told { OnOk result
-        (notes.new ≡ notes.old ++ notes_in (λ i. spec.item_part known.now i meant) items.now) }
-{
-    let mut kept = Items::new(alloc);
-    for item in items {
-        push_some(&mut kept, item_part(alloc, item, meant, known, notes)?)?;
-    }
-    Ok(kept)
-}
-
-/// Returns what stays of the nodes in a field of that name.
-#[cycle(part)]
-fn nodes_part(
-    alloc: Global,
-    nodes: &[NodeText],
-    field: &str,
-    known: &Known,
-    notes: &mut Items<Note>,
-) -> Result<Items<NodeText>, AllocError>
-    ensures made { IfOk result
-        (λ r. r ≡ kept_in (λ n. spec.node_part known.now n field.now) nodes.now) }
-    ensures told { OnOk result
-        (notes.new ≡ notes.old
-        ++ notes_in (λ n. spec.node_part known.now n field.now) nodes.now) }
-{
-    let mut kept = Items::new(alloc);
-    for node in nodes {
-        push_some(&mut kept, node_part(alloc, node, field, known, notes)?)?;
-    }
-    Ok(kept)
-}
-
-/// Returns what stays of the interface of a prototype.
-#[cycle(part)]
-fn declarations_part(
-    alloc: Global,
-    declarations: &[Declaration<NodeText>],
-    known: &Known,
-    notes: &mut Items<Note>,
-) -> Result<Items<Declaration<NodeText>>, AllocError>
-    ensures made { IfOk result
-        (λ r. r ≡ kept_in (spec.declaration_part (λ field n. spec.node_part known.now n field)
-        known.now) declarations.now) }
-    ensures told { OnOk result
-        (notes.new ≡ notes.old
-        ++ notes_in (spec.declaration_part (λ field n. spec.node_part known.now n field) known.now)
-        declarations.now) }
-{
-    let mut kept = Items::new(alloc);
-    for declaration in declarations {
-        push_some(
-            &mut kept,
-            declaration_part(alloc, declaration, known, notes)?,
-        )?;
-    }
-    Ok(kept)
-}
-
-/// Returns what stays of the statements of a text, or of the body of a prototype.
-#[cycle(part)]
-pub(crate) fn statements_part(
-    alloc: Global,
-    statements: &[Statement],
-    known: &Known,
-    notes: &mut Items<Note>,
-) -> Result<Items<Statement>, AllocError>
-    ensures made { IfOk result (λ r. r ≡ kept_in (spec.statement_part known.now) statements.now) }
-    ensures told { OnOk result
-        (notes.new ≡ notes.old ++ notes_in (spec.statement_part known.now) statements.now) }
-{
-    let mut kept = Items::new(alloc);
-    for statement in statements {
-        push_some(&mut kept, statement_part(alloc, statement, known, notes)?)?;
-    }
-    Ok(kept)
 }

@@ -7,7 +7,7 @@
 //!
 //! | Modules | Content |
 //! |---|---|
-//! | `blames` | lines as texts |
+//! | `blames`, `laws` | lines as texts, and that they are read again |
 //! | `leaves`, `walk`, `document` | the blamed document |
 //! | `relining` | a flat document with the lines of instances |
 //! | `instance`, `words` | the line of the instance that a text is refused for, and how it is printed |
@@ -16,10 +16,12 @@
 mod blames;
 mod document;
 mod instance;
+mod laws;
 mod leaves;
 mod relining;
 mod walk;
 mod words;
 
 pub use instance::instance_line;
+pub use laws::blames_are_read;
 pub use words::instance_words;
