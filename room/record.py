@@ -5,7 +5,7 @@ from typing import NamedTuple
 
 from inputs import Inputs
 from library import wire, x3d
-from log_file import Writer
+from world_log import Writer
 from scene import LINE, Names
 from seat import latest
 

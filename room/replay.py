@@ -4,7 +4,7 @@ from pathlib import Path
 
 from explain import Unshown, read_scene_file, scene_in
 from library import TOP, wire, x3d
-from log_file import Damaged, is_log, read_log
+from world_log import Damaged, is_log, read_log
 from record import Record
 from room import VIEWERS
 from service import AWAY, SPECTATORS, Service, Wrong

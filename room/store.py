@@ -8,7 +8,7 @@ from pathlib import Path
 from explain import Unshown
 from inputs import Inputs
 from library import wire
-from log_file import EMPTY, OPEN, SHUT, Damaged, Writer, read_log
+from world_log import EMPTY, OPEN, SHUT, Damaged, Writer, read_log
 from record import Entry
 
 SCENE, INPUTS, SNAPSHOT, DONE = "scene.x3dv", "inputs.x3dlog", "snapshot", "log.jsonl"

@@ -8,7 +8,7 @@ from pathlib import Path
 from explain import Unshown
 from inputs import Inputs
 from library import TOP, wire
-from log_file import EMPTY, SHUT, Damaged, Writer, entry_of, framed, head_of, read_log
+from world_log import EMPTY, SHUT, Damaged, Writer, entry_of, framed, head_of, read_log
 from record import Record
 from replay import read_run
 from served import DRILL, LATER, Skipped, scene

@@ -10,7 +10,7 @@ import time
 import browser
 from guard import PATIENCE
 from library import wire
-from log_file import Writer, read_log
+from world_log import Writer, read_log
 from served import AT_BUTTON, PANEL, TRAINER, Client, Served, scene, scene_file
 
 HOSTILE = int(os.environ.get("HOSTILE", "500" if "--quick" in sys.argv else "10000"))
