@@ -84,9 +84,9 @@ fn used_up(until: Option<u32>) -> Result<(), RunFault>
     }
 }
 
-/// Runs turns of a host over a log, until it is done as `plan` says; all of them, if `plan` names no
-/// number of inputs. Each turn numbers the next of the clocks, at times in microseconds, until there
-/// are no more. What a turn numbers is stored before anything is sent.
+/// Runs turns of a host over a log, until it is done as `plan` says; all of them, if `plan` names
+/// no number of inputs. Each turn numbers the next of the clocks, at times in microseconds, until
+/// there are no more. What a turn numbers is stored before anything is sent.
 ///
 /// Fails with `TurnsUsedUp` if the host isn't done after the last turn. A turn that ends early ends
 /// the run.

@@ -19,7 +19,8 @@ abbrev pub endless : JobFault
 endless = Expand (record { kind = TooLarge; line = 0 })
 
 -- what stays of a document without what is refused, with the notes on what goes
-pub record IsPart (document : Document) (refused : List Refusal) (left : List Note) (part : Document) : Type 0 where
+pub record IsPart (document : Document) (refused : List Refusal) (left : List Note)
+    (part : Document) : Type 0 where
   pub round : Round
   pub settled : IsSettled refused document round [] left
   pub is : part ≡ round.document
@@ -33,14 +34,16 @@ abbrev pub IsBad : Document → JobFault → Type 0
 IsBad document fault = opened_document document ≡ Err fault
 
 -- that part is a scene, and this is its text
-pub record IsMade (document : Document) (refused : List Refusal) (text : List ℕ) (left : List Note) : Type 0 where
+pub record IsMade (document : Document) (refused : List Refusal) (text : List ℕ)
+    (left : List Note) : Type 0 where
   pub part : Document
   pub settled : IsPart document refused left part
   pub good : IsGood part
   pub written : text ≡ document_text part
 
 -- that part is no scene, for this reason
-pub record IsTurnedDown (document : Document) (refused : List Refusal) (fault : JobFault) : Type 0 where
+pub record IsTurnedDown (document : Document) (refused : List Refusal) (fault : JobFault)
+    : Type 0 where
   pub part : Document
   pub left : List Note
   pub settled : IsPart document refused left part

@@ -52,7 +52,8 @@ fn texts_of(alloc: Global, bytes: &[u8]) -> Result<PartTexts, JobFault>
 /// Fails with `Device` if the reader fails or has no end, with `Memory` if memory is refused, or
 /// with the fault of `part_of_text`.
 pub fn read_part<R: Read>(alloc: Global, reader: &mut R) -> Result<PartTexts, JobFault>
-    ensures texts { IfOk result (spec.IsPartRead (R.remaining reader.old) (R.remaining reader.new)) }
+    ensures texts { IfOk result
+        (spec.IsPartRead (R.remaining reader.old) (R.remaining reader.new)) }
     ensures refused { IfErr result (λ f. IsDeviceOrMemory f
         ⊎ spec.HasNoPartRead (R.remaining reader.old) (R.remaining reader.new) f) }
 {

@@ -77,7 +77,8 @@ give_rule = ranged (codes "give") 1 65535
 
 -- `--give-turns T`, from 1 to 2^32 - 1, by default 1000000
 abbrev pub give_turns_rule : Rule
-give_turns_rule = record (ranged (codes "give-turns") 1 4294967295) { defaults = codes "1000000" ∷ [] }
+give_turns_rule =
+    record (ranged (codes "give-turns") 1 4294967295) { defaults = codes "1000000" ∷ [] }
 
 -- `--NAME`, a flag
 abbrev pub flag : Text → Rule

@@ -193,7 +193,8 @@ fn agree_in(found: &ArgMatches<'_>) -> Option<Order>
     Some(Order::Agree { viewers, turns })
 }
 
-/// Returns what is done with a log, by which of `--log` and `--new-log` was given, unless both were.
+/// Returns what is done with a log, by which of `--log` and `--new-log` was given, unless both
+/// were.
 fn log_use_of(goes_on: bool, makes: bool) -> Option<LogUse>
     ensures { result ≡ log_use_of goes_on makes }
 {

@@ -155,8 +155,8 @@ that another viewer sends to port Q in pieces, and asks for the inputs after it.
 above the other viewer's. With --give Q a viewer that has applied its N inputs prints its texts, and
 then sends its snapshot to port Q repeatedly, a piece of 192 bytes a turn, in --give-turns turns. Of
 these 32 take a millisecond or two, so 1000000 last about a minute.
-A turn of the others takes up to 64 datagrams. If nothing comes, a turn waits 50 milliseconds, and up to 50 more
-pass before the next, so 1000000 turns last up to 28 hours.
+A turn of the others takes up to 64 datagrams. If nothing comes, a turn waits 50 milliseconds, and
+up to 50 more pass before the next, so 1000000 turns last up to 28 hours.
 A viewer that is stopped by a signal before its inputs are applied prints nothing.
 
 Example:

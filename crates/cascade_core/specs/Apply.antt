@@ -36,8 +36,8 @@ tick_node wiring now c node =
     send_replies wiring node (with_live c (with_answer c.live t)) t.replies
 
 -- a pointing sensor gets a viewer's pointer, and the events that it sends are followed
-unfoldable pub point_node : SceneView → Wiring → PointerView → Bool → Insides → CourseView → Concerned
-    → CourseView
+unfoldable pub point_node : SceneView → Wiring → PointerView → Bool → Insides → CourseView
+    → Concerned → CourseView
 point_node scene wiring p before is c x =
     let a = met scene c.live.world x.sensor (pointer_at p before is x.tracked x.sensor) in
     send_replies wiring x.sensor (with_live c (with_answer c.live a)) a.replies

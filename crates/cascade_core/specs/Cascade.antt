@@ -17,7 +17,8 @@ use Rattle.cascade_world.specs.World.{record_event}
 use Rattle.cascade_core.specs.Course.{CourseView, Wiring, ports_of, script_of, with_live}
 
 -- the replies of a node, one after another, each sent on by `go`
-abbrev pub send_all : (CourseView → End → Value → CourseView) → ℕ → CourseView → List SentEvent → CourseView
+abbrev pub send_all : (CourseView → End → Value → CourseView) → ℕ → CourseView → List SentEvent
+    → CourseView
 send_all go node c replies =
     fold (λ t reply. go t (record { node = node; field = reply.field }) reply.value) c replies
 
@@ -67,7 +68,8 @@ unfoldable pub reached : Wiring → CourseView → End → Value → Reacted
 reached wiring c target v = reached_by wiring c target v (arrival wiring c target v)
 
 -- the target is reached, and each reply of its node is sent on
-unfoldable pub deliver : (CourseView → End → Value → CourseView) → Wiring → Value → CourseView → End → CourseView
+unfoldable pub deliver : (CourseView → End → Value → CourseView) → Wiring → Value → CourseView → End
+    → CourseView
 deliver go wiring v c target =
     let r = reached wiring c target v in send_all go target.node r.course r.replies
 

@@ -80,7 +80,8 @@ fn mended(alloc: Global, mut text: Vec<u8>) -> Result<Lenient, ReadFault>
 /// Reads a text that has no document, under a header of X3D.
 fn mended_text(alloc: Global, text: &[u8]) -> Result<Lenient, ReadFault>
     ensures read { IfOk result (IsMended (as_x3d text.now)) }
-    ensures refused { IfErr result (λ fault. (fault ≡ memory) ⊎ IsUnmended (as_x3d text.now) fault) }
+    ensures refused { IfErr result
+        (λ fault. (fault ≡ memory) ⊎ IsUnmended (as_x3d text.now) fault) }
 {
     match as_x3d(alloc, text) {
         Ok(text) => mended(alloc, text),

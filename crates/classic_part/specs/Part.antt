@@ -184,7 +184,8 @@ node_statement (Statement-F.Statement::Proto proto) = false
 
 abbrev pub is_node : Statement → Bool
 is_node =
-    fold-Statement (Unit {0}) (Unit {0}) Bool (Unit {0}) (λ _. tt) (λ _. tt) node_statement (λ _. tt)
+    fold-Statement (Unit {0}) (Unit {0}) Bool (Unit {0}) (λ _. tt) (λ _. tt) node_statement
+    (λ _. tt)
 
 -- a prototype needs a node in its body
 abbrev pub proto_of : ℕ → List ℕ → List (Declaration NodeText) → List Statement → Option ProtoText

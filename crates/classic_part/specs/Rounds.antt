@@ -44,7 +44,8 @@ left_in zero refused d = []
 left_in (suc n) refused d = left_in n refused d ++ flat_map left_one (after n refused d).notes
 
 -- a round after which nothing more goes; what went was appended to a list
-pub record IsSettled (refused : List Refusal) (d : Document) (r : Round) (old new : List Note) : Type 0 where
+pub record IsSettled (refused : List Refusal) (d : Document) (r : Round) (old new : List Note)
+    : Type 0 where
   pub rounds : ℕ
   pub made : r ≡ after rounds refused d
   pub still : list_any goes (next refused r).notes ≡ false

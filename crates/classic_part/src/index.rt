@@ -64,7 +64,8 @@ impl<'k> NameSet<'k> {
 
     fn add(&mut self, name: &'k Text) -> Result<(), AllocFailed<&'k str>>
         ensures { IfOk result (λ _. (other : List ℕ)
-            → holds self.new other ≡ (if bytes_eq name.now other then true else holds self.old other)) }
+            → holds self.new other
+            ≡ (if bytes_eq name.now other then true else holds self.old other)) }
     {
         self.names.insert(name.as_str())?;
         Ok(())

@@ -5,7 +5,7 @@
 //!
 //! | Modules | Content |
 //! |---|---|
-//! | `notes`, `knowing`, `index` | what one round says of the tree, and what the next round knows by it |
+//! | `notes`, `knowing`, `index` | what one round says of the tree, and what the next one knows |
 //! | `grouping_nodes`, `rules` | grouping nodes outside the table; what stays of nodes and fields |
 //! | `copies`, `leaves`, `lists`, `walk` | the tree that stays in one round |
 //! | `part` | a round over a document, and rounds until nothing more goes |

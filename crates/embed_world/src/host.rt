@@ -85,7 +85,8 @@ impl EmbeddedHost {
 
     /// Takes a datagram that was decoded.
     fn take_read(&mut self, read: Result<Message, WireFault>) -> Result<HostReply, HostFault>
-        ensures { (bytes : List ℕ) → read ≡ decoded bytes → HostTakes self.old bytes result self.new }
+        ensures { (bytes : List ℕ) → read ≡ decoded bytes
+            → HostTakes self.old bytes result self.new }
     {
         hear(
             &mut self.heard,
@@ -106,8 +107,8 @@ impl EmbeddedHost {
         self.take_read(decode(bytes))
     }
 
-    /// Takes the bytes of a datagram that came from viewer `who`, like `take`. An offer or an ask of
-    /// another viewer is refused as `BadViewer` after `WrongScene`, and nothing changes.
+    /// Takes the bytes of a datagram that came from viewer `who`, like `take`. An offer or an ask
+    /// of another viewer is refused as `BadViewer` after `WrongScene`, and nothing changes.
     pub fn take_from(&mut self, who: u8, bytes: &[u8]) -> Result<HostReply, HostFault>
         ensures { HostTakesFrom self.old who bytes.now result self.new }
     {

@@ -3,7 +3,7 @@
 //! | Modules | Content |
 //! |---|---|
 //! | `world`, `opening`, `input`, `scripts`, `shots` | a world: made, moved on, saved, loaded |
-//! | `host`, `viewer`, `pieces`, `datagram` | a host and a viewer of a shared world, and what they send |
+//! | `host`, `viewer`, `pieces`, `datagram` | a host and a viewer, and what they send |
 //! | `texts`, `lists`, `viewer_texts`, `viewer_lists` | reads of them, as texts and numbers |
 //! | `changed` | the fields that were set after an input |
 //! | `lines`, `meet`, `named` | what a read looks up |

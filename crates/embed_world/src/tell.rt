@@ -173,8 +173,8 @@ pub fn tell_field(found: Option<u16>, told: &mut u16) -> u8
     DONE
 }
 
-/// Writes the number that a viewer asked from, if there is such a viewer, to `told`, and returns the
-/// status.
+/// Writes the number that a viewer asked from, if there is such a viewer, to `told`, and returns
+/// the status.
 pub fn tell_heard(found: Option<u32>, told: &mut u32) -> u8
     ensures { IsHeard found told.old result told.new }
 {

@@ -1,6 +1,7 @@
 -- An instance that is given the default of a field is that instance without the field (ISO/IEC
--- 19775-1, 4.4.4, prototypes). Here the prototype and its instances are of the class of `WithFields`:
--- its body is one node, no values hold nodes, and no other prototypes, USE and ROUTE are in the text.
+-- 19775-1, 4.4.4, prototypes). Here the prototype and its instances are of the class of
+-- `WithFields`: its body is one node, no values hold nodes, and no other prototypes, USE and ROUTE
+-- are in the text.
 use Rattle.std.specs.Prelude.{◌≡◌, ℕ, true, false, List, [], ◌∷◌, ◌++◌, Option, Some, Ok}
 use Rattle.std.specs.List.{list_all}
 use Rattle.classic_tree.specs.declared.tree.BodyItem.{BodyItem}

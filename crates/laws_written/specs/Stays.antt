@@ -45,8 +45,8 @@ pub record IsSame (scene : SceneView) (routes : List Route) (state : List Fields
   -- it is written again in the same way: before any event the second scene has this text
   pub writes : scene_text next routes (state_of next) ≡ scene_text scene routes state
 
--- it has a flat form, and that has a scene unless chains are too long, or there are too many places;
--- if there is a scene, it is the scene that was written, and the text can be read
+-- it has a flat form, and that has a scene unless chains are too long, or there are too many
+-- places; if there is a scene, it is the scene that was written, and the text can be read
 pub record IsReadAgain (scene : SceneView) (routes : List Route) (state : List Fields)
     : Type 0 where
   pub again : Flat

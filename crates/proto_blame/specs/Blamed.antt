@@ -1,7 +1,7 @@
--- The blamed document of a document: the same nodes and prototypes, in which each value is a blame of
--- the instance whose braces hold it (ISO/IEC 19775-1, 4.4.4, prototypes; the blames are our choice).
--- What gives no value and adds no node is left out: names, USEs and ROUTEs. So its flat document has
--- the nodes and fields of the document's own, with blames for values.
+-- The blamed document of a document: the same nodes and prototypes, in which each value is a blame
+-- of the instance whose braces hold it (ISO/IEC 19775-1, 4.4.4, prototypes; the blames are our
+-- choice). What gives no value and adds no node is left out: names, USEs and ROUTEs. So its flat
+-- document has the nodes and fields of the document's own, with blames for values.
 --
 -- An example:
 --     1  PROTO Lamp [ inputOutput SFFloat power 1 ] { PointLight { intensity IS power } }

@@ -86,7 +86,8 @@ is_within met =
 
 -- routes are made when all nodes are there, so they are counted last. TooLarge has no line (0)
 abbrev pub with_few_routes : Result Flat ExpandFault → Result Flat ExpandFault
-with_few_routes (Ok f) = if nat_lt max_routes (length f.routes) then Err (fault TooLarge 0) else Ok f
+with_few_routes (Ok f) =
+    if nat_lt max_routes (length f.routes) then Err (fault TooLarge 0) else Ok f
 with_few_routes (Err e) = Err e
 
 -- counting ends at the first fault, so what is too much was counted before that fault

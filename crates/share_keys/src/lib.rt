@@ -1,7 +1,7 @@
 //! Seals of datagrams, by keys that viewers share with the host.
 //!
-//! `seal` returns the seal of a datagram, and `unsealed` the datagram of sealed bytes. `key_of` reads
-//! a line of a key file. `hmac` is HMAC-SHA256 (RFC 2104).
+//! `seal` returns the seal of a datagram, and `unsealed` the datagram of sealed bytes. `key_of`
+//! reads a line of a key file. `hmac` is HMAC-SHA256 (RFC 2104).
 #![tactic(auto)]
 
 mod keys;

@@ -64,7 +64,8 @@ fn last_heard(now: u64, next: u32, last: u64) -> u64
 /// Notes at `now` when each viewer was last heard, after a turn in which these numbers were heard.
 fn note_times(now: u64, nexts: &[u32; PLACES], lasts: &mut [u64; PLACES])
     ensures { (who : ℕ) → who < max_viewers
-        → get_or lasts.new who 0 ≡ last_heard now (get_or nexts.now who 0) (get_or lasts.old who 0) }
+        → get_or lasts.new who 0
+        ≡ last_heard now (get_or nexts.now who 0) (get_or lasts.old who 0) }
 {
     for who in 0..PLACES {
         lasts[who] = last_heard(now, nexts[who], lasts[who]);

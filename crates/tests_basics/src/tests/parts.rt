@@ -33,8 +33,8 @@ DEF Clock TimeSensor {
 }
 ";
 
-/// The lines of what went, in the order of the rounds: the turned rotation, what no prototype of the
-/// first round is (Teapot, Anchor and its url), and the ROUTE from the Teapot.
+/// The lines of what went, in the order of the rounds: the turned rotation, what no prototype of
+/// the first round is (Teapot, Anchor and its url), and the ROUTE from the Teapot.
 static LINES: [u32; 5] = [6, 2, 3, 4, 10];
 
 fn text_of(alloc: Global, document: &Document) -> Result<Vec<u8>, Fail> {
