@@ -1,11 +1,10 @@
-use Rattle.std.proofs.Common.{refl}
 use Rattle.cascade_core.proofs.pointer.point.Goals as goal
 
 pub point_concerned-requires : goal.point_concerned-requires
 point_concerned-requires g c = record {
   rest = record {
     empty = c.requires.rest.empty;
-    none = refl;
+    none = c.requires.rest.none;
     boxes = rw c.set_button.ensures c.requires.rest.boxes;
     has_scripts = record { sound = c.requires.rest.has_scripts.sound; counted = c.requires.rest.has_scripts.counted };
   };
