@@ -14,7 +14,7 @@ use crate::course::Course;
 use crate::nodes::is_clock;
 use crate::routed::RoutedScene;
 use crate::stack::send_replies;
-use crate::walk::{Reaction, walk_all};
+use crate::walk::{VisitsNodes, walk_all};
 use cascade_world::WorldData;
 use scene_core::Scene;
 use script_host::Behaviour;
@@ -46,7 +46,7 @@ struct Ticks<'a> {
     input: &'a Stamped,
 }
 
-impl<'a> Reaction for Ticks<'a> {
+impl<'a> VisitsNodes for Ticks<'a> {
     ghost wanted = { is_time_sensor };
 
     ghost step = { λ ticks routed. tick_node_of (wiring_at routed) ticks.input.now.time };
@@ -59,7 +59,7 @@ impl<'a> Reaction for Ticks<'a> {
         world.is_idle(block, self.input)
     }
 
-    fn react<B: Behaviour>(
+    fn visit<B: Behaviour>(
         &self,
         routed: &RoutedScene,
         buffers: &mut Buffers,

@@ -18,7 +18,7 @@ use crate::course::Course;
 use crate::pressed::list_pressed;
 use crate::routed::RoutedScene;
 use crate::stack::send_replies;
-use crate::walk::{Reaction, walk_all};
+use crate::walk::{VisitsNodes, walk_all};
 use cascade_world::{AimedAt, Concerned, WorldData, insides};
 use pick_core::is_sensor;
 use scene_core::Scene;
@@ -83,7 +83,7 @@ struct Points<'a> {
     aim: &'a AimedAt,
 }
 
-impl<'a> Reaction for Points<'a> {
+impl<'a> VisitsNodes for Points<'a> {
     ghost wanted = { is_pointing };
 
     ghost step = { λ points routed. untracked_by
@@ -98,7 +98,7 @@ impl<'a> Reaction for Points<'a> {
         world.passes_block(block, self.aim)
     }
 
-    fn react<B: Behaviour>(
+    fn visit<B: Behaviour>(
         &self,
         routed: &RoutedScene,
         buffers: &mut Buffers,

@@ -19,12 +19,12 @@ use scene_core::Scene;
 use script_host::Behaviour;
 use std::alloc::AllocError;
 
-/// What happens at the nodes of some types, at each in turn.
-pub trait Reaction {
+/// What visits the nodes of some types, each in turn: a tick of the clock, or a viewer's pointer.
+pub trait VisitsNodes {
     /// Whether it concerns the nodes of a type.
     ghost wanted: { NodeType → Bool };
 
-    /// The course after it happened at a node.
+    /// The course after the visit of a node.
     ghost step: { Self → RoutedView → CourseView → ℕ → CourseView };
 
     /// Reports whether it concerns the node of that number.
@@ -36,8 +36,8 @@ pub trait Reaction {
         ensures { (routed : RoutedView) (c : CourseView) (node : ℕ) → IsTrue result
             → node / 32 ≡ block → c.live.world ≡ world.now → c ≡ step self.now routed c node };
 
-    /// Lets it happen at a node that it concerns, and follows the events that the node sends.
-    fn react<B: Behaviour>(
+    /// Visits a node that it concerns, and follows the events that the node sends.
+    fn visit<B: Behaviour>(
         &self,
         routed: &RoutedScene,
         buffers: &mut Buffers,
@@ -56,96 +56,96 @@ pub trait Reaction {
         ensures { world.new ≡ world.old };
 }
 
-/// Lets a reaction happen at the node of that number, if it concerns the node.
-fn walk_node<R: Reaction, B: Behaviour>(
+/// Visits the node of that number, if the visitor concerns it.
+fn walk_node<V: VisitsNodes, B: Behaviour>(
     routed: &RoutedScene,
     buffers: &mut Buffers,
     course: &mut Course<B>,
-    reaction: &R,
+    visitor: &V,
     node: u32,
 ) -> Result<(), AllocError>
     requires rest { IsAtRest routed.now buffers.old (seen course.old) }
     ensures course { OnOk result (seen course.new
-        ≡ where_passes (is_of R.wanted (types_of routed.now.scene))
-        (R.step reaction.now routed.now) (seen course.old) node) }
+        ≡ where_passes (is_of V.wanted (types_of routed.now.scene))
+        (V.step visitor.now routed.now) (seen course.old) node) }
     ensures rest { OnOk result (IsAtRest routed.now buffers.new (seen course.new)) }
     ensures scripts { HasSameScripts (seen course.old) (seen course.new) }
 {
-    if !reaction.concerns(&routed.scene, node) {
+    if !visitor.concerns(&routed.scene, node) {
         return Ok(());
     }
-    reaction.react(routed, buffers, course, node)
+    visitor.visit(routed, buffers, course, node)
 }
 
-/// Lets a reaction happen at each node from `start` to before `end` that it concerns.
-fn walk_range<R: Reaction, B: Behaviour>(
+/// Visits each node from `start` to before `end` that the visitor concerns.
+fn walk_range<V: VisitsNodes, B: Behaviour>(
     routed: &RoutedScene,
     buffers: &mut Buffers,
     course: &mut Course<B>,
-    reaction: &R,
+    visitor: &V,
     start: u32,
     end: u32,
 ) -> Result<(), AllocError>
     requires rest { IsAtRest routed.now buffers.old (seen course.old) }
     ensures course { OnOk result (seen course.new
-        ≡ fold (where_passes (is_of R.wanted (types_of routed.now.scene))
-        (R.step reaction.now routed.now)) (seen course.old)
+        ≡ fold (where_passes (is_of V.wanted (types_of routed.now.scene))
+        (V.step visitor.now routed.now)) (seen course.old)
         (range_with_len start (end - start))) }
     ensures rest { OnOk result (IsAtRest routed.now buffers.new (seen course.new)) }
     ensures scripts { HasSameScripts (seen course.old) (seen course.new) }
 {
     for node in start..end {
-        walk_node(routed, buffers, course, reaction, node)?;
+        walk_node(routed, buffers, course, visitor, node)?;
     }
     Ok(())
 }
 
-/// Lets a reaction happen at the nodes of a block that it concerns, in a scene of `count` nodes.
-/// Skips a block where it is known to do nothing.
-fn walk_block<R: Reaction, B: Behaviour>(
+/// Visits the nodes of a block that the visitor concerns, in a scene of `count` nodes. Skips a block
+/// where it is known to do nothing.
+fn walk_block<V: VisitsNodes, B: Behaviour>(
     routed: &RoutedScene,
     buffers: &mut Buffers,
     course: &mut Course<B>,
-    reaction: &R,
+    visitor: &V,
     block: u32,
     count: u32,
 ) -> Result<(), AllocError>
     requires within { block * 32 ≤ count }
     requires rest { IsAtRest routed.now buffers.old (seen course.old) }
     ensures course { OnOk result (seen course.new
-        ≡ over_block (where_passes (is_of R.wanted (types_of routed.now.scene))
-        (R.step reaction.now routed.now)) (seen course.old) block count) }
+        ≡ over_block (where_passes (is_of V.wanted (types_of routed.now.scene))
+        (V.step visitor.now routed.now)) (seen course.old) block count) }
     ensures rest { OnOk result (IsAtRest routed.now buffers.new (seen course.new)) }
     ensures scripts { HasSameScripts (seen course.old) (seen course.new) }
 {
-    if reaction.skips(&course.live.world, block) {
+    if visitor.skips(&course.live.world, block) {
         return Ok(());
     }
     let start = block * BLOCK;
     let many = (count - start).min(BLOCK);
-    walk_range(routed, buffers, course, reaction, start, start + many)?;
-    reaction.remember(&mut course.live.world, block);
+    walk_range(routed, buffers, course, visitor, start, start + many)?;
+    visitor.remember(&mut course.live.world, block);
     Ok(())
 }
 
-/// Lets a reaction happen at each node that it concerns, in number order. Fails with `AllocError`
-/// if memory runs out.
-pub fn walk_all<R: Reaction, B: Behaviour>(
+/// Visits each node that the visitor concerns, in number order. Fails with `AllocError` if memory
+/// runs out.
+pub fn walk_all<V: VisitsNodes, B: Behaviour>(
     routed: &RoutedScene,
     buffers: &mut Buffers,
     course: &mut Course<B>,
-    reaction: &R,
+    visitor: &V,
 ) -> Result<(), AllocError>
     requires rest { IsAtRest routed.now buffers.old (seen course.old) }
     ensures course { OnOk result (seen course.new
-        ≡ fold (R.step reaction.now routed.now) (seen course.old)
-        (numbers_of R.wanted (types_of routed.now.scene))) }
+        ≡ fold (V.step visitor.now routed.now) (seen course.old)
+        (numbers_of V.wanted (types_of routed.now.scene))) }
     ensures rest { OnOk result (IsAtRest routed.now buffers.new (seen course.new)) }
     ensures scripts { HasSameScripts (seen course.old) (seen course.new) }
 {
     let count = routed.scene.count()?;
     for block in 0..count / BLOCK + 1 {
-        walk_block(routed, buffers, course, reaction, block, count)?;
+        walk_block(routed, buffers, course, visitor, block, count)?;
     }
     Ok(())
 }

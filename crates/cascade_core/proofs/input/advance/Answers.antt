@@ -59,7 +59,7 @@ pub happen-requires : goal.happen-requires
 happen-requires g c = record {
   rest = record {
     empty = c.clear.ensures.items;
-    none = c.clear-2.ensures.items;
+    none = c.clear-2.ensures;
     boxes = c.requires.boxes ∙ ap (λ (d : CourseView). rows_of c.args.routed.now.scene d.live.world.fields) (sym c.begin.ensures.course);
     has_scripts =
         has_scripts_then

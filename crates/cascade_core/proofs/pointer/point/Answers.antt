@@ -1,7 +1,7 @@
 use Rattle.cascade_core.proofs.pointer.point.Goals as goal
 
-pub point_concerned-requires : goal.point_concerned-requires
-point_concerned-requires g c = record {
+pub point_concerned-pointed-requires : goal.point_concerned-pointed-requires
+point_concerned-pointed-requires g c = record {
   rest = record {
     empty = c.requires.rest.empty;
     none = c.requires.rest.none;
@@ -11,4 +11,4 @@ point_concerned-requires g c = record {
 }
 
 pub returns-clause-scripts : goal.returns-clause-scripts
-returns-clause-scripts g c = record { kinds = c.point_concerned.ensures.scripts.kinds; count = c.point_concerned.ensures.scripts.count }
+returns-clause-scripts g c = record { kinds = c.point_concerned-pointed.ensures.scripts.kinds; count = c.point_concerned-pointed.ensures.scripts.count }

@@ -14,7 +14,7 @@ loop-block-preserved g c = record {
 pub returns-clause-course : goal.returns-clause-course
 returns-clause-course g c =
     blocks_ended _ _ c.loop-block.block _ c.loop-block-test.false ∙ c.loop-block.invariant.done
-    ∙ by-type g.R.Reaction.wanted c.args.routed.now.scene.nodes (g.R.Reaction.step c.args.reaction.now c.args.routed.now) (seen c.args.course.now) _ c.in_ok-count.ensures.ok
+    ∙ by-type g.V.VisitsNodes.wanted c.args.routed.now.scene.nodes (g.V.VisitsNodes.step c.args.visitor.now c.args.routed.now) (seen c.args.course.now) _ c.in_ok-count.ensures.ok
 
 pub returns-in_err-walk_block-clause-scripts : goal.returns-in_err-walk_block-clause-scripts
 returns-in_err-walk_block-clause-scripts g c = scripts_then c.loop-block.invariant.scripts c.walk_block.ensures.scripts

@@ -13,6 +13,6 @@ invariant-loop-block g l = record {
   rest : IsAtRest l.routed l.buffers (seen l.course);
   scripts : HasSameScripts (seen l.fn.course) (seen l.course);
   done :
-      fold (where_passes (is_of g.R.Reaction.wanted (types_of l.routed.scene)) (g.R.Reaction.step l.reaction l.routed)) (seen l.course) (range_with_len (l.block * 32) (l.count - l.block * 32))
-      ≡ fold (where_passes (is_of g.R.Reaction.wanted (types_of l.routed.scene)) (g.R.Reaction.step l.reaction l.routed)) (seen l.fn.course) (range_with_len (0 * 32) (l.count - 0 * 32));
+      fold (where_passes (is_of g.V.VisitsNodes.wanted (types_of l.routed.scene)) (g.V.VisitsNodes.step l.visitor l.routed)) (seen l.course) (range_with_len (l.block * 32) (l.count - l.block * 32))
+      ≡ fold (where_passes (is_of g.V.VisitsNodes.wanted (types_of l.routed.scene)) (g.V.VisitsNodes.step l.visitor l.routed)) (seen l.fn.course) (range_with_len (0 * 32) (l.count - 0 * 32));
 }

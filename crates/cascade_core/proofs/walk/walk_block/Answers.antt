@@ -8,8 +8,8 @@ use Rattle.cascade_core.proofs.walk.walk_block.Goals as goal
 
 pub returns-then-skips-clause-course : goal.returns-then-skips-clause-course
 returns-then-skips-clause-course g c =
-    let passes = is_of g.R.Reaction.wanted (types_of c.args.routed.now.scene) in
-    let step = g.R.Reaction.step c.args.reaction.now c.args.routed.now in
+    let passes = is_of g.V.VisitsNodes.wanted (types_of c.args.routed.now.scene) in
+    let step = g.V.VisitsNodes.step c.args.visitor.now c.args.routed.now in
     block_still (where_passes passes step) (seen c.args.course.now) c.args.block c.args.count
     (λ node within. passed-still (passes node) (step (seen c.args.course.now) node) (seen c.args.course.now)
     (c.skips.ensures c.args.routed.now (seen c.args.course.now) node c.if-skips.true within refl))

@@ -13,6 +13,6 @@ invariant-loop-node g l = record {
   rest : IsAtRest l.routed l.buffers (seen l.course);
   scripts : HasSameScripts (seen l.fn.course) (seen l.course);
   done :
-      fold (where_passes (is_of g.R.Reaction.wanted (types_of l.routed.scene)) (g.R.Reaction.step l.reaction l.routed)) (seen l.course) (range_with_len l.node (l.end - l.node))
-      ≡ fold (where_passes (is_of g.R.Reaction.wanted (types_of l.routed.scene)) (g.R.Reaction.step l.reaction l.routed)) (seen l.fn.course) (range_with_len l.start (l.end - l.start));
+      fold (where_passes (is_of g.V.VisitsNodes.wanted (types_of l.routed.scene)) (g.V.VisitsNodes.step l.visitor l.routed)) (seen l.course) (range_with_len l.node (l.end - l.node))
+      ≡ fold (where_passes (is_of g.V.VisitsNodes.wanted (types_of l.routed.scene)) (g.V.VisitsNodes.step l.visitor l.routed)) (seen l.fn.course) (range_with_len l.start (l.end - l.start));
 }

@@ -1,6 +1,6 @@
 use Rattle.cascade_core.specs.Course.{wiring_at}
 use Rattle.cascade_core.proofs.Skipped.{idle-course}
-use Rattle.cascade_core.proofs.clock.TicksReaction.skips.Goals as goal
+use Rattle.cascade_core.proofs.clock.TicksVisitsNodes.skips.Goals as goal
 
 pub returns : goal.returns
 returns c routed d node is within same =

@@ -2,7 +2,7 @@ use Rattle.cascade_world.specs.Insides.{seen as insides_seen}
 use Rattle.cascade_world.specs.Pointer.{untracked}
 use Rattle.cascade_core.specs.Course.{wiring_at}
 use Rattle.cascade_core.proofs.Skipped.{passed-course}
-use Rattle.cascade_core.proofs.pointer.PointsReaction.skips.Goals as goal
+use Rattle.cascade_core.proofs.pointer.PointsVisitsNodes.skips.Goals as goal
 
 pub returns : goal.returns
 returns c routed d node is within same =
