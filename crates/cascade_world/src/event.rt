@@ -1,9 +1,9 @@
-//! An event that comes to a node.
+//! An event at a node.
 
 use scene_core::End;
 use x3d_values::{NodeType, Value};
 
-/// An event that comes to a field of a node of this type.
+/// An event at a field of a node of this type.
 #[derive(Clone, Copy)]
 pub(crate) struct NodeEvent<'a> {
     pub node_type: NodeType,
