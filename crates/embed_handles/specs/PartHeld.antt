@@ -1,4 +1,4 @@
--- What a handle owns: nothing if it is null, else the part behind its pointer with the right to
+-- What a handle owns: nothing if it is null, else the part that its pointer points to with the right to
 -- free its block.
 use Rattle.std.specs.Prelude.{Option, Some, None}
 use base.Fml.{Fml, feq}

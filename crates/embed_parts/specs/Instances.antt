@@ -1,4 +1,4 @@
--- How the line of an instance is told.
+-- What a program sees of the line of an instance.
 use Rattle.std.specs.Prelude.{◌≡◌, ◌⊎◌, ℕ}
 
 -- the line was written, or memory ran out

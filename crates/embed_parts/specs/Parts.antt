@@ -1,4 +1,4 @@
--- The part of a text that is a scene, and what is told of what was left out.
+-- The part of a text that is a scene, and the lines and numbers of what was left out.
 use Rattle.std.specs.Prelude.{◌≡◌, ℕ, List, Result, IfErr, IfOk}
 use Rattle.app_jobs.specs.declared.fault.JobFault.{JobFault}
 use Rattle.app_part.specs.Listing.{told_text}

@@ -18,7 +18,7 @@ pub struct EmbeddedPart {
     pub(crate) notes: Vec<i64>,
 }
 
-/// Returns the text of a part of these bytes with what is told of it.
+/// Returns the text of a part of these bytes, with the lines and numbers of what was left out.
 fn with_notes(alloc: Global, bytes: &[u8], part: ScenePart) -> Result<EmbeddedPart, JobFault>
     ensures told { IfOk result (spec.IsTold bytes.now part) }
     ensures refused { IfErr result (λ fault. fault ≡ Memory) }
@@ -39,7 +39,7 @@ fn with_notes(alloc: Global, bytes: &[u8], part: ScenePart) -> Result<EmbeddedPa
     })
 }
 
-/// Returns the part with its notes in the order of their lines, and what is told of it.
+/// Returns the same, with the notes in the order of their lines.
 fn told_in_order(alloc: Global, bytes: &[u8], part: ScenePart) -> Result<EmbeddedPart, JobFault>
     ensures made { IfOk result (spec.IsToldInOrder bytes.now part) }
     ensures refused { IfErr result (λ fault. fault ≡ Memory) }
