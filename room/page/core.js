@@ -34,6 +34,15 @@ export function valueOf(text) {
   return list || items.length !== 1 ? items : items[0];
 }
 
+/* What a field holds that was set: numbers by its type, in millionths and microseconds, or the text of strings. */
+export function valueBy(type, told) {
+  const kind = type.slice(2);
+  if (kind === "String") return valueOf(told);
+  const part = kind === "Bool" ? Boolean : ["Int32", "Node"].includes(kind) ? Number : (number) => number / 1e6;
+  const items = told.map(part);
+  return type[0] === "S" && items.length === 1 && kind !== "Node" ? items[0] : items;
+}
+
 export function field(node, name, otherwise) {
   const value = node && node.fields[name];
   return value === null || value === undefined ? otherwise : value;
