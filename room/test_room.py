@@ -21,6 +21,7 @@ import browser
 import tests_examples
 import tests_held
 import tests_log
+import tests_parts
 import tests_people
 import tests_room
 import tests_server
@@ -44,6 +45,7 @@ GATE = (
     "the_sliders_of_the_network_are_all_set",
     "a_page_draws_what_fields_hold",
     "a_killed_viewer_comes_back",
+    "a_page_draws_a_part_and_lists_what_was_left_out",
     "hostile_messages_never_stop_it",
 )
 
@@ -80,7 +82,7 @@ def outcome(name, test, begun):
 def main():
     core = tests_of(tests_room)
     tests = {**core, **tests_of(tests_log), **tests_of(tests_held), **tests_of(tests_server), **tests_of(tests_windows)}
-    tests |= {**tests_of(tests_viewers), **tests_of(tests_people), **tests_of(tests_examples)}
+    tests |= {**tests_of(tests_viewers), **tests_of(tests_people), **tests_of(tests_parts), **tests_of(tests_examples)}
     names = [word for word in sys.argv[1:] if word != "--quick"]
     if unknown := [name for name in names if name not in tests]:
         sys.exit(f"room: there is no test {unknown[0]}, of " + " ".join(tests))
