@@ -58,6 +58,8 @@ def read_part_of_file(path, whole=False):
         part = part_in(text, whole)
     except x3d.Refusal as refusal:
         raise refused(Path(path).name, text.decode(), first, str(refusal)) from None
+    except MemoryError:
+        raise Unshown(Path(path).name, 0, "", "it takes more memory than there is") from None
     return part._replace(left=tuple((line + first - 1, what) for line, what in part.left))
 
 

@@ -1,6 +1,7 @@
 """The part of a scene that the core can run, and what was left out of the scene for it."""
 import os
 import re
+import shutil
 import subprocess
 from typing import NamedTuple
 
@@ -25,8 +26,9 @@ def part_of(text):
     if not found:
         return None
     part, notes = found
-    *lines, count = notes.splitlines()
-    return Part(part, tuple((int(number), what) for number, what in (NOTE.fullmatch(line).groups() for line in lines)), count)
+    *lines, count = notes.strip("\n").split("\n")
+    left = [NOTE.fullmatch(line).groups() for line in lines]
+    return Part(part, tuple((int(line), what) for line, what in left), count)
 
 
 def by_library(text):
@@ -35,9 +37,9 @@ def by_library(text):
 
 
 def by_program(text):
-    """By the program that PROGRAM names, or that was built here."""
-    places = [os.environ["PROGRAM"]] if "PROGRAM" in os.environ else [str(TOP / name) for name in PROGRAMS]
-    place = next(filter(os.path.exists, places), None)
+    """By the program that PROGRAM names, or that was built here or installed."""
+    built = (str(TOP / name) for name in PROGRAMS if (TOP / name).exists())
+    place = os.environ.get("PROGRAM") or next(built, shutil.which("x3d_share"))
     if not place:
         return None
     try:
