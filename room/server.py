@@ -30,9 +30,10 @@ from web import Site
 THREE = "/usr/share/javascript/three/three.min.js"
 # How many seats an address may take, and connections beside these.
 EACH, MORE = 16, 64
-FILES = """FILE is a scene in the Classic VRML encoding, or a job, of which the scene counts. Each file is a room, by its
-name without its ending. A file that changes is shown again: a new run begins, or what is wrong is shown over the
-picture. The first link that is printed is for all; the second, with a secret, is for the trainer."""
+FILES = """FILE is a scene in the Classic VRML encoding, of X3D or of VRML 97, or a job, of which the scene counts. What isn't read
+of it is left out, and the page lists that. Each file is a room, by its name without its ending. A file that changes is
+shown again: a new run begins, or what is wrong is shown over the picture. The first link that is printed is for all; the
+second, with a secret, is for the trainer."""
 
 
 def arguments():

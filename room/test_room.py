@@ -23,6 +23,7 @@ import tests_held
 import tests_log
 import tests_parts
 import tests_people
+import tests_phone
 import tests_room
 import tests_server
 import tests_viewers
@@ -82,7 +83,8 @@ def outcome(name, test, begun):
 def main():
     core = tests_of(tests_room)
     tests = {**core, **tests_of(tests_log), **tests_of(tests_held), **tests_of(tests_server), **tests_of(tests_windows)}
-    tests |= {**tests_of(tests_viewers), **tests_of(tests_people), **tests_of(tests_parts), **tests_of(tests_examples)}
+    tests |= {**tests_of(tests_viewers), **tests_of(tests_people), **tests_of(tests_phone)}
+    tests |= {**tests_of(tests_parts), **tests_of(tests_examples)}
     names = [word for word in sys.argv[1:] if word != "--quick"]
     if unknown := [name for name in names if name not in tests]:
         sys.exit(f"room: there is no test {unknown[0]}, of " + " ".join(tests))

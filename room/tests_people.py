@@ -31,6 +31,25 @@ def test_people_have_names_and_pointers():
         assert ben.value("document.getElementById('link').value") == windows.served.address
 
 
+def test_who_comes_beyond_the_seats_watches():
+    with slow_door() as job, Windows(0, job, more=("--each", "1")) as windows:
+        pages = windows.pages = [windows.open(number) for number in (0, 1)]
+        for page in pages:
+            page.wait("window.room && room.drawn.content && room.stage.draws && room.state.people.length === 2", LATER)
+        one, watches = pages
+        assert one.value("room.state.who") == 0 and watches.value("room.state.who") is None
+        assert one.value("document.querySelector('.chip:nth-child(2) small').textContent") == "watches"
+        # What can be pressed isn't shown to it, and a click turns its view at most.
+        assert watches.value("document.getElementById('first').hidden && !document.querySelector('.hint')")
+        watches.click(spot(watches, BUTTON))
+        assert watches.value("room.pointer.answers") == {}
+        one.click(spot(one, BUTTON))
+        watches.wait("room.placeOf('Door')[0] > 1.09", LATER)
+        # Its hand is seen.
+        watches.value("document.getElementById('hand').click()")
+        one.wait("document.querySelectorAll('.chip .hand').length === 1", LATER)
+
+
 def middle(page, what):
     """The middle of an element, as it is seen."""
     box = f"document.querySelector('{what}').getBoundingClientRect()"

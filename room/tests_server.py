@@ -3,7 +3,9 @@ import contextlib
 import json
 import os
 import random
+import re
 import socket
+import subprocess
 import sys
 import time
 
@@ -11,7 +13,7 @@ import browser
 from guard import PATIENCE
 from library import wire
 from world_log import Writer, read_log
-from served import AT_BUTTON, PANEL, TRAINER, Client, Served, scene, scene_file
+from served import AT_BUTTON, HERE, PANEL, TRAINER, Client, Served, scene, scene_file
 
 HOSTILE = int(os.environ.get("HOSTILE", "500" if "--quick" in sys.argv else "10000"))
 POINT = {"down": True, "aim": AT_BUTTON}
@@ -44,6 +46,16 @@ def test_what_isnt_its_own_is_refused():
         # It listens at no other address, though this is the machine's own too.
         with socket.socket() as link:
             assert link.connect_ex(("127.0.0.2", served.port))
+
+
+def test_help_describes_each_option():
+    told = subprocess.run([HERE / "server.py", "--help"], capture_output=True, text=True, check=True).stdout
+    options = re.findall(r"^  (--[a-z]+|-h, --help|FILE)((?:.*\n(?=   ))*.*)", told, re.M)
+    named = "FILE -h --replay --address --port --name --password --trainer --keep --each --proxy --wasm --three".split()
+    assert [word.partition(",")[0] for word, _ in options] == named, told
+    for word, text in options:
+        described = re.sub(r"^ (?:[A-Z]+)?", "", text).strip()
+        assert len(described) >= 8, (word, described)
 
 
 def test_a_page_of_another_origin_has_no_window():
@@ -324,7 +336,9 @@ def test_a_restarted_server_goes_on():
             assert client.status("point", **POINT) == 409
         # The list is a log, which has its scene beside it; so has the one that was downloaded.
         file.with_name("run.x3dlog").write_bytes(stored[1])
-        for words, least in ((file.parent / "kept/door/inputs.x3dlog",), whole), ((file.parent / "run.x3dlog",), 30):
-            with Served(None, more=("--replay", *map(str, words))) as served:
+        file.with_name("run.job").write_bytes(job[1])
+        runs = (file.parent / "kept/door/inputs.x3dlog", whole), (file.with_name("run.x3dlog"), 30), (file.with_name("run.job"), 30)
+        for run, least in runs:
+            with Served(None, more=("--replay", str(run))) as served:
                 client = served.client()
                 assert client.until("log")["log"][0]["text"] == said and client.until("replay")["of"] >= least
