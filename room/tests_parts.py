@@ -23,6 +23,15 @@ Transform {
 }
 ROUTE Nobody.isActive TO Beside.children
 """
+# What turned a Viewpoint is left out, so that nothing is seen from it; and a world of millimeters has none.
+AWAY = """#VRML V2.0 utf8
+Transform { rotation 0 1 0 3.14159 children Viewpoint { position 0 0 8 orientation 0 1 0 3.14159 } }
+Shape { appearance Appearance { material Material { diffuseColor 0 0 0 emissiveColor 1 0 0 } } geometry Box { size 2 2 2 } }
+"""
+LARGE = """#VRML V2.0 utf8
+Anchor { }
+Shape { appearance Appearance { material Material { diffuseColor 0 0 0 emissiveColor 1 0 0 } } geometry Box { size 9000 9000 9000 } }
+"""
 # Lines of the file, and how what is said of them begins.
 LEFT = [
     (2, "EXTERNPROTO Lamp left out"),
@@ -138,7 +147,16 @@ def test_a_page_draws_a_part_and_lists_what_was_left_out():
         other.click(spot(other, [0, 0, 1]))
         one.wait(f"document.getElementById('said').textContent === 'Ben {PRESS}'", LATER)
         windows.shoot("part")
+        # All is shown, if a Viewpoint shows nothing, or where there is none.
+        for run, text in enumerate((AWAY, LARGE, LARGE.replace("9000", "0.02")), 2):
+            file.write_text(text)
+            for page in windows.pages:
+                page.wait(f"room.state.run === {run} && room.drawn.content && room.state.nodes.some(({{ kind }}) => kind === 'Box')", LATER)
+                page.wait("!room.drawn.stale.size && !room.drawn.dirty", LATER)
+                time.sleep(0.5)
+                rows, parts = browser.pixels(page.picture([*spot(page, [0, 0, 0]), 1, 1]))
+                assert rows[0][0] > 150 and max(rows[0][1:3]) < 60, (text, [*rows[0]])
         # What is read whole has no such fold.
         file.write_text("#X3D V3.0 utf8\nShape { geometry Box {} }\n")
         for page in windows.pages:
-            page.wait(f"{fold}.hidden && room.state.run === 2", LATER)
+            page.wait(f"{fold}.hidden && room.state.run === 5", LATER)

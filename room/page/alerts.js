@@ -12,6 +12,7 @@ function showFault(fault) {
 
 /* What was left out of a scene's file that isn't read whole, behind a fold. */
 function showLeft({ count, left }) {
+  state.partly = Boolean(count);
   byId("left").hidden = !left.length;
   write(byId("left-count"), count);
   byId("left-lines").replaceChildren(...left.map(([line, what]) => {
