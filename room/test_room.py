@@ -27,6 +27,7 @@ import tests_phone
 import tests_room
 import tests_server
 import tests_viewers
+import tests_views
 import tests_windows
 from served import Skipped
 
@@ -83,7 +84,7 @@ def outcome(name, test, begun):
 def main():
     core = tests_of(tests_room)
     tests = {**core, **tests_of(tests_log), **tests_of(tests_held), **tests_of(tests_server), **tests_of(tests_windows)}
-    tests |= {**tests_of(tests_viewers), **tests_of(tests_people), **tests_of(tests_phone)}
+    tests |= {**tests_of(tests_viewers), **tests_of(tests_people), **tests_of(tests_phone), **tests_of(tests_views)}
     tests |= {**tests_of(tests_parts), **tests_of(tests_examples)}
     names = [word for word in sys.argv[1:] if word != "--quick"]
     if unknown := [name for name in names if name not in tests]:

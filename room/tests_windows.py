@@ -133,46 +133,6 @@ def test_a_click_opens_the_door_whatever_came_before():
         assert [*answers] == ["200"], answers
 
 
-def test_the_camera_is_each_windows_own():
-    """It turns, moves and zooms by mouse, wheel, keys and two fingers, and nothing is sent."""
-    with Windows(2) as windows:
-        one, other = windows.pages
-        pose = "[...room.camera.position.toArray(), ...room.camera.quaternion.toArray()].map((part) => part.toFixed(4)).join()"
-        there, begun = other.value(pose), one.value(pose)
-        offers = "Object.values(room.pointer.answers).reduce((sum, part) => sum + part, 0)"
-        seen = [begun]
-
-        def changed(what):
-            now = one.value(pose)
-            assert now not in seen, what
-            seen.append(now)
-
-        empty = [120, 700]
-        one.mouse("mouseMoved", empty)
-        one.wait("room.pointer.due === null && !room.pointer.busy && !room.pointer.waits.length")
-        before = one.value(offers)
-        for buttons, what in ((1, "orbit"), (2, "pan")):
-            one.mouse("mousePressed", empty, buttons)
-            one.mouse("mouseMoved", [260, 640], buttons)
-            one.mouse("mouseReleased", [260, 640], buttons)
-            changed(what)
-        one.call("Input.dispatchMouseEvent", type="mouseWheel", x=300, y=400, deltaX=0, deltaY=-120)
-        one.wait(f"{pose} !== '{seen[-1]}'", LATER)
-        changed("zoom")
-        one.value("document.getElementById('view').focus()")
-        for key in ("a", "w", "+"):
-            one.press(key)
-            changed(key)
-        fingers = lambda apart: [{"x": 450 - apart, "y": 850, "id": 0}, {"x": 450 + apart, "y": 850, "id": 1}]
-        for kind, points in (("touchStart", fingers(40)), ("touchMove", fingers(90)), ("touchEnd", [])):
-            one.call("Input.dispatchTouchEvent", type=kind, touchPoints=points)
-        changed("pinch")
-        assert one.value(offers) == before and other.value(pose) == there
-        one.press("Home")
-        assert one.value(pose) == begun
-        assert one.value("[...document.getElementById('views').options].map((each) => each.text).join()") == "in front"
-
-
 # A ring goes out within a second: they are counted as they come.
 COUNT_RINGS = """window.rings = 0;
 new MutationObserver((changes) => changes.forEach((change) => change.addedNodes.forEach((node) => {
