@@ -123,6 +123,11 @@ def test_a_faulty_scene_is_shown_over_the_picture():
             told = page.value("document.getElementById('fault').innerText")
             assert f"scene.x3dv:{line}" in told and 'node type "Teapot" isn\'t read' in told, told
         windows.shoot("fault")
+        narrow = {"width": 390, "height": 844, "deviceScaleFactor": 1, "mobile": False}
+        windows.pages[0].call("Emulation.setDeviceMetricsOverride", **narrow)
+        windows.pages[0].wait("room.stage.size[0] === 390", LATER)
+        box = windows.pages[0].value("(({ left, right }) => [left, right])(document.getElementById('fault').getBoundingClientRect())")
+        assert 0 <= box[0] < box[1] <= 390, box
         file.write_text(scene().replace("0.2 0.45 0.7", "0.9 0.1 0.1"))
         for page in windows.pages:
             page.wait("document.getElementById('fault').hidden && room.state.run === 2", LATER)
