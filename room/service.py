@@ -216,6 +216,7 @@ class Service:
         if window:
             window.outbox.close(ELSEWHERE)
             window.outbox, window.gone, window.told = outbox, None, None
+            window.trainer = window.trainer or same(body.get("trainer"), self.limits.trainer)
             if window.who is not None:
                 self.come_back(window, body)
             return window

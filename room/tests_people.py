@@ -2,7 +2,7 @@
 import time
 
 import browser
-from served import BUTTON, LATER, Windows, scene, scene_file, spot
+from served import BUTTON, LATER, TRAINER, Windows, scene, scene_file, spot
 from tests_windows import slow_door
 
 
@@ -29,6 +29,25 @@ def test_people_have_names_and_pointers():
         ben.value("document.getElementById('share').click()")
         ben.wait("document.getElementById('code').naturalWidth > 0 || document.getElementById('code').hidden", LATER)
         assert ben.value("document.getElementById('link').value") == windows.served.address
+
+
+def test_a_trainers_link_isnt_sent_on():
+    """Its secret leaves the address, and stays with the window. It may be opened where the room is open already."""
+    is_trainer = "document.body.classList.contains('trainer') && room.state.id > 0"
+    with Windows(2) as windows:
+        trainer, one = windows.pages
+        assert trainer.value(f"{is_trainer} && location.hash") == "#name=Ana"
+        trainer.value("document.getElementById('share').click()")
+        assert trainer.value("document.getElementById('link').value") == windows.served.address
+        trainer.value("location.reload()")
+        trainer.wait(f"window.room && {is_trainer}", LATER)
+        seat = one.value("room.state.who")
+        assert not one.value(is_trainer) and one.value("getComputedStyle(document.getElementById('reset')).display") == "none"
+        one.value(f"location.href = '{windows.served.address}#trainer={TRAINER}'")
+        one.wait(f"window.room && {is_trainer} && location.href === '{windows.served.address}'", LATER)
+        assert one.value("room.state.who") == seat
+        one.value("document.getElementById('reset').click()")
+        one.wait("room.state.run === 2", LATER)
 
 
 def test_who_comes_beyond_the_seats_watches():
