@@ -93,6 +93,24 @@ def is_here_alone(address):
         return address == "localhost"
 
 
+def own_address():
+    """An address of this machine by which others reach it: the one that it would send from. Nothing is sent."""
+    try:
+        with socket.socket(socket.AF_INET, socket.SOCK_DGRAM) as link:
+            link.connect(("192.0.2.1", 9))
+            return link.getsockname()[0]
+    except OSError:
+        return socket.gethostname()
+
+
+def place_for_others(given, addresses, port):
+    """Where other machines reach it; nothing where they don't, or where a proxy stands before it."""
+    if given.proxy or all(map(is_here_alone, addresses)):
+        return None
+    whole = not given.name and addresses[0] in ("0.0.0.0", "::")
+    return f"http://{own_address() if whole else reached_at(given, addresses)}:{port}/"
+
+
 def is_no_request(record):
     """Whether a line of the log says that a client sent what is no HTTP: that is no fault of the server."""
     return bool(record.exc_info) and isinstance(record.exc_info[1], HttpProcessingError)
@@ -116,7 +134,8 @@ async def serve(given):
     server = await loop.create_server(guard, addresses, given.port, backlog=256)
     for ends in (signal.SIGINT, signal.SIGTERM):
         loop.add_signal_handler(ends, ended.set)
-    place = f"http://{reached_at(given, addresses)}:{server.sockets[0].getsockname()[1]}/"
+    port = server.sockets[0].getsockname()[1]
+    place, given.place = f"http://{reached_at(given, addresses)}:{port}/", place_for_others(given, addresses, port)
     for name in services:
         print(f"{place}{name}/", flush=True)
         print(f"  trainer: {place}{name}/#trainer={given.trainer}", flush=True)

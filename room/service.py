@@ -294,6 +294,7 @@ class Service:
             "id": window.id, "who": window.who, "token": window.token, "name": window.name, "color": window.color,
             "trainer": window.trainer, "room": self.name, "colors": COLORS, "run": self.runs,
             "orientations": self.orientations, "file": self.file.name,
+            "place": self.limits.place and f"{self.limits.place}{self.name}/",
         })
         self.tell_file(window)
         self.tell(window, "log", {"log": [each._asdict() for each in self.record.log[-SHOWN:]], "whole": True})

@@ -50,6 +50,19 @@ def test_a_trainers_link_isnt_sent_on():
         one.wait("room.state.run === 2", LATER)
 
 
+def test_an_invitation_is_for_other_machines_where_these_reach_the_room():
+    named = ("--address", "0.0.0.0", "--name", "room.example")
+    with Windows(0, more=named, flags=("--host-resolver-rules=MAP room.example 127.0.0.1",)) as windows:
+        address, shown = windows.served.address, "document.getElementById('{}').hidden"
+        for opened in (address, address.replace("room.example", "127.0.0.1")):
+            page = windows.browser.open(opened)
+            page.wait("window.room && room.state.id", LATER)
+            page.value("document.getElementById('share').click()")
+            assert page.value("document.getElementById('link').value") == address and page.value(shown.format("only-here"))
+            page.wait(f"{shown.format('code')} || document.getElementById('code').naturalWidth > 0", LATER)
+            assert page.value("document.getElementById('second').href") == opened
+
+
 def test_who_comes_beyond_the_seats_watches():
     with slow_door() as job, Windows(0, job, more=("--each", "1")) as windows:
         pages = windows.pages = [windows.open(number) for number in (0, 1)]

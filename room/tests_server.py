@@ -169,6 +169,10 @@ def test_it_is_reached_by_the_machines_name_and_by_ipv6():
         assert served.address.startswith(f"http://room.example:{served.port}/")
         assert served.get("/door/", Host="room.example") == served.get("/door/", Host=socket.gethostname()) == 200
         assert served.get("/door/", Host="other.example") == 403
+        # Who is at an address of this machine alone is told the one for others, as a link and as a QR code.
+        assert served.client().seat["place"] == served.address
+        codes = {served.ask("GET", "/door/link.svg", Host=f"{host}:{served.port}") for host in ("room.example", "127.0.0.1", "[::1]")}
+        assert len(codes) == 1, codes
     with Served(more=("--address", "::1")) as served:
         assert served.address == f"http://[::1]:{served.port}/door/", served.address
         with socket.create_connection(("::1", served.port), timeout=20) as link:

@@ -5,11 +5,12 @@ export const within = (value, least, most) => Math.max(least, Math.min(most, val
 export const pause = (time) => new Promise((resolve) => { setTimeout(resolve, time); });
 
 /* `who` is the number of this window's viewer, or null where it only watches; `lanes` are the last lines of the trace, by
-   output; `people` is who is here; `partly` is whether the file isn't read whole. */
+   output; `people` is who is here; `partly` is whether the file isn't read whole; `place` is where other
+   machines reach the room, if they do. */
 export const state = {
   id: null, who: null, token: null, trainer: false, n: 0, status: null, nodes: [], roots: [], labels: new Map(),
   lanes: new Map(), people: [], orientations: [], replay: null, run: 1,
-  partly: false,
+  partly: false, place: null,
 };
 
 export function write(place, text) {
