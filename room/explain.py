@@ -57,7 +57,7 @@ def read_part_of_file(path, whole=False):
     try:
         part = part_in(text, whole)
     except x3d.Refusal as refusal:
-        raise refused(Path(path).name, text.decode(), first, str(refusal)) from None
+        raise refused(Path(path).name, text.decode(), first, refusal) from None
     except MemoryError:
         raise Unshown(Path(path).name, 0, "", "it takes more memory than there is") from None
     return part._replace(left=tuple((line + first - 1, what) for line, what in part.left))
@@ -95,12 +95,13 @@ def read_text(path):
 
 
 def refused(name, text, first, refusal):
-    """A refusal, with its line as the file has it."""
-    found = REFUSED.match(refusal)
+    """A refusal, with its line as the file has it, and that of the instance of a prototype whose value is at fault."""
+    found, instance = REFUSED.match(str(refusal)), getattr(refusal, "instance", None)
     fault, line = found[1], int(found[2] or 0)
     lines = text.split("\n")
     there = lines[line - 1] if 0 < line <= len(lines) else ""
-    return Unshown(name, line + first - 1 if line else 0, there, meaning(fault, there))
+    what = meaning(fault, there) + (f", in the instance on line {instance + first - 1}" if instance else "")
+    return Unshown(name, line + first - 1 if line else 0, there, what)
 
 
 def meaning(fault, line):

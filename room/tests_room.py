@@ -4,7 +4,7 @@ import tempfile
 from pathlib import Path
 
 from channel import Channel
-from explain import Unshown, read_scene_file
+from explain import Unshown, read_scene_file, refused
 from player import Player
 from record import Record, apply
 from library import x3d
@@ -318,3 +318,12 @@ def test_a_faulty_file_is_explained_with_its_line():
                 assert unshown.line == line and what in unshown.what, (content, unshown.line, unshown.what)
                 lines = content.split(b"\n")
                 assert unshown.text == (lines[line - 1].decode(errors="replace") if line else ""), unshown.text
+
+
+def test_a_fault_of_an_instance_has_its_line():
+    """The library says it of a value that comes into a prototype by an IS."""
+    refusal = x3d.Refusal("refused ValueRange line 3")
+    for instance, ends in ((7, ", in the instance on line 17"), (None, ")")):
+        refusal.instance = instance
+        unshown = refused("a.job", "one\ntwo\nthree\n", 11, refusal)
+        assert (unshown.line, unshown.text) == (13, "three") and unshown.what.endswith(ends), unshown.what
