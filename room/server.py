@@ -2,6 +2,7 @@
 """Shows shared worlds in browser windows, each with a viewer of its own."""
 import argparse
 import asyncio
+import errno
 import ipaddress
 import logging
 import re
@@ -166,7 +167,10 @@ def main():
         asyncio.run(serve(given))
     except Unshown as unshown:
         sys.exit(f"room: {unshown}")
-    except (OSError, x3d.Refusal) as refused:
+    except OSError as fault:
+        taken = fault.errno == errno.EADDRINUSE
+        sys.exit(f"room: port {given.port} is taken: --port takes another one" if taken else f"room: {fault}")
+    except x3d.Refusal as refused:
         sys.exit(f"room: {refused}")
 
 

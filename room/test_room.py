@@ -20,6 +20,7 @@ except ImportError:
 import browser
 import tests_examples
 import tests_held
+import tests_hostile
 import tests_log
 import tests_parts
 import tests_people
@@ -83,9 +84,9 @@ def outcome(name, test, begun):
 
 def main():
     core = tests_of(tests_room)
-    tests = {**core, **tests_of(tests_log), **tests_of(tests_held), **tests_of(tests_server), **tests_of(tests_windows)}
-    tests |= {**tests_of(tests_viewers), **tests_of(tests_people), **tests_of(tests_phone), **tests_of(tests_views)}
-    tests |= {**tests_of(tests_parts), **tests_of(tests_examples)}
+    modules = tests_log, tests_held, tests_server, tests_hostile, tests_windows, tests_viewers, tests_people, tests_phone
+    modules += tests_views, tests_parts, tests_examples
+    tests = {name: test for each in (tests_room, *modules) for name, test in tests_of(each).items()}
     names = [word for word in sys.argv[1:] if word != "--quick"]
     if unknown := [name for name in names if name not in tests]:
         sys.exit(f"room: there is no test {unknown[0]}, of " + " ".join(tests))
