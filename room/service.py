@@ -111,7 +111,9 @@ class Service:
         if turn % STATUS == 0:
             self.tell_all("status", {**self.room.status(), "channel": self.channel(), "run": self.runs})
         if turn % LOOK == 0:
-            self.look()
+            self.watched.look()
+        if self.watched.is_read():
+            self.show_file()
         if self.store and (turn % WRITE == 0 or told):
             self.store.append(self.record)
         if self.store and turn % SAVE == SAVE - 1 and self.windows:
@@ -137,10 +139,8 @@ class Service:
         window.told = self.record.world.applied()
         return news
 
-    def look(self):
-        """Shows the scene's file once more where it is another one, or what is wrong with it."""
-        if not self.watched.look():
-            return
+    def show_file(self):
+        """Shows the scene's file once more where its scene is another one, or what is wrong with it."""
         text, fault = self.watched.part.text, self.watched.fault
         if fault:
             print(f"room {self.name}: {fault}", file=sys.stderr, flush=True)

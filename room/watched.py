@@ -23,13 +23,15 @@ class Watched:
 
     def look(self):
         """Looks whether the file is another one, which no one is just writing: it was the same at the last look. Then it is
-        read, beside all else; whether that is done now. What was read whole before isn't read by its part: what changed
-        is at fault."""
+        read, beside all else. What was read whole before isn't read by its part: what changed is at fault."""
         before, self.looked = self.looked, self.stamp()
         if self.looked != self.seen and self.looked == before and not self.reading:
             self.seen = self.looked
             words = read_part_of_file, self.file, not self.part.count
             self.reading = asyncio.get_running_loop().run_in_executor(None, *words)
+
+    def is_read(self):
+        """Whether what is being read is there now: a part, or a fault."""
         if not (self.reading and self.reading.done()):
             return False
         reading, self.reading = self.reading, None
