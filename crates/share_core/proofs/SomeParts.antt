@@ -1,10 +1,9 @@
 -- What a host holds stays the part of some host.
 use Rattle.std.proofs.Common.{◌≡◌, ℕ, ◌+◌, ◌≤◌, ℤ, pos, ◌+ℤ◌, inl, List, [], refl, sym, ◌∙◌, subst}
-use Rattle.std.specs.Prelude.{slice_get, nat_lt, if◌then◌else◌, Option, None, Some, Result, Ok, Err}
+use Rattle.std.specs.Prelude.{slice_get, nat_lt, if◌then◌else◌, None, Some, Result, Ok, Err}
 use Rattle.std.proofs.lemmas.Bool.{le-ltb, cond-false}
 use Rattle.x3d_values.specs.declared.stamped.Cause.TheVariants.{Clock, Pointer}
 use Rattle.share_wire.specs.Messages.{OfferView}
-use Rattle.share_wire.specs.declared.message.Body.{Body}
 use Rattle.share_wire.specs.declared.message.Body.TheVariants.{Offer}
 use Rattle.share_wire.specs.declared.message.Message.{Message}
 use Rattle.share_law.specs.declared.fault.FloorFault.{FloorFault}

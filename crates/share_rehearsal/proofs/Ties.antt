@@ -1,6 +1,6 @@
 -- Each call of a rehearsal is its step of the network, by what `calls` of `steps_law` says.
-use Rattle.std.proofs.Common.{◌≡◌, ℕ, zero, suc, ◌^◌, ◌<◌, inl, inr, List, [], ◌∷◌, ◌++◌, length, map, refl, ap, sym, ◌∙◌, subst}
-use Rattle.std.specs.Prelude.{slice_get, slice_set, Option, Some, None, Result, Ok, Err}
+use Rattle.std.proofs.Common.{◌≡◌, ℕ, ◌^◌, ◌<◌, inl, inr, List, [], ◌∷◌, ◌++◌, length, map, refl, ap, sym, ◌∙◌, subst}
+use Rattle.std.specs.Prelude.{slice_get, Option, Some, None, Result, Ok, Err}
 use Rattle.std.specs.Option.{option_map}
 use Rattle.std.proofs.lemmas.Option.{same_Some, none-some, slice_get-map}
 use Rattle.std.proofs.lemmas.List.{map-append, length-map}
@@ -24,7 +24,7 @@ use Rattle.share_law.specs.declared.step.Step.TheVariants.{HostClock, HostPacket
 use Rattle.share_law.specs.Calls.{IsPartClocked, IsPartTakeOf}
 use Rattle.share_law.specs.CallSteps.{CallsAreSteps, IsPacket, LeavesPart, LeavesSeat, Sends, packet_of}
 use Rattle.share_law.specs.Cascade.{cascade}
-use Rattle.share_law.specs.Host.{HostState, ack_of}
+use Rattle.share_law.specs.Host.{ack_of}
 use Rattle.share_law.specs.Parts.{HostPart, part_of, part_drop_below, part_floor_packet, part_packet}
 use Rattle.share_law.specs.Pieces.{Gathering, shot_piece}
 use Rattle.share_law.specs.Machine.{Machine}
@@ -45,26 +45,13 @@ use Rattle.share_rehearsal.specs.declared.answer.Answer.TheVariants.{Clocked, Ho
 use Rattle.share_rehearsal.specs.declared.nodes.Shot.{Shot}
 use Rattle.share_rehearsal.specs.Calls.{Seen, with_host, with_viewer, with_packets, with_shots, message, IsUnknown, IsMade, IsAcked, IsHostGiven, IsGiven, IsSaving, IsSaved, IsRewinding, IsCut, IsGathering, IsJoining, IsForgotten, IsOffering, IsCall, AreCalls}
 use Rattle.share_rehearsal.specs.Stands.{law_answer, viewer_at, shot_at, StandFor}
+use Rattle.share_rehearsal.proofs.Places.{set-both}
 
 -- each snapshot of the run can be loaded, whatever happened before
 abbrev pub ShotsLoad : (mark : List ℕ) → SceneView → List Route → Type 0
 ShotsLoad mark scene routes =
     (net : Network Scripted) → Reached (cascade mark scene routes) net
     → (s : ℕ) (taken : LawShot Scripted) → slice_get net.shots s ≡ Some taken → HasSnapshot scene taken.state
-
--- ---- lists by their places
-
--- where an element is put in the place of another, in both of two lists that agree place by place
-set-both : {X Y : Type 0} (f : ℕ → X → Y) (xs : List X) (ys : List Y) (v : ℕ) (x : X) (u : ℕ)
-    → ((k : ℕ) → slice_get ys k ≡ option_map (f k) (slice_get xs k))
-    → slice_get (slice_set ys v (f v x)) u ≡ option_map (f u) (slice_get (slice_set xs v x) u)
-set-both f [] [] v x u h = refl
-set-both f [] (y ∷ ys) v x u h = absurd (none-some y (sym (h 0)))
-set-both f (z ∷ xs) [] v x u h = absurd (none-some (f 0 z) (h 0))
-set-both f (z ∷ xs) (y ∷ ys) zero x zero h = refl
-set-both f (z ∷ xs) (y ∷ ys) zero x (suc u) h = h (suc u)
-set-both f (z ∷ xs) (y ∷ ys) (suc v) x zero h = h 0
-set-both f (z ∷ xs) (y ∷ ys) (suc v) x (suc u) h = set-both (λ k. f (suc k)) xs ys v x u (λ k. h (suc k))
 
 -- ---- a step, with what stands after it
 

@@ -32,8 +32,8 @@ returns-in-Ok-clause-step c =
     (take-numbered e kept c.args.offer c.in-Some.kept c.pointer-2.result c.who-who.result c.boot.result c.number.result c.in-Ok.number c.add_next.new.self c.set_kept.new.kept.items
     c.pointer-2.ensures who c.boot.ensures.value c.number.ensures.value at reply c.in-Ok.ensures c.set_kept.ensures)
 
-pub invariant_of-self-in-Ok : goal.invariant_of-self-in-Ok
-invariant_of-self-in-Ok c =
+pub invariant_of-self : goal.invariant_of-self
+invariant_of-self c =
     let e = c.self.inside.inputs in
     let kept = c.self.inside.kept.items in
     let who = c.who-who.ensures.value ∙ ap (λ p. p.who) c.pointer.ensures in
