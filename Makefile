@@ -56,11 +56,13 @@ missing_of_room = [ -e $(THREE) ] && missing= || missing="no $(THREE) (Debian's 
   /usr/bin/python3 -c "import aiohttp" 2> /dev/null || missing="no aiohttp (Debian's package python3-aiohttp)"
 
 # Shows a shared world in browser windows: prints the links. It is kept in out/rooms, and goes on there at the next start.
+# With ADDRESS=0.0.0.0 other machines reach it too, with PORT=8041 it is at that port.
 room:
 	@$(missing_of_room); [ -z "$$missing" ] || { echo "room: $$missing" >&2; exit 1; }
 	@$(MAKE) --no-print-directory room-library
 	@$(found_so); $(found_wasm); [ -n "$$wasm" ] || echo "room: viewers run in the server (make wasm: in windows)" >&2; \
-	X3D_SO=$$(realpath "$$so") X3D_WASM="$$wasm" room/server.py --three $(THREE) --keep out/rooms $(ROOM)
+	X3D_SO=$$(realpath "$$so") X3D_WASM="$$wasm" room/server.py --three $(THREE) --keep out/rooms \
+	  $(if $(ADDRESS),--address $(ADDRESS)) $(if $(PORT),--port $(PORT)) $(ROOM)
 
 # Tests that, in a real browser where chromium is installed. No part of `make test`.
 test-room: room-library
