@@ -3,3 +3,5 @@ mod Running
 mod Heads
 mod Recalls
 mod Lasting
+mod Unbroken
+mod Again

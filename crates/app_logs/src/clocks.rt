@@ -1,11 +1,25 @@
-//! Which clocks of a job are left after the entries of a log.
+//! Which clocks of a job are left after the entries of a log, and the clocks that a host makes once
+//! these are over.
 
 ghost use Rattle.std.specs.Prelude.{◌≡◌, ◌++◌, ◌∷◌, [], IfOk, OnOk, int_lt, if◌then◌else◌};
-ghost use Rattle.app_logs.specs.Clocks.{last_of, times_after};
+ghost use Rattle.app_logs.specs.Clocks.{clock_for, due_after, first_due, in_range, last_of};
+ghost use Rattle.app_logs.specs.Clocks.{later_of, pace_clock, pace_time, times_after};
 
 use share_entries::Entry;
 use std::alloc::{AllocError, Global};
-use x3d_values::Stamped;
+use x3d_values::{MAX_TIME, Stamped};
+
+/// The clocks that a host makes once those of its job are over.
+#[derive(Clone, Copy, Debug, PartialEq, Eq)]
+pub struct Pace {
+    /// How many milliseconds pass from one of them to the next. Without a number it makes none.
+    pub every: Option<u32>,
+    /// The time of the last input as the host begins, in microseconds.
+    pub base: i64,
+}
+
+/// After this many milliseconds, some 31,000 years, a host makes no clock.
+const MAX_MILLIS: u64 = 1_000_000_000_000_000;
 
 /// Returns the time of the last entry in microseconds, or 0.
 pub(crate) fn last_of(entries: &[Entry]) -> i64
@@ -39,4 +53,83 @@ pub fn times_after(alloc: Global, last: i64, inputs: &[Stamped]) -> Result<Vec<i
         push_later(last, input, &mut times)?;
     }
     Ok(times)
+}
+
+// ---- the clocks of a pace
+
+fn in_range(time: i64) -> bool
+    ensures { result ≡ in_range time }
+{
+    0 <= time && time <= MAX_TIME
+}
+
+/// Returns the later of a time and of 1 microsecond after the last input.
+fn later_of(time: i64, last: i64) -> i64
+    requires { in_range last ≡ true }
+    ensures { result ≡ later_of time last }
+{
+    if last < time { time } else { last + 1 }
+}
+
+/// Returns the time of a clock after this many milliseconds, if there is one.
+fn pace_time(base: i64, last: i64, millis: u64) -> Option<i64>
+    ensures { result ≡ pace_time base last millis }
+{
+    if millis > MAX_MILLIS {
+        return None;
+    }
+    if !in_range(base) || !in_range(last) {
+        return None;
+    }
+    Some(later_of(base + 1000 * millis as i64, last))
+}
+
+/// Returns the clock of a pace after this many milliseconds, if one is due.
+fn pace_clock(pace: &Pace, last: i64, due: u64, millis: u64) -> Option<i64>
+    ensures { result ≡ pace_clock pace.now.every pace.now.base last due millis }
+{
+    match pace.every {
+        Some(_) if due <= millis => pace_time(pace.base, last, millis),
+        _ => None,
+    }
+}
+
+/// Returns the clock of a turn: the one of the job, or if there is none, that of the pace.
+pub(crate) fn clock_for(
+    job: Option<i64>,
+    pace: &Pace,
+    last: i64,
+    due: u64,
+    millis: u64,
+) -> Option<i64>
+    ensures { result
+        ≡ clock_for job (pace_clock pace.now.every pace.now.base last due millis) }
+{
+    match job {
+        Some(time) => Some(time),
+        None => pace_clock(pace, last, due, millis),
+    }
+}
+
+/// Returns when the first clock of a pace is due.
+pub(crate) fn first_due(every: Option<u32>) -> u64
+    ensures { result ≡ first_due every }
+{
+    match every {
+        Some(millis) => u64::from(millis),
+        None => 0,
+    }
+}
+
+/// Returns when the next clock of a pace is due, after a turn with this clock of the job.
+pub(crate) fn due_after(job: Option<i64>, every: Option<u32>, due: u64, millis: u64) -> u64
+    ensures { result ≡ due_after job every due millis }
+{
+    if job.is_some() || millis < due {
+        return due;
+    }
+    match every {
+        Some(more) => millis.saturating_add(u64::from(more)),
+        None => due,
+    }
 }

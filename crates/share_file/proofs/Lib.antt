@@ -5,3 +5,4 @@ mod Keeping
 mod Tails
 mod Ending
 mod Restarting
+mod Making

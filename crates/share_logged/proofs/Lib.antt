@@ -6,3 +6,4 @@ pub mod Resuming
 pub mod Sent
 pub mod Turning
 pub mod Places
+pub mod Dropping
