@@ -255,7 +255,7 @@ steps v xs (e ∷ es) new m points from =
     let rest = steps v (xs ++ e ∷ []) es new (subst (λ (k : HostState). AreMade k es new) next m.2) both.1 (subst (λ (t : ℤ). pos 0 ≤ℤ t) (sym last) here.1) in (
       here.0,
       subst (λ (t : ℤ). AreSteps (length xs + 1) t (map bare es) (inputs_of (logged_from (length xs + 1 + 1) es))) last
-      (subst (λ (n : ℕ). AreSteps n (last_time (inputs_of (logged (xs ++ e ∷ [])))) (map bare es) (inputs_of (logged_from (n + 1) es))) many rest),
+          (subst (λ (n : ℕ). AreSteps n (last_time (inputs_of (logged (xs ++ e ∷ [])))) (map bare es) (inputs_of (logged_from (n + 1) es))) many rest),
     )
 
 -- ---- the lines of a text

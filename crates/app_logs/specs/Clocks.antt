@@ -19,7 +19,7 @@ times inputs = map (λ input. input.time) inputs
 abbrev pub times_after : (last : ℤ) → List StampedView → List ℤ
 times_after last inputs = filter (int_lt last) (times inputs)
 
--- ---- the clocks of a pace: one every so many milliseconds
+-- ---- the clocks of a beat, one at each interval
 
 -- the time of an input, or 0 before the first
 abbrev pub in_range : ℤ → Bool
@@ -32,29 +32,29 @@ later_of time last = if int_lt last time then time else last +ℤ pos 1
 -- The time of a clock of a host that began after an input at time `base`, and whose port has rested
 -- for this many milliseconds since: the two together, but later than the last input. There is none
 -- after some 31,000 years.
-abbrev pub pace_time : (base last : ℤ) → (millis : ℕ) → Option ℤ
-pace_time base last millis =
+abbrev pub beat_time : (base last : ℤ) → (millis : ℕ) → Option ℤ
+beat_time base last millis =
     if nat_le millis (10 ^ 15) && (in_range base && in_range last)
     then Some (later_of (base +ℤ pos (1000 * millis)) last)
     else None
 
 -- the clock, if one is due
-abbrev pub pace_clock : (every : Option ℕ) → (base last : ℤ) → (due millis : ℕ) → Option ℤ
-pace_clock None base last due millis = None
-pace_clock (Some every) base last due millis =
-    if nat_le due millis then pace_time base last millis else None
+abbrev pub beat_clock : (every : Option ℕ) → (base last : ℤ) → (due millis : ℕ) → Option ℤ
+beat_clock None base last due millis = None
+beat_clock (Some every) base last due millis =
+    if nat_le due millis then beat_time base last millis else None
 
--- the clock of a turn: the one of the job, or if there is none, that of the pace
-abbrev pub clock_for : (job paced : Option ℤ) → Option ℤ
-clock_for (Some time) paced = Some time
-clock_for None paced = paced
+-- the clock of a turn: the one of the job, or if there is none, that of the beat
+abbrev pub clock_for : (job own : Option ℤ) → Option ℤ
+clock_for (Some time) own = Some time
+clock_for None own = own
 
 -- the first is due after one interval
 abbrev pub first_due : (every : Option ℕ) → ℕ
 first_due None = 0
 first_due (Some every) = every
 
--- after a turn with this clock of the job: one interval after a clock of the pace was due
+-- after a turn with this clock of the job: one interval after a clock of the beat was due
 abbrev pub due_after : (job : Option ℤ) → (every : Option ℕ) → (due millis : ℕ) → ℕ
 due_after (Some time) every due millis = due
 due_after None None due millis = due

@@ -11,13 +11,13 @@ use Rattle.share_logged.specs.Making.{IsOfLog}
 use Rattle.share_logged.specs.Resting.{IsRestedTurn}
 use Rattle.share_logged.specs.Shown.{Shows}
 use Rattle.share_logged.specs.Turn.{IsLoggedEnd, failures_after}
-use Rattle.app_logs.specs.Clocks.{clock_for, due_after, pace_clock}
+use Rattle.app_logs.specs.Clocks.{clock_for, due_after, beat_clock}
 use Rattle.app_logs.specs.declared.fault.RunFault.{RunFault}
 use Rattle.app_logs.specs.declared.fault.RunFault.TheVariants as run
 use Rattle.app_logs.specs.declared.hosting.LogPlan.{LogPlan}
 
 -- A host, its log and its port at a moment: the host's part and which viewers it counts, when the
--- next clock of its pace is due, the entries that the log has stored, whether no read of the log's
+-- next clock of its beat is due, the entries that the log has stored, whether no read of the log's
 -- device has lied, and what passed the port.
 pub record Moment : Type 0 where
   pub host : Hosting
@@ -56,16 +56,16 @@ pub record IsLastTurn (mark : List ℕ) (clock : Option ℤ) (fault : LoggedFaul
 
 -- ---- turns
 
--- The clock of turn n, counted from 0: the one at place n of the job's, or one of the pace. Its
+-- The clock of turn n, counted from 0: the one at place n of the job's, or one of the beat. Its
 -- reading is the time that the rests of the port took since the host began.
 abbrev pub clock_at : List ℤ → LogPlan → (n : ℕ) → Moment → Option ℤ
 clock_at clocks plan n m =
-    clock_for (slice_get clocks n) (pace_clock plan.pace.every plan.pace.base m.host.part.last m.due
+    clock_for (slice_get clocks n) (beat_clock plan.beat.every plan.beat.base m.host.part.last m.due
     m.host.attendance.time)
 
 abbrev pub due_at : List ℤ → LogPlan → (n : ℕ) → Moment → ℕ
 due_at clocks plan n m =
-    due_after (slice_get clocks n) plan.pace.every m.due m.host.attendance.time
+    due_after (slice_get clocks n) plan.beat.every m.due m.host.attendance.time
 
 abbrev pub IsTurn : (mark : List ℕ) → List ℤ → LogPlan → (n : ℕ) → (a b : Moment) → Type 0
 IsTurn mark clocks plan n a b =

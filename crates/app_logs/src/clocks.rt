@@ -3,7 +3,7 @@
 
 ghost use Rattle.std.specs.Prelude.{◌≡◌, ◌++◌, ◌∷◌, [], IfOk, OnOk, int_lt, if◌then◌else◌};
 ghost use Rattle.app_logs.specs.Clocks.{clock_for, due_after, first_due, in_range, last_of};
-ghost use Rattle.app_logs.specs.Clocks.{later_of, pace_clock, pace_time, times_after};
+ghost use Rattle.app_logs.specs.Clocks.{later_of, beat_clock, beat_time, times_after};
 
 use share_entries::Entry;
 use std::alloc::{AllocError, Global};
@@ -11,7 +11,7 @@ use x3d_values::{MAX_TIME, Stamped};
 
 /// The clocks that a host makes once those of its job are over.
 #[derive(Clone, Copy, Debug, PartialEq, Eq)]
-pub struct Pace {
+pub struct Beat {
     /// How many milliseconds pass from one of them to the next. Without a number it makes none.
     pub every: Option<u32>,
     /// The time of the last input as the host begins, in microseconds.
@@ -55,7 +55,7 @@ pub fn times_after(alloc: Global, last: i64, inputs: &[Stamped]) -> Result<Vec<i
     Ok(times)
 }
 
-// ---- the clocks of a pace
+// ---- the clocks of a beat
 
 fn in_range(time: i64) -> bool
     ensures { result ≡ in_range time }
@@ -72,8 +72,8 @@ fn later_of(time: i64, last: i64) -> i64
 }
 
 /// Returns the time of a clock after this many milliseconds, if there is one.
-fn pace_time(base: i64, last: i64, millis: u64) -> Option<i64>
-    ensures { result ≡ pace_time base last millis }
+fn beat_time(base: i64, last: i64, millis: u64) -> Option<i64>
+    ensures { result ≡ beat_time base last millis }
 {
     if millis > MAX_MILLIS {
         return None;
@@ -84,34 +84,34 @@ fn pace_time(base: i64, last: i64, millis: u64) -> Option<i64>
     Some(later_of(base + 1000 * millis as i64, last))
 }
 
-/// Returns the clock of a pace after this many milliseconds, if one is due.
-fn pace_clock(pace: &Pace, last: i64, due: u64, millis: u64) -> Option<i64>
-    ensures { result ≡ pace_clock pace.now.every pace.now.base last due millis }
+/// Returns the clock of a beat after this many milliseconds, if one is due.
+fn beat_clock(beat: &Beat, last: i64, due: u64, millis: u64) -> Option<i64>
+    ensures { result ≡ beat_clock beat.now.every beat.now.base last due millis }
 {
-    match pace.every {
-        Some(_) if due <= millis => pace_time(pace.base, last, millis),
+    match beat.every {
+        Some(_) if due <= millis => beat_time(beat.base, last, millis),
         _ => None,
     }
 }
 
-/// Returns the clock of a turn: the one of the job, or if there is none, that of the pace.
+/// Returns the clock of a turn: the one of the job, or if there is none, that of the beat.
 pub(crate) fn clock_for(
     job: Option<i64>,
-    pace: &Pace,
+    beat: &Beat,
     last: i64,
     due: u64,
     millis: u64,
 ) -> Option<i64>
     ensures { result
-        ≡ clock_for job (pace_clock pace.now.every pace.now.base last due millis) }
+        ≡ clock_for job (beat_clock beat.now.every beat.now.base last due millis) }
 {
     match job {
         Some(time) => Some(time),
-        None => pace_clock(pace, last, due, millis),
+        None => beat_clock(beat, last, due, millis),
     }
 }
 
-/// Returns when the first clock of a pace is due.
+/// Returns when the first clock of a beat is due.
 pub(crate) fn first_due(every: Option<u32>) -> u64
     ensures { result ≡ first_due every }
 {
@@ -121,7 +121,7 @@ pub(crate) fn first_due(every: Option<u32>) -> u64
     }
 }
 
-/// Returns when the next clock of a pace is due, after a turn with this clock of the job.
+/// Returns when the next clock of a beat is due, after a turn with this clock of the job.
 pub(crate) fn due_after(job: Option<i64>, every: Option<u32>, due: u64, millis: u64) -> u64
     ensures { result ≡ due_after job every due millis }
 {

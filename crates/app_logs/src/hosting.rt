@@ -5,12 +5,12 @@ ghost use Rattle.share_store.specs.OneLog.{Last};
 ghost use Rattle.share_logged.specs.Turn.{failures_after};
 ghost use Rattle.share_turns.specs.Runs.{hosting as hosted, is_over};
 ghost use Rattle.share_turns.specs.Told.{passed};
-ghost use Rattle.app_logs.specs.Clocks.{clock_for, due_after, first_due, pace_clock};
+ghost use Rattle.app_logs.specs.Clocks.{clock_for, due_after, first_due, beat_clock};
 ghost use Rattle.app_logs.specs.Hosting.{IsLastTurn, IsLogRun, IsLogRunEnd, IsTaken, failures_in};
 ghost use Rattle.app_logs.specs.Hosting.{moment};
 ghost use Rattle.app_logs.specs.declared.fault.RunFault.TheVariants.{TurnsUsedUp};
 
-use crate::clocks::{Pace, clock_for, due_after, first_due};
+use crate::clocks::{Beat, clock_for, due_after, first_due};
 use crate::fault::RunFault;
 use share_logged::{LoggedFault, LoggedHost, logged_turn};
 use share_store::Log;
@@ -22,7 +22,7 @@ pub struct LogPlan {
     /// What it keeps of its inputs, and when it is done.
     pub host: HostPlan,
     /// The clocks that it makes.
-    pub pace: Pace,
+    pub beat: Beat,
     /// The limit of turns. With 2^64 - 1 it is never reached.
     pub turns: u64,
 }
@@ -35,14 +35,14 @@ fn item_at<T: Copy>(items: &[T], place: u64) -> Option<T>
 }
 
 /// Returns the clock of a turn of the host, given that of the job.
-fn next_clock(hosting: &LoggedHost, job: Option<i64>, pace: &Pace, due: u64) -> Option<i64>
-    ensures { result ≡ clock_for job (pace_clock pace.now.every pace.now.base hosting.now.part.last
+fn next_clock(hosting: &LoggedHost, job: Option<i64>, beat: &Beat, due: u64) -> Option<i64>
+    ensures { result ≡ clock_for job (beat_clock beat.now.every beat.now.base hosting.now.part.last
         due hosting.now.attendance.time) }
 {
-    clock_for(job, pace, hosting.last(), due, hosting.rested())
+    clock_for(job, beat, hosting.last(), due, hosting.rested())
 }
 
-/// Returns when the next clock of the pace is due, after a turn of the host with this clock of the
+/// Returns when the next clock of the beat is due, after a turn of the host with this clock of the
 /// job.
 fn next_due(hosting: &LoggedHost, job: Option<i64>, every: Option<u32>, due: u64) -> u64
     ensures { result ≡ due_after job every due hosting.now.attendance.time }
@@ -93,7 +93,7 @@ fn used_up(until: Option<u32>) -> Result<(), RunFault>
 
 /// Runs turns of a host over a log, until it is done as `plan` says; all of them, if `plan` names
 /// no number of inputs. Each turn numbers the next of the clocks, at times in microseconds, until
-/// there are no more, and then those of the pace. What a turn numbers is stored before anything is
+/// there are no more, and then those of the beat. What a turn numbers is stored before anything is
 /// sent; then the host drops the inputs that `plan` doesn't keep.
 ///
 /// Fails with `TurnsUsedUp` if the host isn't done after the last turn. A turn that ends early ends
@@ -107,11 +107,11 @@ pub fn log_run<L: Log, P: Port>(
 ) -> Result<(), RunFault>
     requires open { IsTrue (L.is_open log.old) }
     ensures done { OnOk result (IsLogRun hosting.mark clocks.now plan.now
-        (moment (hosted hosting.part hosting.attendance) (first_due plan.now.pace.every)
+        (moment (hosted hosting.part hosting.attendance) (first_due plan.now.beat.every)
         (L.known log.old) (L.is_clean log.old) (passed (P.told port.old) (P.rested port.old)))
         (L.known log.new) (L.is_clean log.new) (passed (P.told port.new) (P.rested port.new))) }
     ensures ended { IfErr result (λ fault. IsLogRunEnd hosting.mark clocks.now plan.now
-        (moment (hosted hosting.part hosting.attendance) (first_due plan.now.pace.every)
+        (moment (hosted hosting.part hosting.attendance) (first_due plan.now.beat.every)
         (L.known log.old) (L.is_clean log.old) (passed (P.told port.old) (P.rested port.old)))
         fault (L.known log.new) (L.is_clean log.new)
         (passed (P.told port.new) (P.rested port.new))) }
@@ -121,15 +121,15 @@ pub fn log_run<L: Log, P: Port>(
     ensures failures { P.failure_count port.new ≡ failures_in result (P.failure_count port.old) }
 {
     let mut current = hosting;
-    let mut due = first_due(plan.pace.every);
+    let mut due = first_due(plan.beat.every);
     for turn in 0..plan.turns {
         if current.is_over(&plan.host) {
             drop(current);
             return Ok(());
         }
         let job = item_at(clocks, turn);
-        let clock = next_clock(&current, job, &plan.pace, due);
-        due = next_due(&current, job, plan.pace.every, due);
+        let clock = next_clock(&current, job, &plan.beat, due);
+        due = next_due(&current, job, plan.beat.every, due);
         current = taken_turn(current, clock, plan.host.keep, log, port)?;
     }
     let over = current.is_over(&plan.host);

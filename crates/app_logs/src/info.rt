@@ -70,13 +70,7 @@ fn is_clock(entry: &Entry) -> bool
 fn clock_count(entries: &[Entry]) -> usize
     ensures { result ≡ clock_count entries.now }
 {
-    let mut count: usize = 0;
-    for entry in entries {
-        if is_clock(entry) {
-            count += 1;
-        }
-    }
-    count
+    entries.iter().filter(|entry| is_clock(entry)).count()
 }
 
 fn is_offer_of(who: u8, entry: &Entry) -> bool
@@ -92,13 +86,10 @@ fn is_offer_of(who: u8, entry: &Entry) -> bool
 fn offer_count(who: u8, entries: &[Entry]) -> usize
     ensures { result ≡ offer_count who entries.now }
 {
-    let mut count: usize = 0;
-    for entry in entries {
-        if is_offer_of(who, entry) {
-            count += 1;
-        }
-    }
-    count
+    entries
+        .iter()
+        .filter(|entry| is_offer_of(who, entry))
+        .count()
 }
 
 /// Appends the line of a viewer.

@@ -5,4 +5,4 @@ mod Keeping
 mod Tails
 mod Ending
 mod Restarting
-mod Making
+mod Beginnings

@@ -8,7 +8,7 @@ use crate::files::{LogDisk, disk_at, drawn_run};
 use crate::peers::host_plan;
 use app_commands::{PatientPort, Peer, SharedJob, TellingPort, Watch, bound, shared_job};
 use app_logs::{
-    AppendFault, Begun, Expected, Head, Log, LogFault, LogPlan, LoggedFault, Pace,
+    AppendFault, Begun, Expected, Head, Log, LogFault, LogPlan, LoggedFault, Beat,
     RunFault as LogRunFault, append_fault_of, go_on, is_viewer_count, log_run, make_log, recalled,
     recalled_info, times_after,
 };
@@ -93,7 +93,7 @@ fn log_plan(asked: &HostOrder, last: i64) -> LogPlan {
     };
     LogPlan {
         host: host_plan(asked),
-        pace: Pace {
+        beat: Beat {
             every: asked.every,
             base: last,
         },

@@ -14,7 +14,7 @@ loop-turn-preserved g c =
     let turn = rw (so_far.1, c.next_clock-clock.ensures, c.item_at-job.ensures) at here.done in
     let due = rw (c.item_at-job.ensures) at c.next_due.ensures in (
       turned_more c.args.hosting.mark c.args.clocks.now c.args.plan.now c.loop-turn.turn
-          (moment (hosting c.args.hosting.part c.args.hosting.attendance) (first_due c.args.plan.now.pace.every) (g.L.Log.known c.args.log.now) (g.L.Log.is_clean c.args.log.now)
+          (moment (hosting c.args.hosting.part c.args.hosting.attendance) (first_due c.args.plan.now.beat.every) (g.L.Log.known c.args.log.now) (g.L.Log.is_clean c.args.log.now)
           (passed (g.P.Port.told c.args.port.now) (g.P.Port.rested c.args.port.now)))
           (moment (hosting c.loop-turn.current.part c.loop-turn.current.attendance) c.loop-turn.due (g.L.Log.known c.loop-turn.log) (g.L.Log.is_clean c.loop-turn.log)
           (passed (g.P.Port.told c.loop-turn.port) (g.P.Port.rested c.loop-turn.port)))
@@ -35,7 +35,7 @@ pub returns-clause-ended : goal.returns-clause-ended
 returns-clause-ended g c =
     let all : c.loop-turn.turn ≡ c.args.plan.now.turns = omega (arith, c.loop-turn-test.false) in
     turned_in_vain c.used_up.result c.args.hosting.mark c.args.clocks.now c.args.plan.now c.loop-turn.turn
-    (moment (hosting c.args.hosting.part c.args.hosting.attendance) (first_due c.args.plan.now.pace.every) (g.L.Log.known c.args.log.now) (g.L.Log.is_clean c.args.log.now)
+    (moment (hosting c.args.hosting.part c.args.hosting.attendance) (first_due c.args.plan.now.beat.every) (g.L.Log.known c.args.log.now) (g.L.Log.is_clean c.args.log.now)
     (passed (g.P.Port.told c.args.port.now) (g.P.Port.rested c.args.port.now)))
     (moment (hosting c.loop-turn.current.part c.loop-turn.current.attendance) c.loop-turn.due (g.L.Log.known c.loop-turn.log) (g.L.Log.is_clean c.loop-turn.log)
     (passed (g.P.Port.told c.loop-turn.port) (g.P.Port.rested c.loop-turn.port)))

@@ -9,7 +9,7 @@ use Rattle.app_logs.proofs.hosting.log_run.Given as goal
 abbrev pub invariant-loop-turn : goal.invariant-loop-turn
 invariant-loop-turn g l =
     LogTurns l.fn.hosting.mark l.clocks l.plan l.turn
-    (moment (hosting l.fn.hosting.part l.fn.hosting.attendance) (first_due l.plan.pace.every) (g.L.Log.known l.fn.log) (g.L.Log.is_clean l.fn.log)
+    (moment (hosting l.fn.hosting.part l.fn.hosting.attendance) (first_due l.plan.beat.every) (g.L.Log.known l.fn.log) (g.L.Log.is_clean l.fn.log)
     (passed (g.P.Port.told l.fn.port) (g.P.Port.rested l.fn.port)))
     (moment (hosting l.current.part l.current.attendance) l.due (g.L.Log.known l.log) (g.L.Log.is_clean l.log)
     (passed (g.P.Port.told l.port) (g.P.Port.rested l.port)))
