@@ -26,7 +26,6 @@ use Rattle.share_entries.specs.declared.entry.Source.{Source}
 use Rattle.share_entries.specs.declared.entry.Source.TheVariants.{Clock, Offer}
 use Rattle.share_law.specs.declared.fault.HostFault.{HostFault}
 use Rattle.share_law.specs.declared.fault.NumberFault.{NumberFault}
-use Rattle.share_law.specs.declared.fault.NumberFault.TheVariants.{WorldFull, TimeNotLater, TimeRange}
 use Rattle.share_law.specs.declared.kept.SeatCount.{SeatCount}
 use Rattle.share_law.specs.declared.reply.HostReply.{HostReply}
 use Rattle.share_law.specs.declared.reply.HostReply.TheVariants.{Numbered}
@@ -75,8 +74,6 @@ joined_words : (p w : List ℕ) (g : ℕ) (a b c d e f : List ℕ)
     → p ++ w ++ (32 ∷ g ∷ []) ++ ((32 ∷ a) ++ (32 ∷ b) ++ (32 ∷ c)) ++ ((32 ∷ d) ++ (32 ∷ e) ++ (32 ∷ f))
     ≡ p ++ (w ++ (32 ∷ ((g ∷ []) ++ (32 ∷ (a ++ (32 ∷ (b ++ (32 ∷ (c ++ (32 ∷ (d ++ (32 ∷ (e ++ (32 ∷ f))))))))))))))
 joined_words p w g a b c d e f =
-    let v = (32 ∷ a) ++ (32 ∷ b) ++ (32 ∷ c) in
-    let z = (32 ∷ d) ++ (32 ∷ e) ++ (32 ∷ f) in
     append_assoc (p ++ w ++ (32 ∷ g ∷ [])) ((32 ∷ a) ++ (32 ∷ b) ++ (32 ∷ c)) ((32 ∷ d) ++ (32 ∷ e) ++ (32 ∷ f))
     ∙ append_assoc (p ++ w) (32 ∷ g ∷ []) (((32 ∷ a) ++ (32 ∷ b) ++ (32 ∷ c)) ++ ((32 ∷ d) ++ (32 ∷ e) ++ (32 ∷ f)))
     ∙ append_assoc p w ((32 ∷ g ∷ []) ++ (((32 ∷ a) ++ (32 ∷ b) ++ (32 ∷ c)) ++ ((32 ∷ d) ++ (32 ∷ e) ++ (32 ∷ f))))
@@ -157,17 +154,9 @@ record Numbers (list : List StampedView) (t : ℤ) : Type 0 where
   later : last_time list <ℤ t
   most : t ≤ℤ pos max_time
 
-no_fault : (list : List StampedView) (t : ℤ) (a b c : Bool) → nat_le max_inputs (length list) ≡ a → int_le t (last_time list) ≡ b → int_lt (pos max_time) t ≡ c
-    → (let f : Option NumberFault = if a then Some WorldFull else if b then Some TimeNotLater else if c then Some TimeRange else None in f) ≡ None → Numbers list t
-no_fault list t true b c ea eb ec none = absurd (cc)
-no_fault list t false true c ea eb ec none = absurd (cc)
-no_fault list t false false true ea eb ec none = absurd (cc)
-no_fault list t false false false ea eb ec none = record { few = grind (arith, nat_tests); later = grind (arith, ints); most = grind (arith, ints) }
-
 numbers_none : (list : List StampedView) (t : ℤ) → number_fault list t ≡ None → Numbers list t
 unfolding number_fault
-numbers_none list t none =
-    no_fault list t (nat_le max_inputs (length list)) (int_le t (last_time list)) (int_lt (pos max_time) t) refl refl refl none
+numbers_none list t none = record { few = grind (arith, nat_tests, ints); later = grind (arith, nat_tests, ints); most = grind (arith, nat_tests, ints) }
 
 clock_none : (h new : HostState) (t : ℤ) (n : ℕ) (f : Option NumberFault) → clocked h t f ≡ (Ok n, new) → f ≡ None
 clock_none h new t n (Some fault) e = let a : Err fault ≡ Ok n = ap (λ (r : Result ℕ NumberFault × HostState). r.0) e in absurd (cc)
@@ -201,9 +190,10 @@ input_of number t s = (entry_at number (record { time = t; source = s })).input
 
 time_ok : (before t : ℤ) → pos 0 ≤ℤ before → before <ℤ t → t ≤ℤ pos max_time → (is_input_time t ≡ true) × (pos 0 ≤ℤ t)
 time_ok before t from later most =
-    let range : is_input_time t ≡ true = grind (arith, ints) in
+    let low : int_le (pos 1) t ≡ true = grind (arith, ints) in
+    let high : int_le t (pos (10 ^ 18)) ≡ true = grind (arith, ints) in
     let next : pos 0 ≤ℤ t = grind (arith, ints) in
-    (range, next)
+    (rw low (rw high refl), next)
 
 time_limited : (t : ℤ) → pos 0 ≤ℤ t → t ≤ℤ pos max_time → IsLimited t
 time_limited (pos n) from most = grind (arith, ints)
@@ -262,7 +252,7 @@ steps v xs (e ∷ es) new m points from =
 
 abbrev AreUnbroken : List (List ℕ) → Type 0
 AreUnbroken [] = ⊤
-AreUnbroken (line ∷ lines) = Unbroken line × AreUnbroken lines
+AreUnbroken (l ∷ ls) = Unbroken l × AreUnbroken ls
 
 space : (a b : List ℕ) → Unbroken a → Unbroken b → Unbroken (a ++ (32 ∷ b))
 space a b h k = unbroken_both a (32 ∷ b) h (refl, k)

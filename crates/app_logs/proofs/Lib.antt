@@ -5,3 +5,4 @@ mod Recalls
 mod Lasting
 mod Unbroken
 mod Again
+pub mod Passed

@@ -1,7 +1,8 @@
 //! Which clocks of a job are left after the entries of a log, and the clocks that a host makes once
 //! these are over.
 
-ghost use Rattle.std.specs.Prelude.{◌≡◌, ◌++◌, ◌∷◌, [], IfOk, OnOk, int_lt, if◌then◌else◌};
+ghost use Rattle.std.specs.Prelude.{◌≡◌, ◌≤ℤ◌, ◌++◌, ◌∷◌, [], IfOk, IsTrue, OnOk, int_lt, pos, if◌then◌else◌};
+ghost use Rattle.x3d_values.specs.Ranges.{max_time};
 ghost use Rattle.app_logs.specs.Clocks.{clock_for, due_after, first_due, in_range, last_of};
 ghost use Rattle.app_logs.specs.Clocks.{later_of, beat_clock, beat_time, times_after};
 
@@ -58,33 +59,40 @@ pub fn times_after(alloc: Global, last: i64, inputs: &[Stamped]) -> Result<Vec<i
 // ---- the clocks of a beat
 
 fn in_range(time: i64) -> bool
-    ensures { result ≡ in_range time }
+    ensures value { result ≡ in_range time }
+    ensures low { IsTrue result → pos 0 ≤ℤ time }
+    ensures high { IsTrue result → time ≤ℤ pos max_time }
 {
     0 <= time && time <= MAX_TIME
 }
 
 /// Returns the later of a time and of 1 microsecond after the last input.
 fn later_of(time: i64, last: i64) -> i64
-    requires { in_range last ≡ true }
+    requires { last ≤ℤ pos max_time }
     ensures { result ≡ later_of time last }
 {
     if last < time { time } else { last + 1 }
 }
 
 /// Returns the time of a clock after this many milliseconds, if there is one.
+#[tactic(auto, using(crate::proofs::Passed::passed))]
 fn beat_time(base: i64, last: i64, millis: u64) -> Option<i64>
     ensures { result ≡ beat_time base last millis }
 {
     if millis > MAX_MILLIS {
         return None;
     }
-    if !in_range(base) || !in_range(last) {
+    if !in_range(base) {
+        return None;
+    }
+    if !in_range(last) {
         return None;
     }
     Some(later_of(base + 1000 * millis as i64, last))
 }
 
 /// Returns the clock of a beat after this many milliseconds, if one is due.
+#[tactic(auto, using(crate::proofs::Passed::passed))]
 fn beat_clock(beat: &Beat, last: i64, due: u64, millis: u64) -> Option<i64>
     ensures { result ≡ beat_clock beat.now.every beat.now.base last due millis }
 {
@@ -95,6 +103,7 @@ fn beat_clock(beat: &Beat, last: i64, due: u64, millis: u64) -> Option<i64>
 }
 
 /// Returns the clock of a turn: the one of the job, or if there is none, that of the beat.
+#[tactic(auto, using(crate::proofs::Passed::passed))]
 pub(crate) fn clock_for(
     job: Option<i64>,
     beat: &Beat,

@@ -35,6 +35,7 @@ fn item_at<T: Copy>(items: &[T], place: u64) -> Option<T>
 }
 
 /// Returns the clock of a turn of the host, given that of the job.
+#[tactic(auto, using(crate::proofs::Passed::passed))]
 fn next_clock(hosting: &LoggedHost, job: Option<i64>, beat: &Beat, due: u64) -> Option<i64>
     ensures { result ≡ clock_for job (beat_clock beat.now.every beat.now.base hosting.now.part.last
         due hosting.now.attendance.time) }

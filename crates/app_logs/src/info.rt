@@ -47,6 +47,7 @@ fn push_time(name: &str, time: i64, out: &mut Vec<u8>) -> Result<(), AllocError>
 }
 
 /// Appends the times of the first and the last entry, if there is one.
+#[tactic(auto, using(crate::proofs::Passed::passed))]
 fn push_times(entries: &[Entry], out: &mut Vec<u8>) -> Result<(), AllocError>
     ensures { OnOk result (out.new.items ≡ out.old.items ++ times_text entries.now) }
 {

@@ -5,4 +5,3 @@ mod Keeping
 mod Tails
 mod Ending
 mod Restarting
-mod Beginnings

@@ -27,11 +27,10 @@ const MADE: usize = 68;
 fn is_unmade(bytes: &[u8]) -> bool
     ensures { result ≡ is_unmade bytes.now }
 {
-    match bytes {
-        [] => true,
-        [_] => true,
-        [gate, ..] => *gate == 0 && bytes.len() <= MADE,
+    if bytes.len() <= 1 {
+        return true;
     }
+    bytes[0] == 0 && bytes.len() <= MADE
 }
 
 /// Reads a file in which a log is to be made, and writes nothing. Returns whether it has at most

@@ -7,3 +7,4 @@ pub mod Sent
 pub mod Turning
 pub mod Places
 pub mod Dropping
+pub mod Resting
