@@ -1,7 +1,6 @@
 use Rattle.std.proofs.Common.{rules, FitsSigned, w64, ℤ, ℕ, List, pos, ◌≤ℤ◌, ◌∙◌, ◌≡◌, ◌+◌, ◌-◌, ◌^◌, min, sym, subst, ap}
 use Rattle.std.proofs.lemmas.Int.{to_z-of_z}
-use Rattle.share_law.specs.Parts.{HostPart}
-use Rattle.share_logged.specs.Making.{IsOfLog}
+use Rattle.share_logged.specs.Resting.{IsSettled}
 use Rattle.share_logged.specs.Turn.{IsLoggedEnd, IsLoggedTurn}
 use Rattle.share_logged.proofs.Keeping.{gathered-wide}
 use Rattle.share_logged.proofs.Resting.{rested, rested-current, rested-shows}
@@ -24,30 +23,57 @@ invariant_of-result g c =
 
 pub returns-in-Ok-clause-done : goal.returns-in-Ok-clause-done
 returns-in-Ok-clause-done g c =
-    rested c.hosting.inside.host.mark c.args.keep c.args.clock (g.L.Log.is_clean c.turn.new.log) (g.L.Log.known c.args.log.now) (g.L.Log.known c.turn.new.log)
-    (g.P.Port.told c.args.port.now) (g.P.Port.told c.turn.new.port) (g.P.Port.told c.settle-millis.new.port) (g.P.Port.rested c.args.port.now) (g.P.Port.rested c.turn.new.port)
-    (g.P.Port.rested c.settle-millis.new.port) c.hosting.inside.host.part c.turn.new.host.part c.settle-millis.new.host.part c.nobody-came.result c.turn.new.heard
-    c.hosting.inside.attendance c.settle-millis.new.attendance c.settle-millis.result
-    c.nobody-came.ensures c.in-Ok.ensures.done c.settle-millis.ensures.settled c.settle-millis.ensures.told c.turn.ensures.time c.settle-millis.ensures.time
+    let clean = g.L.Log.is_clean c.turn.new.log in
+    let known = g.L.Log.known c.args.log.now in
+    let stored = g.L.Log.known c.turn.new.log in
+    let a = g.P.Port.told c.args.port.now in
+    let m = g.P.Port.told c.turn.new.port in
+    let done : IsLoggedTurn c.args.hosting.mark c.args.clock clean known stored a m c.args.hosting.part c.turn.new.host.part c.nobody-came.result c.turn.new.heard = search rules in
+    let settled : IsSettled c.args.keep c.turn.new.heard c.turn.new.host.part c.settle-millis.new.host.part c.args.hosting.attendance c.settle-millis.new.attendance c.settle-millis.result = search rules in
+    rested c.args.hosting.mark c.args.keep c.args.clock clean known stored a m (g.P.Port.told c.settle-millis.new.port) (g.P.Port.rested c.args.port.now) (g.P.Port.rested c.turn.new.port)
+    (g.P.Port.rested c.settle-millis.new.port) c.args.hosting.part c.turn.new.host.part c.settle-millis.new.host.part c.nobody-came.result c.turn.new.heard
+    c.args.hosting.attendance c.settle-millis.new.attendance c.settle-millis.result
+    c.nobody-came.ensures done settled c.settle-millis.ensures.told c.turn.ensures.time c.settle-millis.ensures.time
 
 pub returns-in-Ok-clause-current : goal.returns-in-Ok-clause-current
 returns-in-Ok-clause-current g c = λ v clean is.
-    rested-current v c.hosting.inside.host.mark c.args.keep c.args.clock (g.L.Log.is_clean c.turn.new.log) (g.L.Log.known c.args.log.now) (g.L.Log.known c.turn.new.log)
-    (g.P.Port.told c.args.port.now) (g.P.Port.told c.turn.new.port) c.hosting.inside.host.part c.turn.new.host.part c.settle-millis.new.host.part c.nobody-came.result c.turn.new.heard
-    c.hosting.inside.attendance c.settle-millis.new.attendance c.settle-millis.result c.in-Ok.ensures.done c.settle-millis.ensures.settled clean is
+    let clean_now = g.L.Log.is_clean c.turn.new.log in
+    let known = g.L.Log.known c.args.log.now in
+    let stored = g.L.Log.known c.turn.new.log in
+    let a = g.P.Port.told c.args.port.now in
+    let m = g.P.Port.told c.turn.new.port in
+    let done : IsLoggedTurn c.args.hosting.mark c.args.clock clean_now known stored a m c.args.hosting.part c.turn.new.host.part c.nobody-came.result c.turn.new.heard = search rules in
+    let settled : IsSettled c.args.keep c.turn.new.heard c.turn.new.host.part c.settle-millis.new.host.part c.args.hosting.attendance c.settle-millis.new.attendance c.settle-millis.result = search rules in
+    rested-current v c.args.hosting.mark c.args.keep c.args.clock clean_now known stored a m c.args.hosting.part c.turn.new.host.part c.settle-millis.new.host.part c.nobody-came.result c.turn.new.heard
+    c.args.hosting.attendance c.settle-millis.new.attendance c.settle-millis.result done settled clean is
 
 pub returns-in-Ok-clause-shown : goal.returns-in-Ok-clause-shown
 returns-in-Ok-clause-shown g c = λ v clean is.
-    rested-shows v c.hosting.inside.host.mark c.args.clock (g.L.Log.is_clean c.turn.new.log) (g.L.Log.known c.args.log.now) (g.L.Log.known c.turn.new.log)
-    (g.P.Port.told c.args.port.now) (g.P.Port.told c.turn.new.port) (g.P.Port.told c.settle-millis.new.port) c.hosting.inside.host.part c.turn.new.host.part c.nobody-came.result c.turn.new.heard
-    c.in-Ok.ensures.done c.settle-millis.ensures.told clean is
+    let clean_now = g.L.Log.is_clean c.turn.new.log in
+    let known = g.L.Log.known c.args.log.now in
+    let stored = g.L.Log.known c.turn.new.log in
+    let a = g.P.Port.told c.args.port.now in
+    let m = g.P.Port.told c.turn.new.port in
+    let done : IsLoggedTurn c.args.hosting.mark c.args.clock clean_now known stored a m c.args.hosting.part c.turn.new.host.part c.nobody-came.result c.turn.new.heard = search rules in
+    rested-shows v c.args.hosting.mark c.args.clock clean_now known stored a m (g.P.Port.told c.settle-millis.new.port) c.args.hosting.part c.turn.new.host.part c.nobody-came.result c.turn.new.heard
+    done c.settle-millis.ensures.told clean is
 
 pub returns-in-Err-clause-ended : goal.returns-in-Err-clause-ended
 returns-in-Err-clause-ended g c =
-    subst (λ (h : List ℕ). IsLoggedEnd c.hosting.inside.host.mark c.args.clock c.in-Err.fault (g.L.Log.is_clean c.turn.new.log) (g.L.Log.known c.args.log.now) (g.L.Log.known c.turn.new.log)
-    (g.P.Port.told c.args.port.now) (g.P.Port.told c.turn.new.port) c.hosting.inside.host.part h) c.nobody-came.ensures c.in-Err.ensures.ended
+    let clean = g.L.Log.is_clean c.turn.new.log in
+    let known = g.L.Log.known c.args.log.now in
+    let stored = g.L.Log.known c.turn.new.log in
+    let a = g.P.Port.told c.args.port.now in
+    let b = g.P.Port.told c.turn.new.port in
+    let ended : IsLoggedEnd c.args.hosting.mark c.args.clock c.in-Err.fault clean known stored a b c.args.hosting.part c.nobody-came.result = search rules in
+    subst (λ (h : List ℕ). IsLoggedEnd c.args.hosting.mark c.args.clock c.in-Err.fault clean known stored a b c.args.hosting.part h) c.nobody-came.ensures ended
 
 pub returns-in-Err-clause-shown : goal.returns-in-Err-clause-shown
 returns-in-Err-clause-shown g c = λ v clean is.
-    end-shows v c.hosting.inside.host.mark c.args.clock c.in-Err.fault (g.L.Log.is_clean c.turn.new.log) (g.L.Log.known c.args.log.now) (g.L.Log.known c.turn.new.log)
-    (g.P.Port.told c.args.port.now) (g.P.Port.told c.turn.new.port) c.hosting.inside.host.part c.nobody-came.result c.in-Err.ensures.ended clean is
+    let clean_now = g.L.Log.is_clean c.turn.new.log in
+    let known = g.L.Log.known c.args.log.now in
+    let stored = g.L.Log.known c.turn.new.log in
+    let a = g.P.Port.told c.args.port.now in
+    let b = g.P.Port.told c.turn.new.port in
+    let ended : IsLoggedEnd c.args.hosting.mark c.args.clock c.in-Err.fault clean_now known stored a b c.args.hosting.part c.nobody-came.result = search rules in
+    end-shows v c.args.hosting.mark c.args.clock c.in-Err.fault clean_now known stored a b c.args.hosting.part c.nobody-came.result ended clean is
