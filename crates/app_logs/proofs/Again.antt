@@ -1,7 +1,8 @@
 -- The lines of a log, followed by a scene, are a job of the log's inputs.
 use Rattle.std.proofs.Common.{◌≡◌, ◌⊎◌, inl, inr, ℕ, zero, suc, ◌+◌, ◌*◌, ◌/◌, ◌%◌, ◌^◌, ◌<◌, ◌≤◌, ◌<ℤ◌, ◌≤ℤ◌, ℤ, pos, negsuc, ◌+ℤ◌, Bool, true, false, List, [], ◌∷◌, ◌++◌, length, map, take, drop, codes}
-use Rattle.std.proofs.Common.{decimal, refl, sym, ap, subst, ◌∙◌, arith, append_assoc, append-nil, length-append}
+use Rattle.std.proofs.Common.{decimal, refl, sym, ap, subst, ◌∙◌, arith, append_assoc, append-nil, length-append, zero-add}
 use Rattle.std.specs.Prelude.{⊤, ◌&&◌, int_le, int_lt, nat_le, nat_lt, unsigned_abs, Option, Some, None, Result, Ok, Err, if◌then◌else◌, slice_get}
+use Rattle.std.specs.Fmt.{digits}
 use Rattle.std.specs.List.{flat_map, join_with_byte, list_all, slice_split}
 use Rattle.std.specs.Str.Lines.{lines}
 use Rattle.std.proofs.lemmas.Bool.{and_parts, ltb-true}
@@ -109,6 +110,7 @@ whole_number n few =
     }
 
 button : (down : Bool) → IsNumber (down_digit down ∷ []) (if down then 1 else 0)
+unfolding digits
 button true = whole_number 1 (omega arith)
 button false = whole_number 0 (omega arith)
 
@@ -304,9 +306,11 @@ lines_joined (l ∷ ls) rest h =
 
 behind_joined : (ls : List (List ℕ)) (rest : List ℕ) (k : ℕ) → AreUnbroken ls
     → join_with_byte 10 (drop (length ls + k) (slice_split is_lf (joined ls ++ rest))) ≡ join_with_byte 10 (drop k (slice_split is_lf rest))
-behind_joined [] rest k h = refl
+behind_joined [] rest k h = ap (λ (n : ℕ). join_with_byte 10 (drop n (slice_split is_lf rest))) (zero-add k)
 behind_joined (l ∷ ls) rest k h =
-    ap (λ (t : List ℕ). join_with_byte 10 (drop (suc (length ls + k)) (slice_split is_lf t))) (append_assoc l (10 ∷ joined ls) rest)
+    let place : length (l ∷ ls) + k ≡ suc (length ls + k) = omega arith in
+    ap (λ (n : ℕ). join_with_byte 10 (drop n (slice_split is_lf (joined (l ∷ ls) ++ rest)))) place
+    ∙ ap (λ (t : List ℕ). join_with_byte 10 (drop (suc (length ls + k)) (slice_split is_lf t))) (append_assoc l (10 ∷ joined ls) rest)
     ∙ (front l (joined ls ++ rest) h.0).1 (length ls + k) ∙ behind_joined ls rest k h.1
 
 -- ---- the job

@@ -6,3 +6,4 @@ mod Lasting
 mod Unbroken
 mod Again
 pub mod Passed
+mod Beats

@@ -1,7 +1,8 @@
 //! Which clocks of a job are left after the entries of a log, and the clocks that a host makes once
 //! these are over.
 
-ghost use Rattle.std.specs.Prelude.{◌≡◌, ◌≤ℤ◌, ◌++◌, ◌∷◌, [], IfOk, IsTrue, OnOk, int_lt, pos, if◌then◌else◌};
+ghost use Rattle.std.specs.Prelude.{◌≡◌, ◌≤◌, ◌^◌, ◌*◌, ◌+ℤ◌, ◌≤ℤ◌, ◌++◌, ◌∷◌, [], IfOk, IsTrue, OnOk, int_lt, pos};
+ghost use Rattle.std.specs.Prelude.{if◌then◌else◌};
 ghost use Rattle.x3d_values.specs.Ranges.{max_time};
 ghost use Rattle.app_logs.specs.Clocks.{clock_for, due_after, first_due, in_range, last_of};
 ghost use Rattle.app_logs.specs.Clocks.{later_of, beat_clock, beat_time, times_after};
@@ -74,8 +75,25 @@ fn later_of(time: i64, last: i64) -> i64
     if last < time { time } else { last + 1 }
 }
 
+/// Returns at most `MAX_MILLIS` milliseconds in microseconds.
+fn micros(millis: u64) -> i64
+    requires { millis ≤ 10 ^ 15 }
+    ensures { result ≡ pos (1000 * millis) }
+{
+    (1000 * millis) as i64
+}
+
+/// Returns the time at most `MAX_MILLIS` milliseconds after another.
+fn time_after(time: i64, millis: u64) -> i64
+    requires low { pos 0 ≤ℤ time }
+    requires high { time ≤ℤ pos max_time }
+    requires few { millis ≤ 10 ^ 15 }
+    ensures { result ≡ time +ℤ pos (1000 * millis) }
+{
+    time + micros(millis)
+}
+
 /// Returns the time of a clock after this many milliseconds, if there is one.
-#[tactic(auto, using(crate::proofs::Passed::passed))]
 fn beat_time(base: i64, last: i64, millis: u64) -> Option<i64>
     ensures { result ≡ beat_time base last millis }
 {
@@ -88,7 +106,7 @@ fn beat_time(base: i64, last: i64, millis: u64) -> Option<i64>
     if !in_range(last) {
         return None;
     }
-    Some(later_of(base + 1000 * millis as i64, last))
+    Some(later_of(time_after(base, millis), last))
 }
 
 /// Returns the clock of a beat after this many milliseconds, if one is due.

@@ -12,13 +12,13 @@ loop-turn-preserved g c =
     let here = c.in_ok-current.ensures in
     let going = sym c.is_over.ensures ∙ c.if-is_over.false in
     let turn = rw (so_far.1, c.next_clock-clock.ensures, c.item_at-job.ensures) at here.done in
-    let due = rw (c.item_at-job.ensures) at c.next_due.ensures in (
+    let due = rw (c.item_at-job.ensures) at c.next_due-due.ensures in (
       turned_more c.args.hosting.mark c.args.clocks.now c.args.plan.now c.loop-turn.turn
           (moment (hosting c.args.hosting.part c.args.hosting.attendance) (first_due c.args.plan.now.beat.every) (g.L.Log.known c.args.log.now) (g.L.Log.is_clean c.args.log.now)
           (passed (g.P.Port.told c.args.port.now) (g.P.Port.rested c.args.port.now)))
           (moment (hosting c.loop-turn.current.part c.loop-turn.current.attendance) c.loop-turn.due (g.L.Log.known c.loop-turn.log) (g.L.Log.is_clean c.loop-turn.log)
           (passed (g.P.Port.told c.loop-turn.port) (g.P.Port.rested c.loop-turn.port)))
-          (moment (hosting c.in_ok-current.current.part c.in_ok-current.current.attendance) c.next_due.result (g.L.Log.known c.taken_turn.new.log) (g.L.Log.is_clean c.taken_turn.new.log)
+          (moment (hosting c.in_ok-current.current.part c.in_ok-current.current.attendance) c.next_due-due.result (g.L.Log.known c.taken_turn.new.log) (g.L.Log.is_clean c.taken_turn.new.log)
           (passed (g.P.Port.told c.taken_turn.new.port) (g.P.Port.rested c.taken_turn.new.port)))
           so_far.0 going (turn, due),
       here.mark ∙ so_far.1,
