@@ -9,10 +9,10 @@ below : (t : ℤ) → pos 0 ≤ℤ t → t ≤ℤ pos (2 * 10 ^ 18) → FitsSign
 below (pos n) low high = record { sfits = omega (arith, ints) }
 below (negsuc n) low high = record { sfits = omega (arith, ints) }
 
-sum_low : (a : ℤ) (n : ℕ) → pos 0 ≤ℤ a → pos 0 ≤ℤ a +ℤ pos n
+sum_low : (a : ℤ) (n : ℕ) → pos 0 ≤ℤ a → pos 0 ≤ℤ (a +ℤ pos n)
 sum_low a n low = grind (arith, ints)
 
-sum_high : (a : ℤ) (n : ℕ) → a ≤ℤ pos (10 ^ 18) → n ≤ 10 ^ 18 → a +ℤ pos n ≤ℤ pos (2 * 10 ^ 18)
+sum_high : (a : ℤ) (n : ℕ) → a ≤ℤ pos (10 ^ 18) → n ≤ 10 ^ 18 → (a +ℤ pos n) ≤ℤ pos (2 * 10 ^ 18)
 sum_high a n high few = grind (arith, ints)
 
 pub sum_fits : (a : ℤ) (n : ℕ) → pos 0 ≤ℤ a → a ≤ℤ pos (10 ^ 18) → n ≤ 10 ^ 15 → FitsSigned w64 (a +ℤ pos (1000 * n))

@@ -130,11 +130,11 @@ pub fn go_on<D: Disk>(
     }
 }
 
-/// Makes a log of this head in a file that has none, and the host of its viewers. The number of viewers
-/// must pass `is_viewer_count`.
+/// Makes a log of this head in a file that has none, and the host of its viewers. The number of
+/// viewers must pass `is_viewer_count`.
 ///
-/// Fails with `NotEmpty`, unless the file is empty or the making of a log was cut off in it, or with
-/// `Device` or `Memory`; and returns the disk.
+/// Fails with `NotEmpty`, unless the file is empty or the making of a log was cut off in it, or
+/// with `Device` or `Memory`; and returns the disk.
 pub fn make_log<D: Disk>(alloc: Global, disk: D, head: &Head) -> Result<Begun<D>, (LogFault, D)>
     requires usable { IsTrue (D.is_usable disk) }
     requires viewers { IsTrue (is_viewer_count head.now.viewers) }

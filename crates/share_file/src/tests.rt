@@ -212,17 +212,21 @@ fn is_made(alloc: Global, bytes: &[u8]) -> Result<bool, Fail> {
     }
     match create(alloc, disk, &HEAD) {
         Ok(log) => Ok(log.into_disk().bytes() == MADE.as_slice()),
-        Err((OpenFault::NotEmpty, disk)) if disk.bytes() == bytes => Ok(false),
-        Err(_) => Err(Fail::from("not made, or changed")),
+        Err((fault, disk)) => {
+            if fault != OpenFault::NotEmpty || disk.bytes() != bytes {
+                return Err(Fail::from("not made, or changed"));
+            }
+            Ok(false)
+        }
     }
 }
 
 /// Returns a file in which the making of a log was cut off, or one that is much like it.
 fn begun(alloc: Global, gate: u8, size: usize) -> Result<Vec<u8>, Fail> {
     let mut file = Vec::new(alloc);
-    for byte in MADE {
+    for byte in &MADE {
         if file.len() < size {
-            file.push(byte)?;
+            file.push(*byte)?;
         }
     }
     if !file.is_empty() {
@@ -262,8 +266,7 @@ fn made_again(alloc: Global, calls: u8) -> Result<bool, Fail> {
     }
     match create(alloc, disk, &HEAD) {
         Ok(log) => Ok(log.into_disk().inner().bytes() == MADE.as_slice()),
-        Err((OpenFault::NotEmpty, disk)) => Ok(disk.inner().bytes() == MADE.as_slice()),
-        Err(_) => Ok(false),
+        Err((_fault, disk)) => Ok(disk.inner().bytes() == MADE.as_slice()),
     }
 }
 

@@ -167,8 +167,8 @@ pub fn host_over_log(
     done
 }
 
-/// Returns the inputs of a log, or the first of them, as the steps of a job; or with `info` what the
-/// log has.
+/// Returns the inputs of a log, or the first of them, as the steps of a job; or with `info` what
+/// the log has.
 fn text_of(
     alloc: Global,
     bytes: &[u8],
