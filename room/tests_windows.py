@@ -66,7 +66,7 @@ def test_a_click_in_one_window_opens_the_door_in_both():
         assert opened[0] - shut[0] > 0.08, (shut, opened)
         windows.pages[0].wait("document.getElementById('badge').textContent === 'All 2 viewers agree'")
         title = windows.pages[0].value("document.getElementById('badge').title")
-        assert re.fullmatch(r"equal at input \d+, digest [0-9a-f]{16}", title), title
+        assert re.fullmatch(r"All see the same: equal at input \d+, digest [0-9a-f]{16}", title), title
 
 
 def assert_second_route_is_drawn(page):

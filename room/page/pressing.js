@@ -5,9 +5,6 @@ import { byId, element, field, listed, state } from "./core.js";
 import { drawn, refresh } from "./scene.js";
 
 const SENSORS = ["TouchSensor", "PlaneSensor"];
-/* For so long, in milliseconds, what can be pressed is hinted at. */
-const HINTED = 45000;
-
 const enabled = (number) => SENSORS.includes(state.nodes[number].kind) && field(state.nodes[number], "enabled", true);
 
 /* The sensors of a Box: those that are enabled in the lowest list of siblings above it that has one, a Switch's children
@@ -58,13 +55,12 @@ export function ring(x, y, hit) {
   setTimeout(() => made.remove(), 500);
 }
 
-const hints = { from: 0, made: new Map(), over: false };
+const hints = { made: new Map(), over: true };
 
-/* From now on, for a while, each thing that can be pressed has a mark, until one is pressed. */
+/* From now on each thing that can be pressed has a mark, until one is pressed. */
 export function hint() {
-  hints.from = Date.now();
   hints.over = false;
-  setTimeout(endHints, HINTED);
+  drawn.dirty = true;
 }
 
 export function endHints() {
@@ -76,7 +72,7 @@ export function endHints() {
 
 /* Puts the marks of hints where things are seen. */
 export function placeHints(box) {
-  if (hints.over || !hints.from) return;
+  if (hints.over) return;
   const places = new Map();
   drawn.content.traverse((object) => {
     if (!object.userData.box || !isShown(object)) return;
