@@ -98,6 +98,7 @@ async function keep(kind) {
   const link = element("a");
   Object.assign(link, { href: URL.createObjectURL(blob), download: `${byId("title").textContent}.${kind}` });
   link.click();
+  happen("passed", { name: "", text: `${link.download} is saved` });
   setTimeout(() => URL.revokeObjectURL(link.href), 10000);
 }
 
