@@ -24,6 +24,7 @@ def test_people_have_names_and_pointers():
         ben.wait(f"!{said}.hidden && {said}.textContent === `Ana pressed the door's button`", LATER)
         chloe.value("document.getElementById('hand').click()")
         ben.wait("document.querySelectorAll('.chip .hand').length === 1", LATER)
+        chloe.wait("document.getElementById('hand').textContent === 'Lower hand'", LATER)
         ben.value("document.getElementById('your-name').value = 'Benno'; document.getElementById('naming').requestSubmit()")
         chloe.wait(f"{chips} === 'Chloe (you),Ana,Benno'", LATER)
         ben.value("document.getElementById('share').click()")
@@ -149,6 +150,8 @@ def test_the_trainer_replays_and_begins_again():
         trainer.wait("document.querySelectorAll('#marks i').length === 1", LATER)
         trainer.value("document.getElementById('speed').value = 16; document.getElementById('play').click()")
         trainer.wait("room.placeOf('Door')[0] > 0.5", LATER)
+        # Whose mark was passed is said.
+        trainer.wait("document.getElementById('said').textContent === `Ana pressed the door's button`", LATER)
         trainer.value("const bar = document.getElementById('time'); bar.value = 3; bar.dispatchEvent(new Event('input'))")
         trainer.wait("room.state.replay.n === 3 && room.placeOf('Door')[0] < 0.01", LATER)
         # What happened is saved, as a job and as a log.

@@ -308,8 +308,15 @@ def test_the_sliders_of_the_network_are_all_set():
             one.wait(BAD, LATER)
             time.sleep(0.5)
             assert one.value(BAD) and other.value(BAD), other.value("room.state.status.channel")
+            assert not other.value("document.getElementById('bad').hidden")
             one.value(SLIDERS.replace("30]", "0]").replace("20]", "0]"))
             one.wait("Object.values(room.state.status.channel).every((share) => share === 0)", LATER)
+        # One button lets all arrive again, and no window says then that the network is bad.
+        one.value(SLIDERS)
+        one.wait(BAD, LATER)
+        one.value("document.getElementById('good').click()")
+        for page in windows.pages:
+            page.wait("document.getElementById('bad').hidden", LATER)
         shown = "getComputedStyle(document.getElementById('network')).display"
         one.value("document.getElementById('inside').open = true")
         other.value("document.getElementById('inside').open = true")
