@@ -7,7 +7,7 @@ use Rattle.std.proofs.lemmas.Bool.{eqb-true}
 use Rattle.byte_codec.specs.Codec.{Codec, ◌>>?◌, whole, fixed}
 use Rattle.byte_codec.specs.Exact.{IsBytes, IsExact}
 use Rattle.byte_codec.proofs.Laws.{after, and_true, both, bind_some, some_is, fixed_exact, whole_takes, whole_again}
-use Rattle.share_entries.proofs.Tests.{tested}
+use Rattle.share_entries.proofs.Tests.{ok_is, tested}
 use Rattle.share_session.specs.declared.fault.DatagramFault.{DatagramFault}
 use Rattle.share_session.specs.declared.fault.DatagramFault.TheVariants.{BadPacket, BadVersion, BadTag, BadBody}
 use Rattle.share_session.specs.declared.message.Body2.{Body2}
@@ -127,7 +127,7 @@ picked true r s y e P f g = f refl e
 picked false r s y e P f g = g refl e
 
 is_some : (o : Option Message2) (m : Message2) → ok_or o BadBody ≡ Ok m → o ≡ Some m
-is_some (Some y) m e = cc
+is_some (Some y) m e = ap (λ z. Some z) (ok_is y m e)
 is_some None m e = absurd cc
 
 rest_takes : (tag : ℕ) (bytes : List ℕ) (m : Message2) → IsBytes bytes → rest_in tag bytes ≡ Ok m → IsRest tag bytes m
@@ -141,7 +141,14 @@ abbrev found_or_bad : Option Message2 → Answer
 found_or_bad o = ok_or o BadBody
 
 rest_again : (m : Message2) → message_fits m ≡ true → rest_in (tag_of m) (rest_text m) ≡ Ok m
-rest_again (Said session b) fits = rw (tag_low b) (ap found_or_bad (said_again session b fits))
+rest_again (Said session b) fits =
+    let tag = body_tag b in
+    let rest = session ++ body_text b in
+    let others : Answer =
+    cond (eqb tag 7) (found_or_bad (all_in hello_codec (λ x. Hello x) rest))
+    (cond (eqb tag 8) (found_or_bad (all_in welcome_codec (λ x. Welcome x) rest)) (Err BadTag)) in
+    ap (λ (z : Bool). cond z (found_or_bad (said_in tag rest)) others) (tag_low b)
+    ∙ ap found_or_bad (said_again session b fits)
 rest_again (Hello h) fits = ap found_or_bad (all_again hello_codec hello_exact (λ x. Hello x) h fits)
 rest_again (Welcome w) fits = ap found_or_bad (all_again welcome_codec welcome_exact (λ x. Welcome x) w fits)
 

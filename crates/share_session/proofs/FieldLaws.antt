@@ -20,7 +20,7 @@ use Rattle.share_session.specs.declared.piece.PieceHead.{PieceHead}
 use Rattle.share_session.specs.Ranges.{is_number, is_head}
 use Rattle.share_session.specs.Names.{NameView, is_name}
 use Rattle.share_session.specs.Messages.{PieceView2}
-use Rattle.share_session.specs.Fields.{head_codec, number_codec, seat_codec, input_codec, offer_parts, offer_with, parts_of, offer_codec, ask_codec, ack_codec, piece_heads, piece_codec, name_codec, hello_codec, count_codec, welcome_codec}
+use Rattle.share_session.specs.Fields.{head_codec, number_codec, seat_codec, input_codec, offer_parts, offer_with, parts_of, offer_codec, ask_codec, ack_codec, piece_parts, piece_heads, piece_codec, name_codec, hello_codec, count_codec, welcome_codec}
 
 pub head_exact : IsExact head_codec
 unfolding head_codec
@@ -59,7 +59,7 @@ unfolding ack_codec
 ack_exact = named_exact (λ (t : ℕ × (ℕ × ℕ)). let a : AckView = record { who = t.0; boot = t.1.0; count = t.1.1 } in a) (λ a. (a.who, (a.boot, a.count))) _ (λ a. refl) (λ b. refl) (pair_exact _ _ seat_exact (pair_exact _ _ (number_exact w32 wide32) (number_exact w32 wide32)))
 
 heads_exact : IsExact piece_heads
-unfolding piece_heads
+unfolding piece_heads piece_parts
 heads_exact = checked_exact is_head _ (named_exact
     (λ (t : List ℕ × (ℕ × (ℕ × (ℕ × ℕ)))). let h : PieceHead = record { chain = t.0; boot = t.1.0; applied = t.1.1.0; size = t.1.1.1.0; index = t.1.1.1.1 } in h)
     (λ h. (h.chain, (h.boot, (h.applied, (h.size, h.index))))) _ (λ a. refl) (λ b. refl)

@@ -6,7 +6,7 @@ use Rattle.std.specs.Cmp.Lexicographic.{pointwise, bytes_decides}
 use Rattle.std.proofs.lemmas.Bool.{cases_Bool, eqb-true}
 use Rattle.std.proofs.lemmas.List.{take_at}
 use Rattle.std.proofs.lemmas.List.Sums.{fold_push}
-use Rattle.byte_codec.specs.Codec.{all_fit}
+use Rattle.byte_codec.specs.Codec.{◌>>?◌, all_fit}
 use Rattle.byte_codec.proofs.Laws.{and_true, bind_some, some_is}
 use Rattle.share_entries.specs.Entry.{EntryView, entry_codec}
 use Rattle.share_entries.specs.Chain.{link, chain_after}
@@ -30,38 +30,38 @@ module _ (run : List ℕ) (log : List EntryView) where
     pub is : taken (first_of run log n) i ≡ Some (first_of run log to)
 
   next_goes : (n : ℕ) (i : Input2) → IsOfLog run log i → eqb (suc n) i.number ≡ true → Goes n i
-  next_goes n i of yes =
-      let number : suc n ≡ i.number = eqb-true (suc n) i.number yes in
-      let count : length of.before ≡ n = omega (arith, number, of.number) in
-      let front : take n log ≡ of.before = ap (λ (l : List EntryView). take n l) of.log_is ∙ take_at of.before (i.entry ∷ of.after) n count in
+  next_goes n i its hit =
+      let number : suc n ≡ i.number = eqb-true (suc n) i.number hit in
+      let count : length its.before ≡ n = omega (arith, number, its.number) in
+      let front : take n log ≡ its.before = ap (λ (l : List EntryView). take n l) its.log_is ∙ take_at its.before (i.entry ∷ its.after) n count in
       let c : List ℕ = chain_after run (take n log) in
-      let chain : i.chain ≡ c = of.chain ∙ ap (λ (l : List EntryView). chain_after run l) (sym front) in
+      let chain : i.chain ≡ c = its.chain ∙ ap (λ (l : List EntryView). chain_after run l) (sym front) in
       let same : pointwise nat_eq i.chain c ≡ true = (bytes_decides i.chain c).1 chain in
-      let grown : List EntryView = of.before ++ i.entry ∷ [] in
-      let split : log ≡ grown ++ of.after = of.log_is ∙ sym (append_assoc of.before (i.entry ∷ []) of.after) in
-      let long : length grown ≡ suc n = omega (arith, count, length-append of.before (i.entry ∷ [])) in
-      let more : take (suc n) log ≡ grown = ap (λ (l : List EntryView). take (suc n) l) split ∙ take_at grown of.after (suc n) long in
+      let grown : List EntryView = its.before ++ i.entry ∷ [] in
+      let split : log ≡ grown ++ its.after = its.log_is ∙ sym (append_assoc its.before (i.entry ∷ []) its.after) in
+      let long : length grown ≡ suc n = omega (arith, count, length-append its.before (i.entry ∷ [])) in
+      let more : take (suc n) log ≡ grown = ap (λ (l : List EntryView). take (suc n) l) split ∙ take_at grown its.after (suc n) long in
       let next : chain_after run (take (suc n) log) ≡ link c i.entry =
-      ap (λ (l : List EntryView). chain_after run l) more ∙ fold_push link run of.before i.entry
+      ap (λ (l : List EntryView). chain_after run l) more ∙ fold_push link run its.before i.entry
       ∙ ap (λ (l : List EntryView). link (chain_after run l) i.entry) (sym front) in
       record {
         to = suc n;
-        within = omega (arith, ap length split, length-append grown of.after, long);
-        is = ap (λ (b : Bool). cond b (cond (pointwise nat_eq i.chain c) (some_prefix (at i.number (link c i.entry))) None) (some_prefix (at n c))) yes
+        within = omega (arith, ap length split, length-append grown its.after, long);
+        is = ap (λ (b : Bool). cond b (cond (pointwise nat_eq i.chain c) (some_prefix (at i.number (link c i.entry))) None) (some_prefix (at n c))) hit
             ∙ ap (λ (b : Bool). cond b (some_prefix (at i.number (link c i.entry))) None) same
             ∙ ap (λ (z : ℕ). some_prefix (at z (link c i.entry))) (sym number)
             ∙ ap (λ (z : List ℕ). some_prefix (at (suc n) z)) (sym next);
       }
 
   goes : (n : ℕ) (i : Input2) → n ≤ length log → IsOfLog run log i → Goes n i
-  goes n i within of =
+  goes n i within its =
       let c : List ℕ = chain_after run (take n log) in
       elim (cases_Bool (eqb (suc n) i.number)) [
-        | inl yes ↦ next_goes n i of yes
-        | inr no ↦ record {
+        | inl hit ↦ next_goes n i its hit
+        | inr miss ↦ record {
           to = n;
           within = within;
-          is = ap (λ (b : Bool). cond b (cond (pointwise nat_eq i.chain c) (some_prefix (at i.number (link c i.entry))) None) (some_prefix (at n c))) no;
+          is = ap (λ (b : Bool). cond b (cond (pointwise nat_eq i.chain c) (some_prefix (at i.number (link c i.entry))) None) (some_prefix (at n c))) miss;
         }
       ]
 
@@ -70,7 +70,7 @@ never_fails run log [] all n within = (n, within, refl)
 never_fails run log (i ∷ is) all n within =
     let a = goes run log n i within all.0 in
     let b = never_fails run log is all.1 a.to a.within in
-    (b.0, b.1, rw a.is b.2)
+    (b.0, b.1, ap (λ (r : Option Prefix). r >>? λ q. all_taken q is) a.is ∙ b.2)
 
 -- ---- two viewers
 
@@ -107,15 +107,15 @@ went (i ∷ is) p q all e =
     let grows : List EntryView = i.entry ∷ applied_of (extended p i) is in
     let step : Option Prefix = cond (follows p.chain i) (some_prefix (extended p i)) None in
     elim (cases_Bool (is_next p i)) [
-      | inr no ↦
-          let same : p ≡ s.0 = some_is p s.0 (sym (ap (λ (b : Bool). cond b step (some_prefix p)) no) ∙ s.1) in
+      | inr miss ↦
+          let same : p ≡ s.0 = some_is p s.0 (sym (ap (λ (b : Bool). cond b step (some_prefix p)) miss) ∙ s.1) in
           let w = went is p q all.1 (ap (λ (r : Prefix). all_taken r is) same ∙ s.2) in
-          went_by p (i ∷ is) q stays (ap (λ (b : Bool). cond b grows stays) no) w.chain w.count w.fit
-      | inl yes ↦
-          let same : extended p i ≡ s.0 = passed (follows p.chain i) (extended p i) s.0 (sym (ap (λ (b : Bool). cond b step (some_prefix p)) yes) ∙ s.1) in
+          went_by p (i ∷ is) q stays (ap (λ (b : Bool). cond b grows stays) miss) w.chain w.count w.fit
+      | inl hit ↦
+          let same : extended p i ≡ s.0 = passed (follows p.chain i) (extended p i) s.0 (sym (ap (λ (b : Bool). cond b step (some_prefix p)) hit) ∙ s.1) in
           let w = went is (extended p i) q all.1 (ap (λ (r : Prefix). all_taken r is) same ∙ s.2) in
-          let number : suc p.applied ≡ i.number = eqb-true (suc p.applied) i.number yes in
-          went_by p (i ∷ is) q grows (ap (λ (b : Bool). cond b grows stays) yes) w.chain (omega (arith, w.count, number)) (and_true _ _ all.0 w.fit)
+          let number : suc p.applied ≡ i.number = eqb-true (suc p.applied) i.number hit in
+          went_by p (i ∷ is) q grows (ap (λ (b : Bool). cond b grows stays) hit) w.chain (omega (arith, w.count, number)) (and_true _ _ all.0 w.fit)
     ]
 
 pub chains_agree : ChainsAgree

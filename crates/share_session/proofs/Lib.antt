@@ -4,3 +4,4 @@ pub mod RunLaws
 pub mod FollowLaws
 pub mod Lengths
 pub mod NameLaws
+pub mod RangeLaws

@@ -45,8 +45,8 @@ pub hears_its_run : HearsItsRun
 hears_its_run mark other_mark run other lm lo body m e =
     let session = session_of mark run in
     let theirs = session_of other_mark other in
-    let of : pointwise nat_eq theirs session ≡ true = guarded (pointwise nat_eq theirs session) (as_message mark (Said theirs body)) m e in
-    let same : theirs ≡ session = (bytes_decides theirs session).0 of in
+    let ours : pointwise nat_eq theirs session ≡ true = guarded (pointwise nat_eq theirs session) (as_message mark (Said theirs body)) m e in
+    let same : theirs ≡ session = (bytes_decides theirs session).0 ours in
     sessions_tell mark other_mark run other lm lo (sym same)
 
 abbrev session_in : Result Message2 DatagramFault → List ℕ

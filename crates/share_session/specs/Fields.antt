@@ -36,7 +36,7 @@ input_codec = named (λ t. record { chain = t.0; number = t.1.0; entry = t.1.1 }
 
 -- ---- offers
 
--- who, boot, offer, down, origin, direction
+-- who, boot, offer, down, origin, direction; no range is checked here
 unfoldable pub offer_parts : Codec OfferParts
 offer_parts = named
     (λ t. record {
@@ -88,10 +88,9 @@ ack_codec = named (λ t. record { who = t.0; boot = t.1.0; count = t.1.1 })
     (λ a. (a.who, (a.boot, a.count)))
     (pair seat_codec (pair (number w32) (number w32)))
 
--- chain, boot, applied, length, index
-unfoldable pub piece_heads : Codec PieceHead
-piece_heads = checked is_head
-    (named
+-- chain, boot, applied, length, index; no range is checked here
+unfoldable pub piece_parts : Codec PieceHead
+piece_parts = named
     (λ t. record {
       chain = t.0;
       boot = t.1.0;
@@ -100,7 +99,10 @@ piece_heads = checked is_head
       index = t.1.1.1.1;
     })
     (λ h. (h.chain, (h.boot, (h.applied, (h.size, h.index)))))
-    (pair (fixed 16) (pair (number w32) (pair (number w64) (pair (number w32) (number w32))))))
+    (pair (fixed 16) (pair (number w32) (pair (number w64) (pair (number w32) (number w32)))))
+
+unfoldable pub piece_heads : Codec PieceHead
+piece_heads = checked is_head piece_parts
 
 -- the head, and as many bytes as it requires
 unfoldable pub piece_codec : Codec PieceView2

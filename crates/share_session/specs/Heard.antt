@@ -46,6 +46,15 @@ as_body (Piece p) =
     }))
     else None
 
+-- the body of version 2; an input or a piece needs a chain
+abbrev pub lifted : Body → Option Body2
+lifted (body.Input s) = None
+lifted (body.Offer o) = Some (Offer o)
+lifted (body.Ask a) = Some (Ask (record { who = a.who; next = a.next }))
+lifted (body.Ack a) = Some (Ack a)
+lifted (body.Floor n) = Some (Floor n)
+lifted (body.Piece p) = None
+
 abbrev pub marked : List ℕ → Body → Message
 marked mark body = record { mark = mark; body = body }
 

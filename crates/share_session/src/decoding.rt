@@ -1,30 +1,87 @@
 //! The message of a datagram, or the first fault.
 
 ghost use Rattle.std.specs.Prelude.{◌≡◌, IfOk, IfSome, IsTrue, Ok, length};
-ghost use Rattle.std.specs.Option.{option_map};
+ghost use Rattle.std.specs.Option.{ok_or, option_map};
+ghost use Rattle.share_session.specs.declared.fault.DatagramFault.TheVariants.{BadBody};
+ghost use Rattle.share_session.specs.declared.message.Body2.TheVariants as body;
 ghost use Rattle.share_session.specs.declared.message.Message2.{Message2 as AMessage};
-ghost use Rattle.share_session.specs.Fields.{head_codec};
+ghost use Rattle.share_session.specs.declared.message.Message2.TheVariants as kind;
+ghost use Rattle.share_session.specs.Fields.{head_codec, number_codec, input_codec, offer_codec, ask_codec, ack_codec, piece_codec, hello_codec, welcome_codec};
 ghost use Rattle.share_session.specs.Datagram.{datagram, message_fits};
 ghost use Rattle.share_session.specs.Decoding.{all_in, body_in, said_in, rest_in, decoded};
 
 use crate::fault::DatagramFault;
 use crate::message::{Body2, Message2};
 use crate::reading::{
-    ack_of, ask_of, hello_of, input_of, number_of, offer_of, piece_of, sixteen_of, welcome_of,
+    ack_of, ask_of, hello_of, input_of, number_of, offer_of, piece_of, sixteen, welcome_of,
 };
 use byte_codec::{byte_of, chunk_of};
 use share_rules::all_of;
+
+fn input_in(bytes: &[u8]) -> Option<Body2>
+    ensures { result ≡ all_in input_codec body.Input bytes.now }
+{
+    let Some(input) = all_of(input_of(bytes)) else {
+        return None;
+    };
+    Some(Body2::Input(input))
+}
+
+fn offer_in(bytes: &[u8]) -> Option<Body2>
+    ensures { result ≡ all_in offer_codec body.Offer bytes.now }
+{
+    let Some(offer) = all_of(offer_of(bytes)) else {
+        return None;
+    };
+    Some(Body2::Offer(offer))
+}
+
+fn ask_in(bytes: &[u8]) -> Option<Body2>
+    ensures { result ≡ all_in ask_codec body.Ask bytes.now }
+{
+    let Some(ask) = all_of(ask_of(bytes)) else {
+        return None;
+    };
+    Some(Body2::Ask(ask))
+}
+
+fn ack_in(bytes: &[u8]) -> Option<Body2>
+    ensures { result ≡ all_in ack_codec body.Ack bytes.now }
+{
+    let Some(ack) = all_of(ack_of(bytes)) else {
+        return None;
+    };
+    Some(Body2::Ack(ack))
+}
+
+fn floor_in(bytes: &[u8]) -> Option<Body2>
+    ensures { result ≡ all_in number_codec body.Floor bytes.now }
+{
+    let Some(number) = all_of(number_of(bytes)) else {
+        return None;
+    };
+    Some(Body2::Floor(number))
+}
+
+fn piece_in(bytes: &[u8]) -> Option<Body2>
+    ensures { result ≡ all_in piece_codec body.Piece bytes.now }
+{
+    let Some(piece) = all_of(piece_of(bytes)) else {
+        return None;
+    };
+    Some(Body2::Piece(piece))
+}
 
 fn body_in(tag: u8, bytes: &[u8]) -> Option<Body2>
     ensures { result ≡ body_in tag bytes.now }
 {
     match tag {
-        1 => all_of(input_of(bytes)).map(Body2::Input),
-        2 => all_of(offer_of(bytes)).map(Body2::Offer),
-        3 => all_of(ask_of(bytes)).map(Body2::Ask),
-        4 => all_of(ack_of(bytes)).map(Body2::Ack),
-        5 => all_of(number_of(bytes)).map(Body2::Floor),
-        6 => all_of(piece_of(bytes)).map(Body2::Piece),
+        1 => input_in(bytes),
+        2 => offer_in(bytes),
+        3 => ask_in(bytes),
+        4 => ack_in(bytes),
+        5 => floor_in(bytes),
+        6 => piece_in(bytes),
         _ => None,
     }
 }
@@ -32,25 +89,52 @@ fn body_in(tag: u8, bytes: &[u8]) -> Option<Body2>
 fn said_in(tag: u8, bytes: &[u8]) -> Option<Message2>
     ensures { result ≡ said_in tag bytes.now }
 {
-    let Some((session, rest)) = sixteen_of(bytes) else {
+    let Some((front, rest)) = chunk_of(bytes, 16) else {
         return None;
     };
     let Some(body) = body_in(tag, rest) else {
         return None;
     };
+    let session = sixteen(front);
     Some(Message2::Said(session, body))
+}
+
+fn hello_in(bytes: &[u8]) -> Option<Message2>
+    ensures { result ≡ all_in hello_codec kind.Hello bytes.now }
+{
+    let Some(hello) = all_of(hello_of(bytes)) else {
+        return None;
+    };
+    Some(Message2::Hello(hello))
+}
+
+fn welcome_in(bytes: &[u8]) -> Option<Message2>
+    ensures { result ≡ all_in welcome_codec kind.Welcome bytes.now }
+{
+    let Some(welcome) = all_of(welcome_of(bytes)) else {
+        return None;
+    };
+    Some(Message2::Welcome(welcome))
+}
+
+fn or_bad(found: Option<Message2>) -> Result<Message2, DatagramFault>
+    ensures { result ≡ ok_or found BadBody }
+{
+    let Some(message) = found else {
+        return Err(DatagramFault::BadBody);
+    };
+    Ok(message)
 }
 
 fn rest_in(tag: u8, bytes: &[u8]) -> Result<Message2, DatagramFault>
     ensures { result ≡ rest_in tag bytes.now }
 {
-    let message = match tag {
-        1..=6 => said_in(tag, bytes),
-        7 => all_of(hello_of(bytes)).map(Message2::Hello),
-        8 => all_of(welcome_of(bytes)).map(Message2::Welcome),
-        _ => return Err(DatagramFault::BadTag),
-    };
-    message.ok_or(DatagramFault::BadBody)
+    match tag {
+        1..=6 => or_bad(said_in(tag, bytes)),
+        7 => or_bad(hello_in(bytes)),
+        8 => or_bad(welcome_in(bytes)),
+        _ => Err(DatagramFault::BadTag),
+    }
 }
 
 /// Reads the magic bytes, the version and the tag.

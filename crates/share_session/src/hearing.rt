@@ -1,6 +1,6 @@
 //! What a world of version 1's limits hears of a message of version 2.
 
-ghost use Rattle.std.specs.Prelude.{◌≡◌, None, Some, if◌then◌else◌};
+ghost use Rattle.std.specs.Prelude.{◌≡◌, None, Some, IfSome, IsTrue, if◌then◌else◌};
 ghost use Rattle.std.specs.Option.{option_map};
 ghost use Rattle.x3d_values.specs.Ranges.{is_input_number};
 ghost use Rattle.share_wire.specs.Messages.{is_next_number};
@@ -8,7 +8,7 @@ ghost use Rattle.share_session.specs.declared.message.Body2.TheVariants as body2
 ghost use Rattle.share_session.specs.Heard as spec;
 
 use crate::message::{Ask2, Body2, Input2, Message2};
-use crate::numbers::Number;
+use crate::numbers::{Number, SeatNumber};
 use crate::piece::Piece2;
 use crate::run::Session;
 use share_entries::Source;
@@ -84,6 +84,33 @@ fn piece_of(piece: &Piece2) -> Option<Body>
     let applied = head.applied as u32;
     let made = Piece::new(head.boot, applied, head.size, head.index, piece.bytes());
     Some(Body::Piece(made))
+}
+
+/// Makes the number of an input of one of version 1, or of the one after the last.
+fn number_of(next: u32) -> Number
+    requires { IsTrue (is_next_number next) }
+    ensures { result ≡ next }
+{
+    Number::new(u64::from(next))
+}
+
+/// Returns the body of version 2 of an offer, an ask, an ack or a floor. `None` for an input and a
+/// piece, which need a chain.
+pub fn lifted(body: &Body) -> Option<Body2>
+    ensures value { result ≡ spec.lifted body.now }
+    // It is heard as the body that it was.
+    ensures again { IfSome result (λ made. spec.as_body made ≡ Some body.now) }
+{
+    match body {
+        Body::Offer(offer) => Some(Body2::Offer(*offer)),
+        Body::Ask(ask) => Some(Body2::Ask(Ask2 {
+            who: SeatNumber::new(ask.who()),
+            next: number_of(ask.next()),
+        })),
+        Body::Ack(ack) => Some(Body2::Ack(*ack)),
+        Body::Floor(floor) => Some(Body2::Floor(number_of(floor.number()))),
+        Body::Input(_) | Body::Piece(_) => None,
+    }
 }
 
 impl Body2 {

@@ -28,7 +28,7 @@ pub use decoding::decode;
 pub use encoding::encode;
 pub use fault::DatagramFault;
 pub use following::{chains_agree, follows, never_fails, next_chain, taken};
-pub use hearing::heard;
+pub use hearing::{heard, lifted};
 pub use laws::{datagrams_tell_runs_apart, peers_hear_their_run, welcomes_are_shorter};
 pub use message::{Ask2, Body2, Hello, Input2, Message2, Welcome};
 pub use name::{WorldName, is_name_byte};

@@ -2,7 +2,6 @@
 
 ghost use Rattle.std.specs.Prelude.{◌≡◌, IfSome, IsTrue, length};
 ghost use Rattle.std.specs.Option.{option_map};
-ghost use Rattle.byte_codec.specs.Codec.{fixed};
 ghost use Rattle.share_wire.specs.Fields.{vector};
 ghost use Rattle.share_session.specs.Ranges.{is_head};
 ghost use Rattle.share_session.specs.Fields.{number_codec, seat_codec, input_codec, offer_parts, offer_codec, ask_codec, ack_codec, piece_heads, piece_codec, name_codec, hello_codec, count_codec, welcome_codec};
@@ -43,47 +42,41 @@ fn seat_of(bytes: &[u8]) -> Option<(SeatNumber, &[u8])>
     Some((SeatNumber::new(who), rest))
 }
 
-/// Reads 8 bytes.
-fn eight_of(bytes: &[u8]) -> Option<([u8; 8], &[u8])>
-    ensures { option_map (λ r. (r.0, r.1.now)) result ≡ (fixed 8).read bytes.now }
+/// Copies 8 bytes: a cookie.
+fn eight(bytes: &[u8]) -> [u8; 8]
+    requires { length bytes.now ≡ 8 }
+    ensures { result ≡ bytes.now }
 {
-    let Some((front, rest)) = chunk_of(bytes, 8) else {
-        return None;
-    };
     let mut made = [0; 8];
-    made.copy_from_slice(front);
-    Some((made, rest))
+    made.copy_from_slice(bytes);
+    made
 }
 
-/// Reads 16 bytes: a session, a run, a chain or a nonce.
-pub(crate) fn sixteen_of(bytes: &[u8]) -> Option<([u8; 16], &[u8])>
-    ensures { option_map (λ r. (r.0, r.1.now)) result ≡ (fixed 16).read bytes.now }
+/// Copies 16 bytes: a session, a run, a chain or a nonce.
+pub(crate) fn sixteen(bytes: &[u8]) -> [u8; 16]
+    requires { length bytes.now ≡ 16 }
+    ensures { result ≡ bytes.now }
 {
-    let Some((front, rest)) = chunk_of(bytes, 16) else {
-        return None;
-    };
     let mut made = [0; 16];
-    made.copy_from_slice(front);
-    Some((made, rest))
+    made.copy_from_slice(bytes);
+    made
 }
 
-/// Reads a mark.
-fn mark_of(bytes: &[u8]) -> Option<([u8; 32], &[u8])>
-    ensures { option_map (λ r. (r.0, r.1.now)) result ≡ (fixed 32).read bytes.now }
+/// Copies 32 bytes: a mark.
+fn mark_in(bytes: &[u8]) -> [u8; 32]
+    requires { length bytes.now ≡ 32 }
+    ensures { result ≡ bytes.now }
 {
-    let Some((front, rest)) = chunk_of(bytes, 32) else {
-        return None;
-    };
     let mut made = [0; 32];
-    made.copy_from_slice(front);
-    Some((made, rest))
+    made.copy_from_slice(bytes);
+    made
 }
 
 #[tactic(auto, unfolding(crate::specs::Fields::input_codec))]
 pub(crate) fn input_of(bytes: &[u8]) -> Option<(Input2, &[u8])>
     ensures { option_map (λ r. (r.0, r.1.now)) result ≡ input_codec.read bytes.now }
 {
-    let Some((chain, rest)) = sixteen_of(bytes) else {
+    let Some((chain_bytes, rest)) = chunk_of(bytes, 16) else {
         return None;
     };
     let Some((number, rest)) = number_of(rest) else {
@@ -92,6 +85,7 @@ pub(crate) fn input_of(bytes: &[u8]) -> Option<(Input2, &[u8])>
     let Some((entry, rest)) = entry_of(rest) else {
         return None;
     };
+    let chain = sixteen(chain_bytes);
     let input = Input2 {
         chain,
         number,
@@ -190,12 +184,12 @@ pub(crate) fn ack_of(bytes: &[u8]) -> Option<(Ack, &[u8])>
     Some((Ack::new(who.get(), boot, count), rest))
 }
 
-#[tactic(auto, unfolding(crate::specs::Fields::piece_heads))]
+#[tactic(auto, unfolding(crate::specs::Fields::piece_heads, crate::specs::Fields::piece_parts))]
 fn head_of(bytes: &[u8]) -> Option<(PieceHead, &[u8])>
     ensures value { option_map (λ r. (r.0, r.1.now)) result ≡ piece_heads.read bytes.now }
     ensures fits { IfSome result (λ r. IsTrue (is_head r.0)) }
 {
-    let Some((chain, rest)) = sixteen_of(bytes) else {
+    let Some((chain_bytes, rest)) = chunk_of(bytes, 16) else {
         return None;
     };
     let Some((boot, rest)) = u32_of(rest) else {
@@ -210,6 +204,7 @@ fn head_of(bytes: &[u8]) -> Option<(PieceHead, &[u8])>
     let Some((index, rest)) = u32_of(rest) else {
         return None;
     };
+    let chain = sixteen(chain_bytes);
     let head = PieceHead {
         chain,
         boot,
@@ -260,21 +255,24 @@ fn name_of(bytes: &[u8]) -> Option<(WorldName, &[u8])>
 pub(crate) fn hello_of(bytes: &[u8]) -> Option<(Hello, &[u8])>
     ensures { option_map (λ r. (r.0, r.1.now)) result ≡ hello_codec.read bytes.now }
 {
-    let Some((mark, rest)) = mark_of(bytes) else {
+    let Some((mark_bytes, rest)) = chunk_of(bytes, 32) else {
         return None;
     };
     let Some((who, rest)) = seat_of(rest) else {
         return None;
     };
-    let Some((cookie, rest)) = eight_of(rest) else {
+    let Some((cookie_bytes, rest)) = chunk_of(rest, 8) else {
         return None;
     };
-    let Some((nonce, rest)) = sixteen_of(rest) else {
+    let Some((nonce_bytes, rest)) = chunk_of(rest, 16) else {
         return None;
     };
     let Some((name, rest)) = name_of(rest) else {
         return None;
     };
+    let mark = mark_in(mark_bytes);
+    let cookie = eight(cookie_bytes);
+    let nonce = sixteen(nonce_bytes);
     let hello = Hello {
         mark,
         who,
@@ -302,19 +300,19 @@ fn count_of(bytes: &[u8]) -> Option<(ViewerCount, &[u8])>
 pub(crate) fn welcome_of(bytes: &[u8]) -> Option<(Welcome, &[u8])>
     ensures { option_map (λ r. (r.0, r.1.now)) result ≡ welcome_codec.read bytes.now }
 {
-    let Some((mark, rest)) = mark_of(bytes) else {
+    let Some((mark_bytes, rest)) = chunk_of(bytes, 32) else {
         return None;
     };
     let Some((who, rest)) = seat_of(rest) else {
         return None;
     };
-    let Some((cookie, rest)) = eight_of(rest) else {
+    let Some((cookie_bytes, rest)) = chunk_of(rest, 8) else {
         return None;
     };
-    let Some((nonce, rest)) = sixteen_of(rest) else {
+    let Some((nonce_bytes, rest)) = chunk_of(rest, 16) else {
         return None;
     };
-    let Some((run, rest)) = sixteen_of(rest) else {
+    let Some((run_bytes, rest)) = chunk_of(rest, 16) else {
         return None;
     };
     let Some((viewers, rest)) = count_of(rest) else {
@@ -323,6 +321,10 @@ pub(crate) fn welcome_of(bytes: &[u8]) -> Option<(Welcome, &[u8])>
     let Some((kept, rest)) = u32_of(rest) else {
         return None;
     };
+    let mark = mark_in(mark_bytes);
+    let cookie = eight(cookie_bytes);
+    let nonce = sixteen(nonce_bytes);
+    let run = sixteen(run_bytes);
     let welcome = Welcome {
         mark,
         who,

@@ -1,7 +1,7 @@
 //! The body of each message, appended to a packet.
 
 ghost use Rattle.std.specs.Prelude.{◌≡◌, ◌+◌, ◌≤◌, ◌++◌, length, IsTrue};
-ghost use Rattle.share_session.specs.Fields.{number_codec, input_codec, offer_parts, offer_codec, ask_codec, ack_codec, piece_heads, piece_codec, name_codec, hello_codec, welcome_codec};
+ghost use Rattle.share_session.specs.Fields.{number_codec, input_codec, offer_parts, offer_codec, ask_codec, ack_codec, piece_parts, piece_codec, name_codec, hello_codec, welcome_codec};
 
 use crate::fields::OfferParts;
 use crate::message::{Ask2, Hello, Input2, Welcome};
@@ -81,11 +81,12 @@ pub(crate) fn push_ack(out: &mut Packet2, ack: Ack)
     push_u32(out, ack.count());
 }
 
-#[tactic(auto, unfolding(crate::specs::Fields::piece_heads))]
+#[tactic(auto, unfolding(crate::specs::Fields::piece_parts))]
 fn push_head(out: &mut Packet2, head: PieceHead)
     requires { length out.old.items + 36 ≤ 288 }
-    ensures text { out.new.items ≡ out.old.items ++ piece_heads.write head }
+    ensures text { out.new.items ≡ out.old.items ++ piece_parts.write head }
     ensures len { length out.new.items ≡ length out.old.items + 36 }
+    ensures fits { IsTrue (piece_parts.fits head) }
 {
     push_bytes(out, &head.chain);
     push_u32(out, head.boot);
@@ -94,7 +95,7 @@ fn push_head(out: &mut Packet2, head: PieceHead)
     push_u32(out, head.index);
 }
 
-#[tactic(auto, unfolding(crate::specs::Fields::piece_codec))]
+#[tactic(auto, unfolding(crate::specs::Fields::piece_codec, crate::specs::Fields::piece_heads))]
 pub(crate) fn push_piece(out: &mut Packet2, piece: &Piece2)
     requires { length out.old.items ≤ 22 }
     ensures text { out.new.items ≡ out.old.items ++ piece_codec.write piece.now }
