@@ -5,3 +5,4 @@ pub mod FollowLaws
 pub mod Lengths
 pub mod NameLaws
 pub mod RangeLaws
+pub mod WelcomeLaws

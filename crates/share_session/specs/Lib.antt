@@ -9,3 +9,4 @@ pub mod Heard
 pub mod Follows
 pub mod Laws
 pub mod Faults
+pub mod Welcomes

@@ -1,6 +1,6 @@
 //! The message of a datagram, or the first fault.
 
-ghost use Rattle.std.specs.Prelude.{◌≡◌, IfOk, IfSome, IsTrue, Ok, length};
+ghost use Rattle.std.specs.Prelude.{◌≡◌, ◌&&◌, IfOk, IsTrue, Ok, nat_le};
 ghost use Rattle.std.specs.Option.{ok_or, option_map};
 ghost use Rattle.share_session.specs.declared.fault.DatagramFault.TheVariants.{BadBody};
 ghost use Rattle.share_session.specs.declared.message.Body2.TheVariants as body;
@@ -16,60 +16,59 @@ use crate::reading::{
     ack_of, ask_of, hello_of, input_of, number_of, offer_of, piece_of, sixteen, welcome_of,
 };
 use byte_codec::{byte_of, chunk_of};
-use share_rules::all_of;
 
 fn input_in(bytes: &[u8]) -> Option<Body2>
     ensures { result ≡ all_in input_codec body.Input bytes.now }
 {
-    let Some(input) = all_of(input_of(bytes)) else {
-        return None;
-    };
-    Some(Body2::Input(input))
+    match input_of(bytes) {
+        Some((input, [])) => Some(Body2::Input(input)),
+        _ => None,
+    }
 }
 
 fn offer_in(bytes: &[u8]) -> Option<Body2>
     ensures { result ≡ all_in offer_codec body.Offer bytes.now }
 {
-    let Some(offer) = all_of(offer_of(bytes)) else {
-        return None;
-    };
-    Some(Body2::Offer(offer))
+    match offer_of(bytes) {
+        Some((offer, [])) => Some(Body2::Offer(offer)),
+        _ => None,
+    }
 }
 
 fn ask_in(bytes: &[u8]) -> Option<Body2>
     ensures { result ≡ all_in ask_codec body.Ask bytes.now }
 {
-    let Some(ask) = all_of(ask_of(bytes)) else {
-        return None;
-    };
-    Some(Body2::Ask(ask))
+    match ask_of(bytes) {
+        Some((ask, [])) => Some(Body2::Ask(ask)),
+        _ => None,
+    }
 }
 
 fn ack_in(bytes: &[u8]) -> Option<Body2>
     ensures { result ≡ all_in ack_codec body.Ack bytes.now }
 {
-    let Some(ack) = all_of(ack_of(bytes)) else {
-        return None;
-    };
-    Some(Body2::Ack(ack))
+    match ack_of(bytes) {
+        Some((ack, [])) => Some(Body2::Ack(ack)),
+        _ => None,
+    }
 }
 
 fn floor_in(bytes: &[u8]) -> Option<Body2>
     ensures { result ≡ all_in number_codec body.Floor bytes.now }
 {
-    let Some(number) = all_of(number_of(bytes)) else {
-        return None;
-    };
-    Some(Body2::Floor(number))
+    match number_of(bytes) {
+        Some((number, [])) => Some(Body2::Floor(number)),
+        _ => None,
+    }
 }
 
 fn piece_in(bytes: &[u8]) -> Option<Body2>
     ensures { result ≡ all_in piece_codec body.Piece bytes.now }
 {
-    let Some(piece) = all_of(piece_of(bytes)) else {
-        return None;
-    };
-    Some(Body2::Piece(piece))
+    match piece_of(bytes) {
+        Some((piece, [])) => Some(Body2::Piece(piece)),
+        _ => None,
+    }
 }
 
 fn body_in(tag: u8, bytes: &[u8]) -> Option<Body2>
@@ -102,19 +101,19 @@ fn said_in(tag: u8, bytes: &[u8]) -> Option<Message2>
 fn hello_in(bytes: &[u8]) -> Option<Message2>
     ensures { result ≡ all_in hello_codec kind.Hello bytes.now }
 {
-    let Some(hello) = all_of(hello_of(bytes)) else {
-        return None;
-    };
-    Some(Message2::Hello(hello))
+    match hello_of(bytes) {
+        Some((hello, [])) => Some(Message2::Hello(hello)),
+        _ => None,
+    }
 }
 
 fn welcome_in(bytes: &[u8]) -> Option<Message2>
     ensures { result ≡ all_in welcome_codec kind.Welcome bytes.now }
 {
-    let Some(welcome) = all_of(welcome_of(bytes)) else {
-        return None;
-    };
-    Some(Message2::Welcome(welcome))
+    match welcome_of(bytes) {
+        Some((welcome, [])) => Some(Message2::Welcome(welcome)),
+        _ => None,
+    }
 }
 
 fn or_bad(found: Option<Message2>) -> Result<Message2, DatagramFault>
@@ -126,11 +125,19 @@ fn or_bad(found: Option<Message2>) -> Result<Message2, DatagramFault>
     Ok(message)
 }
 
+fn is_body_tag(tag: u8) -> bool
+    ensures { result ≡ (nat_le 1 tag && nat_le tag 6) }
+{
+    tag >= 1 && tag <= 6
+}
+
 fn rest_in(tag: u8, bytes: &[u8]) -> Result<Message2, DatagramFault>
     ensures { result ≡ rest_in tag bytes.now }
 {
+    if is_body_tag(tag) {
+        return or_bad(said_in(tag, bytes));
+    }
     match tag {
-        1..=6 => or_bad(said_in(tag, bytes)),
         7 => or_bad(hello_in(bytes)),
         8 => or_bad(welcome_in(bytes)),
         _ => Err(DatagramFault::BadTag),

@@ -22,6 +22,7 @@ mod piece;
 mod prefix;
 mod reading;
 mod run;
+mod welcoming;
 mod writing;
 
 pub use decoding::decode;

@@ -4,8 +4,9 @@
 use share_entries::{Chain, Entry, Source};
 use share_session::{
     Body2, DatagramFault, Hello, Input2, Message2, Number, Prefix, Run, SeatNumber, Session,
-    ViewerCount, Welcome, WorldName, decode, encode, heard, is_number, session_of, taken,
+    ViewerCount, WorldName, decode, encode, heard, is_number, lifted, session_of, taken,
 };
+use share_wire::{Body, Floor};
 use std::test::Fail;
 
 const MARK: [u8; 32] = [7; 32];
@@ -75,26 +76,26 @@ fn a_hello_and_a_welcome_have_their_bytes(rt: HostRuntime) -> Result<(), Fail> {
     let Some(name) = WorldName::new(b"a-b") else {
         return Err(Fail::from("a-b is no name"));
     };
-    let hello = Message2::Hello(Hello {
+    assert!(rt; name.text() == b"a-b".as_slice());
+    let hello = Hello {
         mark: MARK,
         who: SeatNumber::new(3),
         cookie: [1; 8],
         nonce: [2; 16],
         name,
-    });
-    assert_eq!(rt; encode(&hello).as_slice(), HELLO.as_slice());
-    let welcome = Message2::Welcome(Welcome {
-        mark: MARK,
-        who: SeatNumber::new(3),
-        cookie: [1; 8],
-        nonce: [2; 16],
-        run: RUN,
-        viewers: ViewerCount::new(64),
-        kept: 258,
-    });
-    assert_eq!(rt; encode(&welcome).as_slice(), WELCOME.as_slice());
-    assert!(rt; decode(&HELLO) == Ok(hello));
-    assert!(rt; decode(&WELCOME) == Ok(welcome));
+    };
+    let welcome = hello.welcome([1; 8], RUN, ViewerCount::new(64), 258);
+    assert!(rt; welcome.answers(&hello));
+    assert_eq!(rt;
+        encode(&Message2::Hello(hello)).as_slice(),
+        HELLO.as_slice()
+    );
+    assert_eq!(rt;
+        encode(&Message2::Welcome(welcome)).as_slice(),
+        WELCOME.as_slice()
+    );
+    assert!(rt; decode(&HELLO) == Ok(Message2::Hello(hello)));
+    assert!(rt; decode(&WELCOME) == Ok(Message2::Welcome(welcome)));
     Ok(())
 }
 
@@ -207,12 +208,15 @@ fn each_fault_is_the_first(rt: HostRuntime) -> Result<(), Fail> {
     Ok(())
 }
 
+fn is_taken(prefix: &Prefix, input: Option<Input2>, wanted: Option<Prefix>) -> bool {
+    match input {
+        Some(input) => taken(prefix, &input) == wanted,
+        None => false,
+    }
+}
+
 #[test]
 fn an_input_follows_one_chain(rt: HostRuntime) -> Result<(), Fail> {
-    let (Some(first), Some(other), Some(third)) = (clock(1, RUN), clock(1, CHAIN), clock(3, RUN))
-    else {
-        return Err(Fail::from("1 or 3 is no number"));
-    };
     let start = Prefix {
         applied: 0,
         chain: RUN,
@@ -221,24 +225,30 @@ fn an_input_follows_one_chain(rt: HostRuntime) -> Result<(), Fail> {
         applied: 1,
         chain: CHAIN,
     };
-    assert!(rt; taken(&start, &first) == Some(next));
-    assert!(rt; taken(&next, &first) == Some(next));
-    assert!(rt; taken(&start, &third) == Some(start));
-    assert!(rt; taken(&start, &other).is_none());
+    assert!(rt; is_taken(&start, clock(1, RUN), Some(next)));
+    assert!(rt; is_taken(&next, clock(1, RUN), Some(next)));
+    assert!(rt; is_taken(&start, clock(3, RUN), Some(start)));
+    assert!(rt; is_taken(&start, clock(1, CHAIN), None));
     Ok(())
+}
+
+fn is_heard(session: &Session, number: u64) -> bool {
+    match clock(number, RUN) {
+        Some(input) => {
+            let said = Message2::Said(SESSION, Body2::Input(input));
+            heard(session, &MARK, &said).is_some()
+        }
+        None => false,
+    }
 }
 
 #[test]
 fn a_peer_hears_its_session(rt: HostRuntime) -> Result<(), Fail> {
-    let (Some(first), Some(last), Some(beyond)) =
-        (clock(1, RUN), clock(1 << 20, RUN), clock((1 << 20) + 1, RUN))
-    else {
-        return Err(Fail::from("a number isn't taken"));
-    };
-    let said = |input| Message2::Said(SESSION, Body2::Input(input));
-    assert!(rt; heard(&SESSION, &MARK, &said(first)).is_some());
-    assert!(rt; heard(&SESSION, &MARK, &said(last)).is_some());
-    assert!(rt; heard(&SESSION, &MARK, &said(beyond)).is_none());
-    assert!(rt; heard(&RUN, &MARK, &said(first)).is_none());
+    assert!(rt; is_heard(&SESSION, 1));
+    assert!(rt; is_heard(&SESSION, 1 << 20));
+    assert!(rt; !is_heard(&SESSION, (1 << 20) + 1));
+    assert!(rt; !is_heard(&RUN, 1));
+    let floor = lifted(&Body::Floor(Floor::new(1)));
+    assert!(rt; floor == Some(Body2::Floor(Number::new(1))));
     Ok(())
 }
