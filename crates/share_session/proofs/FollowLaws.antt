@@ -1,6 +1,6 @@
 -- The test of the chain over one log, and of two viewers with one chain.
-use Rattle.std.proofs.Common.{◌≡◌, ℕ, suc, ◌+◌, Bool, true, false, cond, eqb, List, [], ◌∷◌, ◌++◌, length, take, Option, Some, None, inl, inr, refl, sym, ap, subst, ◌∙◌, append_assoc, length-append, arith}
-use Rattle.std.specs.Prelude.{◌≤◌, ◌⊎◌, nat_eq}
+use Rattle.std.proofs.Common.{◌≡◌, ℕ, suc, ◌+◌, Bool, true, false, cond, eqb, List, [], ◌∷◌, ◌++◌, length, take, Option, Some, None, inl, inr, refl, sym, ap, ◌∙◌, append_assoc, length-append, arith}
+use Rattle.std.specs.Prelude.{◌≤◌, nat_eq}
 use Rattle.std.specs.List.{AllByRecursion}
 use Rattle.std.specs.Cmp.Lexicographic.{pointwise, bytes_decides}
 use Rattle.std.proofs.lemmas.Bool.{cases_Bool, eqb-true}

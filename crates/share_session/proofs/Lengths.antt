@@ -1,18 +1,16 @@
 -- How long a Hello and a Welcome are.
-use Rattle.std.proofs.Common.{◌≡◌, ℕ, true, eqb, ltb, List, [], ◌∷◌, ◌++◌, length, arith, length-append}
-use Rattle.std.specs.Prelude.{◌<◌, ◌&&◌, codes}
+use Rattle.std.proofs.Common.{◌≡◌, ℕ, true, eqb, ltb, List, ◌∷◌, ◌++◌, length, arith, length-append}
+use Rattle.std.specs.Prelude.{◌&&◌}
 use Rattle.std.specs.Int.{w32}
 use Rattle.std.proofs.lemmas.Bool.{eqb-true}
 use Rattle.byte_codec.specs.Codec.{number_text}
 use Rattle.byte_codec.proofs.Laws.{both}
 use Rattle.x3d_values.specs.Ranges.{is_viewer}
-use Rattle.share_entries.specs.Head.{is_viewer_count}
 use Rattle.share_session.specs.declared.message.Hello.{Hello}
 use Rattle.share_session.specs.declared.message.Welcome.{Welcome}
 use Rattle.share_session.specs.declared.message.Message2.TheVariants as message
 use Rattle.share_session.specs.Names.{is_name}
 use Rattle.share_session.specs.Fields.{head_codec, seat_codec, name_codec, hello_codec, count_codec, welcome_codec}
-use Rattle.share_session.specs.Datagram.{datagram}
 use Rattle.share_session.specs.Laws.{WelcomesAreShorter}
 
 name_len : (h : Hello) → name_codec.fits h.name ≡ true → length (name_codec.write h.name) ≡ 65

@@ -1,5 +1,5 @@
 -- Offers and pieces in their ranges have bytes.
-use Rattle.std.proofs.Common.{◌≡◌, ℕ, ◌^◌, true, eqb, ltb, length, eq-eqb}
+use Rattle.std.proofs.Common.{◌≡◌, ◌^◌, true, ltb, length, eq-eqb}
 use Rattle.std.specs.Prelude.{◌&&◌, not}
 use Rattle.byte_codec.proofs.Laws.{both, and_true}
 use Rattle.x3d_values.specs.Ranges.{coordinates_fit, is_zero, is_viewer}

@@ -1,14 +1,12 @@
 -- Datagrams of two runs differ, or a hash collides.
 use Rattle.std.proofs.Common.{◌≡◌, ℕ, Bool, true, false, cond, List, [], ◌++◌, length, take, drop, Option, Some, None, Result, Ok, Err, inl, inr, refl, sym, ap, ◌∙◌, eq-eqb, arith}
-use Rattle.std.specs.Prelude.{◌⊎◌, nat_eq}
+use Rattle.std.specs.Prelude.{nat_eq}
 use Rattle.std.specs.Cmp.Lexicographic.{pointwise, bytes_decides}
 use Rattle.std.proofs.lemmas.Bool.{cases_Bool}
 use Rattle.std.proofs.lemmas.List.{take_at, drop_at, length-take-le}
 use Rattle.sha2.specs.Sha256.{sha256}
 use Rattle.sha2.proofs.Facts256.{length-sha256}
 use Rattle.byte_codec.proofs.Laws.{and_true}
-use Rattle.share_wire.specs.declared.message.Message.{Message}
-use Rattle.share_entries.specs.Chain.{Collide}
 use Rattle.share_session.specs.declared.fault.DatagramFault.{DatagramFault}
 use Rattle.share_session.specs.declared.message.Body2.{Body2}
 use Rattle.share_session.specs.declared.message.Message2.{Message2}
@@ -16,7 +14,7 @@ use Rattle.share_session.specs.declared.message.Message2.TheVariants.{Said, Hell
 use Rattle.share_session.specs.Runs.{session_of, SessionsTell}
 use Rattle.share_session.specs.Datagram.{datagram, body_fits, message_fits}
 use Rattle.share_session.specs.Decoding.{decoded}
-use Rattle.share_session.specs.Heard.{as_message, heard}
+use Rattle.share_session.specs.Heard.{as_message}
 use Rattle.share_session.specs.Laws.{HearsItsRun, DatagramsTell}
 use Rattle.share_session.proofs.DatagramLaws.{datagram_again}
 

@@ -1,7 +1,7 @@
 -- The message of a datagram of version 2, or the first fault of the bytes (our choice). The checks
 -- run in this order: fewer than 6 bytes or another magic, the version, the tag, the rest, which has
 -- to be whole and in its ranges.
-use Rattle.std.specs.Prelude.{ℕ, ◌&&◌, ◌==◌, List, Option, None, Some, Result, Ok, Err, nat_le, if◌then◌else◌, codes, nat_eq}
+use Rattle.std.specs.Prelude.{ℕ, ◌&&◌, ◌==◌, List, Option, None, Some, Result, Err, nat_le, if◌then◌else◌, codes, nat_eq}
 use Rattle.std.specs.Option.{ok_or, option_map}
 use Rattle.std.specs.Cmp.Lexicographic.{pointwise}
 use Rattle.byte_codec.specs.Codec.{Codec, ◌>>?◌, whole, fixed}

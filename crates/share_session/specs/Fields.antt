@@ -1,5 +1,5 @@
 -- The body of each message of version 2 as a codec, in the order of its bytes (our choice).
-use Rattle.std.specs.Prelude.{ℕ, ◌&&◌, Bool, List}
+use Rattle.std.specs.Prelude.{ℕ, List}
 use Rattle.std.specs.Int.{w32, w64}
 use Rattle.byte_codec.specs.Codec.{Codec, pair, depends, named, checked, byte, truth, number, fixed}
 use Rattle.x3d_values.specs.Ranges.{is_viewer}

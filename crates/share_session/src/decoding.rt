@@ -20,8 +20,11 @@ use byte_codec::{byte_of, chunk_of};
 fn input_in(bytes: &[u8]) -> Option<Body2>
     ensures { result ≡ all_in input_codec body.Input bytes.now }
 {
-    match input_of(bytes) {
-        Some((input, [])) => Some(Body2::Input(input)),
+    let Some((input, rest)) = input_of(bytes) else {
+        return None;
+    };
+    match rest {
+        [] => Some(Body2::Input(input)),
         _ => None,
     }
 }
@@ -29,8 +32,11 @@ fn input_in(bytes: &[u8]) -> Option<Body2>
 fn offer_in(bytes: &[u8]) -> Option<Body2>
     ensures { result ≡ all_in offer_codec body.Offer bytes.now }
 {
-    match offer_of(bytes) {
-        Some((offer, [])) => Some(Body2::Offer(offer)),
+    let Some((offer, rest)) = offer_of(bytes) else {
+        return None;
+    };
+    match rest {
+        [] => Some(Body2::Offer(offer)),
         _ => None,
     }
 }
@@ -38,8 +44,11 @@ fn offer_in(bytes: &[u8]) -> Option<Body2>
 fn ask_in(bytes: &[u8]) -> Option<Body2>
     ensures { result ≡ all_in ask_codec body.Ask bytes.now }
 {
-    match ask_of(bytes) {
-        Some((ask, [])) => Some(Body2::Ask(ask)),
+    let Some((ask, rest)) = ask_of(bytes) else {
+        return None;
+    };
+    match rest {
+        [] => Some(Body2::Ask(ask)),
         _ => None,
     }
 }
@@ -47,8 +56,11 @@ fn ask_in(bytes: &[u8]) -> Option<Body2>
 fn ack_in(bytes: &[u8]) -> Option<Body2>
     ensures { result ≡ all_in ack_codec body.Ack bytes.now }
 {
-    match ack_of(bytes) {
-        Some((ack, [])) => Some(Body2::Ack(ack)),
+    let Some((ack, rest)) = ack_of(bytes) else {
+        return None;
+    };
+    match rest {
+        [] => Some(Body2::Ack(ack)),
         _ => None,
     }
 }
@@ -56,8 +68,11 @@ fn ack_in(bytes: &[u8]) -> Option<Body2>
 fn floor_in(bytes: &[u8]) -> Option<Body2>
     ensures { result ≡ all_in number_codec body.Floor bytes.now }
 {
-    match number_of(bytes) {
-        Some((number, [])) => Some(Body2::Floor(number)),
+    let Some((number, rest)) = number_of(bytes) else {
+        return None;
+    };
+    match rest {
+        [] => Some(Body2::Floor(number)),
         _ => None,
     }
 }
@@ -65,8 +80,11 @@ fn floor_in(bytes: &[u8]) -> Option<Body2>
 fn piece_in(bytes: &[u8]) -> Option<Body2>
     ensures { result ≡ all_in piece_codec body.Piece bytes.now }
 {
-    match piece_of(bytes) {
-        Some((piece, [])) => Some(Body2::Piece(piece)),
+    let Some((piece, rest)) = piece_of(bytes) else {
+        return None;
+    };
+    match rest {
+        [] => Some(Body2::Piece(piece)),
         _ => None,
     }
 }
@@ -101,8 +119,11 @@ fn said_in(tag: u8, bytes: &[u8]) -> Option<Message2>
 fn hello_in(bytes: &[u8]) -> Option<Message2>
     ensures { result ≡ all_in hello_codec kind.Hello bytes.now }
 {
-    match hello_of(bytes) {
-        Some((hello, [])) => Some(Message2::Hello(hello)),
+    let Some((hello, rest)) = hello_of(bytes) else {
+        return None;
+    };
+    match rest {
+        [] => Some(Message2::Hello(hello)),
         _ => None,
     }
 }
@@ -110,8 +131,11 @@ fn hello_in(bytes: &[u8]) -> Option<Message2>
 fn welcome_in(bytes: &[u8]) -> Option<Message2>
     ensures { result ≡ all_in welcome_codec kind.Welcome bytes.now }
 {
-    match welcome_of(bytes) {
-        Some((welcome, [])) => Some(Message2::Welcome(welcome)),
+    let Some((welcome, rest)) = welcome_of(bytes) else {
+        return None;
+    };
+    match rest {
+        [] => Some(Message2::Welcome(welcome)),
         _ => None,
     }
 }

@@ -1,7 +1,6 @@
 //! What a world of version 1's limits hears of a message of version 2.
 
 ghost use Rattle.std.specs.Prelude.{◌≡◌, None, Some, IfSome, IsTrue, if◌then◌else◌};
-ghost use Rattle.std.specs.Option.{option_map};
 ghost use Rattle.x3d_values.specs.Ranges.{is_input_number};
 ghost use Rattle.share_wire.specs.Messages.{is_next_number};
 ghost use Rattle.share_session.specs.declared.message.Body2.TheVariants as body2;

@@ -1,4 +1,4 @@
-use Rattle.std.proofs.Common.{◌≡◌, ◌∙◌, true, length, sym, ap, rules}
+use Rattle.std.proofs.Common.{◌≡◌, true, length, rules}
 use Rattle.share_wire.specs.Messages.{piece_size}
 use Rattle.share_session.specs.Ranges.{is_head}
 use Rattle.share_session.specs.Fields.{piece_parts}
