@@ -39,8 +39,8 @@ struct x3d_part { void *at; };
 #define X3D_NONE {0}
 #endif
 
-/* The status that every call returns. After any status but X3D_DONE nothing has changed, except
- * where the status or the call says so. */
+/* The status that a call returns, unless it closes a handle or returns something else. After any
+ * status but X3D_DONE nothing has changed, except where the status or the call says so. */
 enum x3d_status {
   X3D_DONE = 0,            /* the call succeeded */
   X3D_SCENE = 1,           /* the scene or its scripts are refused; the refusal's line says why */
@@ -102,7 +102,7 @@ struct x3d_aim {
   int64_t direction_z;
 };
 
-/* Where a ray would enter what it hits first: at n / m of the way along its direction. If it hits
+/* Where a ray would enter what it hits first: at the point origin + (n / m) * direction. If it hits
  * nothing, m is 0. */
 struct x3d_met {
   uint64_t n;
@@ -234,24 +234,21 @@ enum x3d_kind {
   X3D_METER = 5
 };
 
-/* What was left out of a text, for its part: a node, a node that became a group, a field, a rotation
- * that turns, a USE of a name that no node has, a ROUTE to no node, a PROTO without a node in its
- * body, what was refused by a fault of its line, an EXTERNPROTO, an IMPORT, an EXPORT, a UNIT, and
- * the declaration of a field of another type. */
+/* What was left out of a text, for its part. */
 enum x3d_left {
-  X3D_LEFT_NODE = 0,
-  X3D_LEFT_GROUPED = 1,
-  X3D_LEFT_FIELD = 2,
-  X3D_LEFT_TURNED = 3,
-  X3D_LEFT_USE = 4,
-  X3D_LEFT_ROUTE = 5,
-  X3D_LEFT_PROTO = 6,
-  X3D_LEFT_REFUSED = 7,
+  X3D_LEFT_NODE = 0,        /* a node */
+  X3D_LEFT_GROUPED = 1,     /* nothing: a node became a Group or a Transform */
+  X3D_LEFT_FIELD = 2,       /* a field */
+  X3D_LEFT_TURNED = 3,      /* a rotation by an angle other than 0 */
+  X3D_LEFT_USE = 4,         /* a USE of a name that no node has */
+  X3D_LEFT_ROUTE = 5,       /* a ROUTE to or from no node */
+  X3D_LEFT_PROTO = 6,       /* a PROTO without a node in its body */
+  X3D_LEFT_REFUSED = 7,     /* what x3d_world_open refuses at this line */
   X3D_LEFT_EXTERNPROTO = 8,
   X3D_LEFT_IMPORT = 9,
   X3D_LEFT_EXPORT = 10,
   X3D_LEFT_UNIT = 11,
-  X3D_LEFT_DECLARATION = 12
+  X3D_LEFT_DECLARATION = 12 /* the declaration of a field whose type is not read */
 };
 
 /* The most bytes that a datagram has: a buffer of this size always has room for one. */
@@ -281,19 +278,18 @@ uint8_t x3d_datagram_read(const uint8_t *bytes, size_t length, struct x3d_datagr
 
 /* ---- texts */
 
-/* For a text that is refused for the value of a field: writes the line of the instance of a
- * prototype whose braces hold that value. The refusal itself has the line of the field, which is in
- * the prototype's body if IS joins the field. Writes 0 for every other text, and if no instance's
- * braces hold the value. May return: X3D_MEMORY. */
+/* An instance of a prototype may give a field a wrong value, and the refusal then has the line of
+ * the field in the prototype's body. This writes the line on which that instance begins. Writes 0
+ * for every other text, and if no instance's braces hold the value. May return: X3D_MEMORY. */
 uint8_t x3d_text_instance(const uint8_t *text, size_t length, uint32_t *line);
 
 /* ---- the part of a text that the core can run: without the nodes, fields and statements that it
  * doesn't know. docs/SCENES.md says what stays. */
 
-/* Makes the part of a text (Classic encoding). It replaces the one that the handle had. The part is
- * a text too: of its bytes open worlds, a host and viewers. May return: X3D_SCENE if the text has no
- * part, or X3D_MEMORY. Then the handle is empty, and the line `refused NAME line N` is copied as by
- * x3d_world_open. */
+/* Makes the part of a text (Classic encoding). It replaces the one that the handle had. The part
+ * is itself a text: open worlds, a host and viewers with its bytes (x3d_part_copy_text). May
+ * return: X3D_SCENE if the text has no part, or X3D_MEMORY. Then the handle is empty, and the
+ * line `refused NAME line N` is copied as by x3d_world_open. */
 uint8_t x3d_part_open(struct x3d_part *part, const uint8_t *text, size_t length, uint8_t *refusal,
                       size_t room, size_t *wanted);
 /* Frees the part. Does nothing if the handle holds none. */
@@ -302,7 +298,7 @@ void x3d_part_close(struct x3d_part *part);
  * `room` bytes are not enough; nothing is copied then. */
 uint8_t x3d_part_copy_text(const struct x3d_part *part, uint8_t *out, size_t room, size_t *wanted);
 /* Copies a line for each thing that was left out, such as `line 12: node Teapot left out (field
- * geometry)`, and a last line of counts, like x3d_part_copy_text. */
+ * geometry)`, and a last line of counts, as x3d_part_copy_text copies. */
 uint8_t x3d_part_copy_notes(const struct x3d_part *part, uint8_t *out, size_t room, size_t *wanted);
 /* Copies two numbers for each of these lines but the last: the line of the text, and what it is (an
  * x3d_left). May return: X3D_ROOM. */
@@ -365,7 +361,7 @@ uint8_t x3d_world_make_scene(struct x3d_world *world);
 /* Makes the word for a node's type, such as `Transform`. May return: X3D_NO_SUCH_NODE. */
 uint8_t x3d_world_make_type(struct x3d_world *world, uint32_t node);
 /* Makes the label of a node, which no other node has: its DEF name if that is unique, or else `N`
- * and its number. A DEF name of the form `N` and digits does not count. May return:
+ * and its number, also for a node whose DEF name is `N` and digits. May return:
  * X3D_NO_SUCH_NODE. */
 uint8_t x3d_world_make_label(struct x3d_world *world, uint32_t node);
 /* Makes the name of a field of a node, such as `translation`. May return: X3D_NO_SUCH_FIELD if
