@@ -1,5 +1,5 @@
 -- The parts of a text with other DEF names: nodes, instances and statements.
-use Rattle.std.proofs.Common.{◌≡◌, ℕ, Bool, true, false, if◌then◌else◌, List, [], ◌∷◌, ◌++◌, length, Option, Some, None, option_map, Result, Ok, Err, map, bytes_eq, refl, ap, sym, ◌∙◌, subst}
+use Rattle.std.proofs.Common.{◌≡◌, ℕ, Bool, true, false, if◌then◌else◌, List, [], ◌∷◌, ◌++◌, length, Option, Some, None, option_map, Result, Ok, Err, bytes_eq, refl, ap, sym, ◌∙◌, subst}
 use Rattle.std.specs.Prelude.{◌&&◌, not}
 use Rattle.std.specs.Option.{option_map_or, option_or}
 use Rattle.std.proofs.lemmas.List.{length-map, map-append}
@@ -9,11 +9,11 @@ use Rattle.classic_tree.specs.declared.tree.BodyItem.TheOpen.{NodeText-F, Statem
 use Rattle.classic_tree.specs.declared.tree.RouteText.{RouteText}
 use Rattle.proto_flat.specs.declared.fault.ExpandFault.{ExpandFault}
 use Rattle.proto_flat.specs.declared.fault.ExpandFaultKind.TheVariants.{UnknownNode, UseWithoutDef, FieldTwice}
-use Rattle.proto_meaning.specs.Limits.{Met, ANode, AnInstance, AnItem, Outcome, follow, and_then}
+use Rattle.proto_meaning.specs.Limits.{Met, ANode, AnInstance, AnItem, Outcome, follow}
 use Rattle.proto_meaning.specs.Names.{Name, Field, Scope, Stands, Braces, used}
 use Rattle.proto_meaning.specs.Sight.{Instance, Prototype, Sight, Names, Owner, OfType, OfProto, declared, each, meant, taken_by}
-use Rattle.proto_meaning.specs.Flat.{Walk, Does, ◌>>=◌, Node, Item, Proto, Inside, close, close_instance, close_node, fields_of, flat_node, full_node, inside, is_one, meet, node_step, note, note_route, pure, refuse, renamed, statement_step, through, unless_twice}
-use Rattle.laws_documents.specs.RenamedDefs.{nameless, route_in}
+use Rattle.proto_meaning.specs.Flat.{Walk, ◌>>=◌, Node, Item, Proto, Inside, close, close_instance, close_node, fields_of, flat_node, full_node, inside, is_one, meet, node_step, note, note_route, pure, refuse, renamed, statement_step, through, unless_twice}
+use Rattle.laws_documents.specs.RenamedDefs.{route_in}
 use Rattle.laws_documents.proofs.LineWalks.{Both, Equal, both_append}
 use Rattle.laws_documents.proofs.DefWalks.{Alike, Apart, DoesAlike, InsideAlike, InstanceAlike, MadeAlike, OwnerAlike, PrototypeAlike, PrototypesAlike, ScopeAlike, SeenAlike, SightAlike, WalkAlike, each_alike, if_alike, meet_alike, other_braces, owned_by, pure_alike, refuse_alike, then_alike, through_alike}
 use Rattle.laws_documents.proofs.DefSteps.{close_alike, close_node_alike, renamed_nameless, route_alike, use_alike}

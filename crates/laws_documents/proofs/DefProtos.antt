@@ -17,7 +17,7 @@ use Rattle.proto_meaning.specs.Sight.{Put, Prototype, Sight, Names, and_see, asi
 use Rattle.proto_meaning.specs.Flat.{Walk, Does, ◌>>=◌, Node, Stated, begin, body_finds, body_sees, declare, declare_body, default, field, given_finds, given_sees, in_body, leave_out, made, note, proto_step, prototype, pure, put_default, put_in, through}
 use Rattle.proto_meaning.proofs.Trees.{proto_of}
 use Rattle.laws_documents.proofs.LineWalks.{Both, Equal, both_append}
-use Rattle.laws_documents.proofs.DefWalks.{Apart, ComesAlike, DoesAlike, OutcomeAlike, PrototypeAlike, PrototypesAlike, PutAlike, Seen, SeenAlike, SeesAlike, SightAlike, WalkAlike, aside_alike, each_alike, if_alike, other_braces, pure_alike, see_alike, sees_then, then_alike, through_alike}
+use Rattle.laws_documents.proofs.DefWalks.{Apart, ComesAlike, DoesAlike, OutcomeAlike, PrototypeAlike, PrototypesAlike, PutAlike, Seen, SeenAlike, SeesAlike, SightAlike, WalkAlike, aside_alike, each_alike, if_alike, pure_alike, see_alike, sees_then, then_alike, through_alike}
 use Rattle.laws_documents.proofs.DefParts.{FindsAlike, GivenAlike, ProtoAlike, StatedAlike, each_found, found_then, given_found, given_saw, left_out}
 use Rattle.laws_documents.proofs.DefNodes.{FoundAlike, declared_alike}
 

@@ -11,7 +11,6 @@ use Rattle.classic_tree.specs.declared.tree.Given.TheVariants as given
 use Rattle.classic_tree.specs.declared.tree.NodeText.{NodeText}
 use Rattle.classic_tree.specs.declared.tree.ProtoText.{ProtoText, fold_out-ProtoText, out-ProtoText}
 use Rattle.classic_tree.specs.declared.tree.RawValue.TheVariants as value
-use Rattle.classic_tree.specs.declared.tree.RouteText.{RouteText}
 use Rattle.classic_tree.specs.declared.tree.Statement.{Statement}
 use Rattle.classic_tree.proofs.Mapped.{given_mapped, declaration_mapped, interface_mapped}
 use Rattle.proto_flat.specs.Fault.{fault}
@@ -26,7 +25,7 @@ use Rattle.proto_meaning.specs.Flat.{Walk, Does, ◌>>=◌, Item, Node, Stated, 
 use Rattle.proto_meaning.specs.Flat.{item as item_part, node as node_part, proto as proto_part, statement as stated}
 use Rattle.proto_meaning.proofs.Trees.{item-field, item-declaration, item-route, item-proto, node-use, node-full, proto_of, statement-node, statement-route, statement-proto}
 use Rattle.proto_meaning.proofs.Induction.{OfDeclaration, OfGiven, Layers, every}
-use Rattle.laws_documents.specs.RenamedDefs.{AreNamedAlike, DefNamesDontMatter, InScope, IsOneToOne, declaration_in, nameless, nameless_flat, renamed, renamed_item, renamed_node, renamed_proto, renamed_statement, route_in}
+use Rattle.laws_documents.specs.RenamedDefs.{AreNamedAlike, DefNamesDontMatter, InScope, IsOneToOne, declaration_in, nameless, nameless_flat, renamed_item, renamed_node, renamed_proto, renamed_statement, route_in}
 use Rattle.laws_documents.proofs.DefTexts as texts
 use Rattle.laws_documents.proofs.DefTexts.{OpenProto, in_item, in_statement, other_declaration, other_given, other_open, proto-open}
 use Rattle.laws_documents.proofs.LineWalks.{Both, Equal}

@@ -1,7 +1,7 @@
 -- DEF names may be others (ISO/IEC 19775-1, 4.4.3, DEF and USE; 4.4.7, run-time name scope): the
 -- text and the body of each prototype are scopes of their own. If the names of each scope are
 -- renamed one-to-one, at DEF, USE and ROUTE, nothing changes but the names of nodes.
-use Rattle.std.specs.Prelude.{◌≡◌, map, Option, None, option_map, Result, Ok, Err}
+use Rattle.std.specs.Prelude.{◌≡◌, map, None, option_map, Result, Ok, Err}
 use Rattle.classic_tree.specs.declared.tree.BodyItem.{BodyItem, fold-BodyItem}
 use Rattle.classic_tree.specs.declared.tree.BodyItem.TheOpen.{BodyItem-F, NodeText-F, Statement-F, ProtoText-F}
 use Rattle.classic_tree.specs.declared.tree.BodyItem.TheVariants as item
