@@ -22,10 +22,12 @@ extern "C" {
  *   other call on a closed handle returns X3D_CLOSED, or X3D_RANGE, which some calls test first.
  */
 
-/* Handles: each holds a heap object (a world, a host or a viewer), or nothing. */
+/* Handles: each holds a heap object (a world, a host, a viewer, or the part of a text), or nothing.
+ */
 struct x3d_world { void *at; };
 struct x3d_host { void *at; };
 struct x3d_viewer { void *at; };
+struct x3d_part { void *at; };
 #ifdef __cplusplus
 #define X3D_NONE {nullptr}
 #else
@@ -226,6 +228,26 @@ enum x3d_kind {
   X3D_METER = 5
 };
 
+/* What was left out of a text, for its part: a node, a node that became a group, a field, a rotation
+ * that turns, a USE of a name that no node has, a ROUTE to no node, a PROTO without a node in its
+ * body, what was refused by a fault of its line, an EXTERNPROTO, an IMPORT, an EXPORT, a UNIT, and
+ * the declaration of a field of another type. */
+enum x3d_left {
+  X3D_LEFT_NODE = 0,
+  X3D_LEFT_GROUPED = 1,
+  X3D_LEFT_FIELD = 2,
+  X3D_LEFT_TURNED = 3,
+  X3D_LEFT_USE = 4,
+  X3D_LEFT_ROUTE = 5,
+  X3D_LEFT_PROTO = 6,
+  X3D_LEFT_REFUSED = 7,
+  X3D_LEFT_EXTERNPROTO = 8,
+  X3D_LEFT_IMPORT = 9,
+  X3D_LEFT_EXPORT = 10,
+  X3D_LEFT_UNIT = 11,
+  X3D_LEFT_DECLARATION = 12
+};
+
 /* The most bytes that a datagram has: a buffer of this size always has room for one. */
 #define X3D_PACKET 256
 
@@ -251,6 +273,35 @@ const char *x3d_status_text(uint8_t status);
  * X3D_BAD_TAG, X3D_BAD_RANGE or X3D_ZERO_RAY if the bytes are not a datagram. */
 uint8_t x3d_datagram_read(const uint8_t *bytes, size_t length, struct x3d_datagram *datagram);
 
+/* ---- texts */
+
+/* For a text that is refused for the value of a field: writes the line of the instance of a
+ * prototype whose braces hold that value. The refusal itself has the line of the field, which is in
+ * the prototype's body if IS joins the field. Writes 0 for every other text, and if no instance's
+ * braces hold the value. May return: X3D_MEMORY. */
+uint8_t x3d_text_instance(const uint8_t *text, size_t length, uint32_t *line);
+
+/* ---- the part of a text that the core can run: without the nodes, fields and statements that it
+ * doesn't know. docs/SCENES.md says what stays. */
+
+/* Makes the part of a text (Classic encoding). It replaces the one that the handle had. The part is
+ * a text too: of its bytes open worlds, a host and viewers. May return: X3D_SCENE if the text has no
+ * part, or X3D_MEMORY. Then the handle is empty, and the line `refused NAME line N` is copied as by
+ * x3d_world_open. */
+uint8_t x3d_part_open(struct x3d_part *part, const uint8_t *text, size_t length, uint8_t *refusal,
+                      size_t room, size_t *wanted);
+/* Frees the part. Does nothing if the handle holds none. */
+void x3d_part_close(struct x3d_part *part);
+/* Copies the text of the part, and writes its number of bytes to `wanted`. May return: X3D_ROOM if
+ * `room` bytes are not enough; nothing is copied then. */
+uint8_t x3d_part_copy_text(struct x3d_part *part, uint8_t *out, size_t room, size_t *wanted);
+/* Copies a line for each thing that was left out, such as `line 12: node Teapot left out (field
+ * geometry)`, and a last line of counts, like x3d_part_copy_text. */
+uint8_t x3d_part_copy_notes(struct x3d_part *part, uint8_t *out, size_t room, size_t *wanted);
+/* Copies two numbers for each of these lines but the last: the line of the text, and what it is (an
+ * x3d_left). May return: X3D_ROOM. */
+uint8_t x3d_part_copy_numbers(struct x3d_part *part, int64_t *out, size_t room, size_t *wanted);
+
 /* ---- a world */
 
 /* Opens the world of a scene's text (Classic encoding). It replaces the one that the handle had.
@@ -259,6 +310,10 @@ uint8_t x3d_datagram_read(const uint8_t *bytes, size_t length, struct x3d_datagr
  * to `wanted`. */
 uint8_t x3d_world_open(struct x3d_world *world, const uint8_t *text, size_t length,
                        uint8_t *refusal, size_t room, size_t *wanted);
+/* Opens the world of a part's text, like x3d_world_open. May return: X3D_CLOSED if `part` holds
+ * none; the world is then what it was. */
+uint8_t x3d_world_open_part(struct x3d_world *world, struct x3d_part *part, uint8_t *refusal,
+                            size_t room, size_t *wanted);
 /* Frees the world. Does nothing if the handle holds none. */
 void x3d_world_close(struct x3d_world *world);
 /* Writes the number of inputs that were applied. The next input has that number plus 1. */

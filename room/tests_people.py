@@ -2,7 +2,7 @@
 import time
 
 import browser
-from served import BUTTON, LATER, Windows, scene, scene_file, spot
+from served import BUTTON, LATER, TRAINER, Windows, scene, scene_file, spot
 from tests_windows import slow_door
 
 
@@ -29,6 +29,57 @@ def test_people_have_names_and_pointers():
         ben.value("document.getElementById('share').click()")
         ben.wait("document.getElementById('code').naturalWidth > 0 || document.getElementById('code').hidden", LATER)
         assert ben.value("document.getElementById('link').value") == windows.served.address
+
+
+def test_a_trainers_link_isnt_sent_on():
+    """Its secret leaves the address, and stays with the window. It may be opened where the room is open already."""
+    is_trainer = "document.body.classList.contains('trainer') && room.state.id > 0"
+    with Windows(2) as windows:
+        trainer, one = windows.pages
+        assert trainer.value(f"{is_trainer} && location.hash") == "#name=Ana"
+        trainer.value("document.getElementById('share').click()")
+        assert trainer.value("document.getElementById('link').value") == windows.served.address
+        trainer.value("location.reload()")
+        trainer.wait(f"window.room && {is_trainer}", LATER)
+        seat = one.value("room.state.who")
+        assert not one.value(is_trainer) and one.value("getComputedStyle(document.getElementById('reset')).display") == "none"
+        one.value(f"location.href = '{windows.served.address}#trainer={TRAINER}'")
+        one.wait(f"window.room && {is_trainer} && location.href === '{windows.served.address}'", LATER)
+        assert one.value("room.state.who") == seat
+        one.value("document.getElementById('reset').click()")
+        one.wait("room.state.run === 2", LATER)
+
+
+def test_an_invitation_is_for_other_machines_where_these_reach_the_room():
+    named = ("--address", "0.0.0.0", "--name", "room.example")
+    with Windows(0, more=named, flags=("--host-resolver-rules=MAP room.example 127.0.0.1",)) as windows:
+        address, shown = windows.served.address, "document.getElementById('{}').hidden"
+        for opened in (address, address.replace("room.example", "127.0.0.1")):
+            page = windows.browser.open(opened)
+            page.wait("window.room && room.state.id", LATER)
+            page.value("document.getElementById('share').click()")
+            assert page.value("document.getElementById('link').value") == address and page.value(shown.format("only-here"))
+            page.wait(f"{shown.format('code')} || document.getElementById('code').naturalWidth > 0", LATER)
+            assert page.value("document.getElementById('second').href") == opened
+
+
+def test_who_comes_beyond_the_seats_watches():
+    with slow_door() as job, Windows(0, job, more=("--each", "1")) as windows:
+        pages = windows.pages = [windows.open(number) for number in (0, 1)]
+        for page in pages:
+            page.wait("window.room && room.drawn.content && room.stage.draws && room.state.people.length === 2", LATER)
+        one, watches = pages
+        assert one.value("room.state.who") == 0 and watches.value("room.state.who") is None
+        assert one.value("document.querySelector('.chip:nth-child(2) small').textContent") == "watches"
+        # What can be pressed isn't shown to it, and a click turns its view at most.
+        assert watches.value("document.getElementById('first').hidden && !document.querySelector('.hint')")
+        watches.click(spot(watches, BUTTON))
+        assert watches.value("room.pointer.answers") == {}
+        one.click(spot(one, BUTTON))
+        watches.wait("room.placeOf('Door')[0] > 1.09", LATER)
+        # Its hand is seen.
+        watches.value("document.getElementById('hand').click()")
+        one.wait("document.querySelectorAll('.chip .hand').length === 1", LATER)
 
 
 def middle(page, what):
@@ -104,6 +155,11 @@ def test_a_faulty_scene_is_shown_over_the_picture():
             told = page.value("document.getElementById('fault').innerText")
             assert f"scene.x3dv:{line}" in told and 'node type "Teapot" isn\'t read' in told, told
         windows.shoot("fault")
+        narrow = {"width": 390, "height": 844, "deviceScaleFactor": 1, "mobile": False}
+        windows.pages[0].call("Emulation.setDeviceMetricsOverride", **narrow)
+        windows.pages[0].wait("room.stage.size[0] === 390", LATER)
+        box = windows.pages[0].value("(({ left, right }) => [left, right])(document.getElementById('fault').getBoundingClientRect())")
+        assert 0 <= box[0] < box[1] <= 390, box
         file.write_text(scene().replace("0.2 0.45 0.7", "0.9 0.1 0.1"))
         for page in windows.pages:
             page.wait("document.getElementById('fault').hidden && room.state.run === 2", LATER)

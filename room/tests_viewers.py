@@ -1,6 +1,5 @@
 """Tests of windows of a browser: where their viewers are, and what is shown where one is stopped, hidden or alone."""
-from library import WASM
-from served import BUTTON, LATER, Served, Windows, spot, wait_equal
+from served import BUTTON, LATER, Served, Windows, places_of_viewers, spot, wait_equal
 from tests_windows import assert_door_is_seen, slow_door
 
 
@@ -46,16 +45,13 @@ def test_a_hidden_window_shows_what_happened_once_it_is_seen():
 
 def test_the_viewer_is_in_the_window_where_the_library_is():
     """Else it is in the server. The page says which, and each window has its digest of itself."""
-    for words, where in (((), "in this window"), (("--wasm", "/none"), "in the server")):
-        if not words and not (WASM / "x3d.wasm").exists():
-            print("there is no library for windows (make wasm)", end=", ")
-            continue
-        with Windows(2, more=("--each", "64", *words)) as windows:
-            last, (one, other) = wait_equal(windows.pages), windows.pages
+    for words, where in places_of_viewers():
+        with Windows(2, more=words) as windows:
+            here, _, (one, other) = where == "in this window", wait_equal(windows.pages), windows.pages
             assert where in one.value("document.getElementById('where').textContent")
             far = [viewer["far"] for viewer in one.value("room.state.status.viewers")]
-            assert far == [not words] * 2 and one.value("Boolean(room.own.viewer)") == (not words)
-            if not words:
+            assert far == [here] * 2 and one.value("Boolean(room.own.viewer)") == here
+            if here:
                 marks = "room.state.status.viewers.map(({ at, digest }) => `${at} ${digest}`)"
                 one.wait(f"{marks}.every((mark) => mark === `${{room.own.at}} ${{room.own.digest}}`)", LATER)
                 other.click(spot(other, BUTTON))

@@ -48,10 +48,12 @@ const REASONS = {
 };
 
 export class Refusal extends Error {
-  constructor(line) {
-    super(line);
+  constructor(line, instance = 0) {
+    super(instance === 0 ? line : `${line}, in the instance on line ${instance}`);
     this.name = "Refusal";
     this.status = SCENE;
+    this.line = line;
+    this.instance = instance || null;
   }
 }
 

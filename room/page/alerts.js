@@ -1,5 +1,5 @@
 /* What is said over the picture: that the viewer is stopped, that the server is gone, what is wrong with the scene. */
-import { byId, state, write } from "./core.js";
+import { byId, element, state, write } from "./core.js";
 import { ask, connectAgain, on } from "./link.js";
 
 function showFault(fault) {
@@ -8,6 +8,18 @@ function showFault(fault) {
   write(byId("fault-place"), fault.line ? `${fault.file}:${fault.line}` : fault.file);
   write(byId("fault-what"), fault.what);
   write(byId("fault-text"), fault.text.trim());
+}
+
+/* What was left out of a scene's file that isn't read whole, behind a fold. */
+function showLeft({ count, left }) {
+  state.partly = Boolean(count);
+  byId("left").hidden = !left.length;
+  write(byId("left-count"), count);
+  byId("left-lines").replaceChildren(...left.map(([line, what]) => {
+    const item = element("li", "", what);
+    item.value = line;
+    return item;
+  }));
 }
 
 /* How many agree, in words; the number and the digest are for who points at it. */
@@ -34,6 +46,7 @@ on("status", (status) => {
   document.body.classList.toggle("grey", stopped && !state.replay);
 });
 on("fault", ({ fault }) => showFault(fault));
+on("left", showLeft);
 on("open", () => {
   byId("gone").hidden = true;
   document.body.classList.remove("lost");

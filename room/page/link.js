@@ -22,6 +22,15 @@ export const memory = {
   holds: false, boot: 0, life: null,
 };
 let password = given.get("password") || undefined;
+/* The trainer's secret leaves the address, which people copy and send on; this window keeps it. */
+const trainer = given.get("trainer") || read(sessionStorage, `${KEY} trainer`);
+if (given.has("trainer")) {
+  keep(sessionStorage, `${KEY} trainer`, trainer);
+  given.delete("trainer");
+  history.replaceState(null, "", String(given) ? `#${given}` : location.pathname);
+}
+// Another link to this room is opened here: only what stands behind # differs, so the page has to load again.
+window.addEventListener("hashchange", () => location.reload());
 
 function read(store, key) {
   try { return store.getItem(key) || undefined; } catch (error) { return undefined; }
@@ -80,7 +89,7 @@ export function connect() {
   socket.onopen = () => {
     const { token, name, color, holds, boot, life } = memory;
     socket.send(JSON.stringify({
-      do: "enter", token, name, color, password, trainer: given.get("trainer") || undefined,
+      do: "enter", token, name, color, password, trainer,
       watch: given.has("watch") || undefined, holds, boot, life,
     }));
     happen("open", {});

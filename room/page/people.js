@@ -11,6 +11,7 @@ const me = () => state.people.find((person) => person.id === state.id);
 on("you", (you) => {
   Object.assign(state, {
     id: you.id, who: you.who, token: you.token, trainer: you.trainer, orientations: you.orientations, run: you.run,
+    place: you.place,
   });
   memory.token = you.token;
   colors = you.colors;
@@ -101,11 +102,13 @@ function say(entry) {
 /* The link. */
 
 function invite() {
-  const dialog = byId("invite"), link = new URL(location.pathname, location.href);
-  byId("link").value = link.href;
-  const code = byId("code"), here = /^(localhost|127\..*|\[::1\])$/.test(location.hostname);
+  const dialog = byId("invite"), own = new URL(location.pathname, location.href).href;
+  // At an address of this computer alone the server says by which one others reach it, if they do.
+  const local = /^(localhost|127\..*|\[::1\])$/.test(location.hostname), here = local && !state.place;
+  byId("link").value = local && state.place ? state.place : own;
+  const code = byId("code");
   byId("only-here").hidden = !here;
-  byId("second").href = link.href;
+  byId("second").href = own;
   // A phone has no use for an address of this computer alone.
   code.hidden = here;
   code.onerror = () => { code.hidden = true; };

@@ -1,6 +1,6 @@
 /* What three.js draws of the world: `things` are those of each node, `users` the Shapes that a part belongs to. */
 import { addToBatch, fillBatches, forgetBatches, takeFromBatch } from "./batches.js";
-import { color, field, listed, nodeIn, state, valueOf, vector } from "./core.js";
+import { color, field, listed, nodeIn, state, valueBy, valueOf, vector } from "./core.js";
 import { LINE, linesOf } from "./names.js";
 import { forgetShapes, geometryOf, isShared, materialOf, textMesh } from "./shapes.js";
 
@@ -167,13 +167,12 @@ function showLine(line) {
   if (lane.length > STOPS) lane.shift();
 }
 
-/* What changed: lines of the trace, and what fields hold now. What is drawn is what they hold: an output that has sent
-   at a timestamp still sets its field, and sends no second line. */
+/* What was set is drawn as it is now, and lines of the trace go to their lanes. */
 export function showNews(news) {
   state.n = news.n;
   for (const line of linesOf(news.trace)) showLine(line);
-  for (const [number, name, text] of news.now) {
-    state.nodes[number].fields[name] = valueOf(text);
+  for (const [number, name, type, told] of news.now) {
+    state.nodes[number].fields[name] = valueBy(type, told);
     for (const user of drawn.users.get(number) || [number]) if (KINDS[state.nodes[user].kind]) drawn.stale.add(user);
   }
 }

@@ -1,6 +1,7 @@
 //! Why a call is refused.
 
 use crate::library;
+use crate::raw;
 use std::error::Error;
 use std::fmt;
 
@@ -11,11 +12,33 @@ pub struct Refusal {
     pub line: String,
     /// Whether memory was refused, and not the scene.
     pub is_memory: bool,
+    /// The line of the instance whose braces hold the refused value, if an instance's do.
+    pub instance: Option<u32>,
+}
+
+const MEMORY: u8 = 5;
+
+impl Refusal {
+    /// The refusal of a text by the status and the line of a call.
+    pub(crate) fn of(text: &[u8], status: u8, line: &[u8]) -> Refusal {
+        let mut instance = 0;
+        // SAFETY: the bytes are lent for the call.
+        let told = unsafe { raw::x3d_text_instance(text.as_ptr(), text.len(), &mut instance) };
+        Refusal {
+            line: String::from_utf8_lossy(line).into_owned(),
+            is_memory: status == MEMORY,
+            instance: (told == 0 && instance > 0).then_some(instance),
+        }
+    }
 }
 
 impl fmt::Display for Refusal {
     fn fmt(&self, f: &mut fmt::Formatter<'_>) -> fmt::Result {
-        f.write_str(&self.line)
+        f.write_str(&self.line)?;
+        match self.instance {
+            Some(line) => write!(f, ", in the instance on line {line}"),
+            None => Ok(()),
+        }
     }
 }
 
