@@ -19,8 +19,8 @@ export RT_JOBS ?= $(shell nproc | awk '{ print ($$1 < 4 ? $$1 : 4) }')
 RT := "$(CURDIR)/scripts/rt"
 
 # Whether a program or a library stands, and no source is newer.
-fresh = { [ -e $(1) ] && [ -z "$$(find crates include/x3d.h bindings/c/version.c packaging/version -path '*/out' -prune -o \
-  \( -name '*.rt' -o -name '*.antt' -o -path 'include/*' -o -path 'bindings/*' -o -path 'packaging/*' \) \
+fresh = { [ -e $(1) ] && [ -z "$$(find crates include/x3d.h bindings/c/version.c bindings/c/guard.h scripts/guards packaging/version -path '*/out' -prune -o \
+  \( -name '*.rt' -o -name '*.antt' -o -path 'include/*' -o -path 'bindings/*' -o -path 'scripts/*' -o -path 'packaging/*' \) \
   -newer $(1) -print -quit)" ]; }
 
 # Proves and builds the program, and runs a job: its trace, and then its scene.

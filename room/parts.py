@@ -27,8 +27,8 @@ def part_of(text):
         return None
     part, notes = found
     *lines, count = notes.strip("\n").split("\n")
-    left = [NOTE.fullmatch(line).groups() for line in lines]
-    return Part(part, tuple((int(line), what) for line, what in left), count)
+    left = tuple((int(found[1]), found[2]) for found in map(NOTE.fullmatch, lines) if found)
+    return Part(part, left, count)
 
 
 def by_library(text):

@@ -50,8 +50,8 @@ def arguments():
     add("--name", action="append", default=[], metavar="HOST",
         help="a name by which this server is reached, beside localhost and this machine's own; may be given twice")
     add("--password", metavar="WORD", help="ask each window for this before it comes in")
-    add("--trainer", metavar="WORD", default=secrets.token_urlsafe(9),
-        help="the secret of the trainer's link (else a new one at each start)")
+    add("--trainer", metavar="WORD",
+        help="the secret of the trainer's link (else a new one, which --keep keeps)")
     add("--keep", metavar="FOLDER", help="keep each room on the disk there, and go on with it at the next start")
     add("--each", type=int, default=EACH, metavar="N",
         help=f"seats that one address may take ({EACH}); who comes beyond them watches")
@@ -62,6 +62,19 @@ def arguments():
         "where there is none they run in the server")
     add("--three", type=Path, default=Path(THREE), metavar="FILE", help=f"three.js, r111 ({THREE})")
     return words
+
+
+def trainers_secret(folder):
+    """A new secret, or the one that was kept, so that the trainer's link stays what it was."""
+    path = Path(folder, ".trainer") if folder else None
+    if path and path.exists():
+        return path.read_text().strip()
+    secret = secrets.token_urlsafe(9)
+    if path:
+        path.parent.mkdir(parents=True, exist_ok=True)
+        path.touch(0o600)
+        path.write_text(secret)
+    return secret
 
 
 def services_of(given):
@@ -140,6 +153,7 @@ async def serve(given):
     for name in services:
         print(f"{place}{name}/", flush=True)
         print(f"  trainer: {place}{name}/#trainer={given.trainer}", flush=True)
+    print("Open the trainer's link yourself, and send the other one. Ctrl-C ends.", flush=True)
     if sys.stderr.isatty() and not given.proxy and all(map(is_here_alone, addresses)):
         print("room: for this machine alone; --address 0.0.0.0 lets others in", file=sys.stderr, flush=True)
     clocks = [asyncio.ensure_future(service.run()) for service in services.values()]
@@ -162,6 +176,7 @@ def main():
         sys.exit(f"room: there is no {given.three}: Debian's package libjs-three has it")
     if not (given.wasm / "x3d.wasm").exists():
         given.wasm = None
+    given.trainer = given.trainer or trainers_secret(given.keep)
     logging.getLogger("aiohttp.server").addFilter(lambda record: not is_no_request(record))
     try:
         asyncio.run(serve(given))

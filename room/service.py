@@ -155,8 +155,8 @@ class Service:
         self.tell(window, "fault", {"fault": fault and fault.told()})
         self.tell(window, "left", {"file": self.file.name, "count": part.count, "left": part.left[:LEFT]})
 
-    def restart(self, text, why):
-        """A new run, with the windows that there are in the seats that they have."""
+    def restart(self, text, why, by=None):
+        """A new run, with the windows that there are in the seats that they have; why, and whose window began it."""
         channel = self.channel()
         self.open(text)
         self.runs += 1
@@ -167,7 +167,7 @@ class Service:
             self.tell(window, "run", {"run": self.runs, "why": why, "orientations": self.orientations})
             if window.who is not None:
                 self.room.take_seat(window.who, *self.held_by(window))
-        self.record.say(-1, "", "", why)
+        self.record.say(-1, by.name if by else "", by.color if by else "", why)
 
     # Windows.
 

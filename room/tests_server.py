@@ -51,6 +51,19 @@ def test_help_describes_each_option():
         assert len(described) >= 8, (word, described)
 
 
+def test_the_trainers_link_stays_where_rooms_are_kept():
+    with scene_file(scene(), "door.x3dv") as file:
+        links = []
+        for _ in range(2):
+            words = [HERE / "server.py", "--port", "0", "--keep", file.parent / "kept", file]
+            with subprocess.Popen(words, stdout=subprocess.PIPE, text=True) as server:
+                told = [server.stdout.readline().strip() for _ in range(3)]
+                server.terminate()
+            assert told[0].endswith("/door/") and "Open the trainer's link yourself" in told[2], told
+            links.append(told[1].partition("#trainer=")[2])
+        assert links[0] and links[0] == links[1] and (file.parent / "kept/.trainer").stat().st_mode & 0o77 == 0, links
+
+
 def test_a_port_that_is_taken_is_said():
     with Served() as served:
         words = [HERE / "server.py", "--port", str(served.port), PANEL]

@@ -12,6 +12,8 @@ def test_a_killed_viewer_comes_back():
         trainer.value("document.querySelectorAll('#viewers .kill')[1].click()")
         one.wait("!document.getElementById('stopped').hidden && document.body.classList.contains('grey')")
         assert trainer.value("document.getElementById('stopped').hidden")
+        one.wait("document.getElementById('log').textContent.includes('Ana stopped the viewer of Ben')", LATER)
+        trainer.wait("document.getElementById('badge').textContent === '1 of 2 viewers runs'", LATER)
         trainer.value("document.getElementById('inside').open = false")
         trainer.click(spot(trainer, BUTTON))
         trainer.wait("room.placeOf('Door')[0] > 0.01", LATER)
@@ -64,6 +66,7 @@ def test_it_says_when_the_server_is_gone():
         windows.served.stop()
         for page in windows.pages:
             page.wait("!document.getElementById('gone').hidden", LATER)
+            assert page.value("document.getElementById('badge').textContent") == "Not connected"
         # Another server at the same address: the windows come back.
         with Served(port=windows.served.port):
             for page in windows.pages:

@@ -66,7 +66,7 @@ def test_a_click_in_one_window_opens_the_door_in_both():
         assert opened[0] - shut[0] > 0.08, (shut, opened)
         windows.pages[0].wait("document.getElementById('badge').textContent === 'All 2 viewers agree'")
         title = windows.pages[0].value("document.getElementById('badge').title")
-        assert re.fullmatch(r"equal at input \d+, digest [0-9a-f]{16}", title), title
+        assert re.fullmatch(r"All see the same: equal at input \d+, digest [0-9a-f]{16}", title), title
 
 
 def assert_second_route_is_drawn(page):
@@ -181,6 +181,40 @@ def test_sixty_four_windows_show_one_world():
             assert badge == "All 64 viewers agree", badge
 
 
+# Two squares side by side: by face, by face and index, by corner, by corner and index. The colors are red, green and blue.
+SQUARES = """#X3D V3.0 utf8
+Viewpoint { position 1 0.5 4 }
+Shape {
+  geometry IndexedFaceSet {
+    coord Coordinate { point [ 0 0 0, 1 0 0, 1 1 0, 0 1 0, 2 0 0, 2 1 0 ] } coordIndex [ 0 1 2 3 -1 1 4 5 2 -1 ]
+    color Color { color [ 1 0 0, 0 1 0, 0 0 1, 1 0 0, 0 0 1, 0 0 1 ] } %s
+  }
+}
+"""
+
+
+def test_faces_have_their_colors():
+    red, green, blue = (255, 0, 0), (0, 255, 0), (0, 0, 255)
+    # Of each square what its middle has, and at last what the far corner of the second one has.
+    ways = (
+        ("colorPerVertex FALSE", red, green, green),
+        ("colorPerVertex FALSE colorIndex [ 2 0 ]", blue, red, red),
+        ("colorIndex [ 0 0 0 0 -1 1 1 2 1 -1 ]", red, None, blue),
+        ("", None, None, blue),
+    )
+    with scene_file(SQUARES % ways[0][0]) as file, Windows(1, file) as windows:
+        (page,) = windows.pages
+        for run, (way, *seen) in enumerate(ways, 1):
+            file.write_text(SQUARES % way)
+            page.wait(f"room.state.run === {run} && room.drawn.content && room.state.nodes.length === 5", LATER)
+            page.wait("!room.drawn.stale.size && !room.drawn.dirty", LATER)
+            time.sleep(0.3)
+            for place, wanted in zip(([0.5, 0.5, 0], [1.5, 0.5, 0], [1.99, 0.99, 0]), seen):
+                rows, _ = browser.pixels(page.picture([*spot(page, place), 1, 1]))
+                near = wanted is None or all(abs(part - one) < 12 for part, one in zip(rows[0], wanted))
+                assert near, (way, place, [*rows[0]])
+
+
 # Whether the handle of the panel's slider stands so far along its groove.
 HANDLE_AT = """(([x, y, z]) => Math.abs(x - {}) < 0.03 && !y && !z)(room.value('Handle', 'translation'))"""
 
@@ -274,8 +308,15 @@ def test_the_sliders_of_the_network_are_all_set():
             one.wait(BAD, LATER)
             time.sleep(0.5)
             assert one.value(BAD) and other.value(BAD), other.value("room.state.status.channel")
+            assert not other.value("document.getElementById('bad').hidden")
             one.value(SLIDERS.replace("30]", "0]").replace("20]", "0]"))
             one.wait("Object.values(room.state.status.channel).every((share) => share === 0)", LATER)
+        # One button lets all arrive again, and no window says then that the network is bad.
+        one.value(SLIDERS)
+        one.wait(BAD, LATER)
+        one.value("document.getElementById('good').click()")
+        for page in windows.pages:
+            page.wait("document.getElementById('bad').hidden", LATER)
         shown = "getComputedStyle(document.getElementById('network')).display"
         one.value("document.getElementById('inside').open = true")
         other.value("document.getElementById('inside').open = true")

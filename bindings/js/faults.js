@@ -13,6 +13,7 @@ const REASONS = {
   5: "Memory",
   10: "Closed",
   11: "Range",
+  13: "Misuse",
   20: "Spoiled",
   21: "NotNext",
   22: "TimeNotLater",

@@ -41,6 +41,12 @@ export class Held {
     this._free();
   }
 
+  /** The address of the handle. */
+  _at() {
+    if (this._handle === null) throw new Fault(CLOSED);
+    return this._handle;
+  }
+
   /** The status of a call. */
   _status(name, ...passed) {
     if (this._handle === null) throw new Fault(CLOSED);

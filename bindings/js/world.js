@@ -9,7 +9,7 @@ const KINDS = ["counter", "gate", "adder", "batch", "mover", "meter"];
 export class World extends Readable {
   constructor(library, scene) {
     super(library, "world");
-    if (scene instanceof Part) this._opened("open_part", [scene._handle]);
+    if (scene instanceof Part) this._opened("open_part", [scene._at()]);
     else this._open(scene);
   }
 

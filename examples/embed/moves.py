@@ -10,7 +10,9 @@ from pathlib import Path
 
 from x3d import Aim, Fault, Part, Refusal, World
 
-INSTALLED = "castle*game*engine*/**/*.x3dv"
+# Where Debian's packages of the Castle Game Engine have their examples.
+PLACES = ("/usr/share/doc", "/usr/src", "/usr/share")
+INSTALLED = "*castle-game-engine*/**/*.x3dv"
 SECOND, TICK = 1_000_000, 50_000
 FRONT, STEP, SIDE = 1_000_000_000, 250_000, 12
 
@@ -19,7 +21,7 @@ def file_of(words):
     """The file that is named, or one that is installed."""
     if words:
         return Path(words[0])
-    found = (file for top in ("/usr/share/doc", "/usr/share") for file in sorted(Path(top).glob(INSTALLED)))
+    found = (file for top in PLACES for file in sorted(Path(top).glob(INSTALLED)))
     return next(found, None) or sys.exit("moves: name a file: no castle-game-engine example is installed")
 
 

@@ -26,14 +26,16 @@ function showLeft({ count, left }) {
 function showAgreement(status) {
   const badge = byId("badge"), running = status.viewers.filter((viewer) => viewer.runs);
   const equal = status.equal_at !== null && status.equal_at !== undefined;
-  const alone = running.some((viewer) => viewer.who === state.who) ? "Only you so far" : "One viewer so far";
+  const alone = status.viewers.length > 1 ? `1 of ${status.viewers.length} viewers runs`
+    : running.some((viewer) => viewer.who === state.who) ? "Only you so far" : "One viewer so far";
   const all = running.length === 1 ? alone : `All ${running.length} viewers agree`;
   const told = status.replay ? "What happened" : status.different ? "Viewers differ!"
     : !running.length ? "No viewer runs" : equal ? all : "Comparing …";
   write(badge, told);
   badge.className = status.different ? "different" : equal && running.length > 1 ? "equal" : "";
   const digest = (running.find((viewer) => viewer.at === status.equal_at) || {}).digest;
-  badge.title = equal ? `equal at input ${status.equal_at}${digest ? `, digest ${digest}` : ""}` : "";
+  badge.title = equal ? `All see the same: equal at input ${status.equal_at}${digest ? `, digest ${digest}` : ""}` : "";
+  byId("bad").hidden = !status.channel || !Object.values(status.channel).some((share) => share > 0);
 }
 
 on("status", (status) => {
@@ -53,6 +55,7 @@ on("open", () => {
 });
 on("gone", () => {
   byId("gone").hidden = false;
+  Object.assign(byId("badge"), { textContent: "Not connected", className: "", title: "" });
   document.body.classList.add("lost");
 });
 on("refused", ({ status, why }) => {

@@ -13,8 +13,9 @@ let socket = null, number = 0;
 export const memory = {
   get token() { return read(sessionStorage, KEY); },
   set token(token) { keep(sessionStorage, KEY, token); },
-  get name() { return given.get("name") || read(localStorage, "room name"); },
-  set name(name) { keep(localStorage, "room name", name); },
+  // A name is this window's, and else the one that was given last in this browser.
+  get name() { return given.get("name") || read(sessionStorage, "room name") || read(localStorage, "room name"); },
+  set name(name) { for (const store of [sessionStorage, localStorage]) keep(store, "room name", name); },
   get color() { return read(localStorage, "room color"); },
   set color(color) { keep(localStorage, "room color", color); },
   get named() { return given.has("name"); },
@@ -24,6 +25,7 @@ export const memory = {
 let password = given.get("password") || undefined;
 /* The trainer's secret leaves the address, which people copy and send on; this window keeps it. */
 const trainer = given.get("trainer") || read(sessionStorage, `${KEY} trainer`);
+memory.trainer = Boolean(trainer);
 if (given.has("trainer")) {
   keep(sessionStorage, `${KEY} trainer`, trainer);
   given.delete("trainer");

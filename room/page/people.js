@@ -20,7 +20,10 @@ on("you", (you) => {
   document.body.classList.toggle("trainer", you.trainer);
   byId("your-name").value = you.name;
   showColors(you.color);
-  if (memory.named || memory.name) byId("naming").hidden = true;
+  // Who comes by the name that was wished for isn't asked for one.
+  if (memory.named || memory.name === you.name) byId("naming").hidden = true;
+  else if (!byId("naming").hidden && !matchMedia("(pointer: coarse)").matches) byId("your-name").focus();
+  if (memory.trainer && !you.trainer) say({ name: "", text: "You are the trainer no longer: the server prints the trainer's link anew." });
 });
 
 on("people", ({ people }) => {
@@ -30,6 +33,7 @@ on("people", ({ people }) => {
   byId("people").replaceChildren(...order.map(chipOf));
   const mine = me();
   byId("hand").setAttribute("aria-pressed", String(Boolean(mine && mine.hand)));
+  write(byId("hand"), mine && mine.hand ? "Lower hand" : "Raise hand");
   document.body.classList.toggle("alone", people.length === 1);
   happen("drawn people", {});
 });
@@ -89,6 +93,8 @@ function lineOf(entry) {
   return line;
 }
 
+on("passed", say);
+
 let quiet = null;
 function say(entry) {
   const said = byId("said"), name = element("b", "", entry.name);
@@ -107,6 +113,7 @@ function invite() {
   const local = /^(localhost|127\..*|\[::1\])$/.test(location.hostname), here = local && !state.place;
   byId("link").value = local && state.place ? state.place : own;
   const code = byId("code");
+  write(byId("copy"), "Copy");
   byId("only-here").hidden = !here;
   byId("second").href = own;
   // A phone has no use for an address of this computer alone.
@@ -125,6 +132,7 @@ async function copy() {
 
 export function beginPeople() {
   byId("naming").addEventListener("submit", setName);
+  byId("your-name").addEventListener("focus", () => byId("your-name").select());
   byId("rename").addEventListener("click", () => {
     const card = byId("naming");
     card.hidden = !card.hidden;

@@ -2,7 +2,7 @@
 import { addToBatch, fillBatches, forgetBatches, takeFromBatch } from "./batches.js";
 import { color, field, listed, nodeIn, state, valueBy, valueOf, vector } from "./core.js";
 import { LINE, linesOf } from "./names.js";
-import { forgetShapes, geometryOf, isShared, materialOf, textMesh } from "./shapes.js";
+import { forgetShapes, geometryOf, isPainted, isShared, materialOf, textMesh } from "./shapes.js";
 
 const STOPS = 120;
 export const drawn = {
@@ -17,6 +17,7 @@ function meshOf(shape) {
   const look = materialOf(shape);
   if (node.kind === "Text") return textMesh(node, look.color);
   look.side = field(node, "solid", true) ? THREE.FrontSide : THREE.DoubleSide;
+  if (isPainted(node)) Object.assign(look, { vertexColors: THREE.VertexColors, color: new THREE.Color(0xffffff) });
   // A cone and a cylinder have a side, a top and a bottom, any of which may be left out.
   const has = ["side", "top", "bottom"].map((name) => field(node, name, true)), whole = has.every((part) => part);
   const parts = () => has.map((part) => (part ? look : Object.assign(look.clone(), { visible: false })));
@@ -115,7 +116,9 @@ function thingOf(number) {
 
 /* Notes of each part of a Shape, its look and its geometry, that this Shape is drawn of it. */
 function uses(shape, node) {
-  for (const name of ["appearance", "material", "geometry", "coord", "fontStyle"]) {
+  // A Color has a field of that name too, of numbers.
+  if (node.kind === "Color") return;
+  for (const name of ["appearance", "material", "geometry", "coord", "color", "fontStyle"]) {
     for (const part of listed(node, name)) {
       if (!drawn.users.has(part)) drawn.users.set(part, new Set());
       drawn.users.get(part).add(shape);

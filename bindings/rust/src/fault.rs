@@ -53,6 +53,8 @@ pub enum Fault {
     Memory,
     /// A number is out of its range.
     Range,
+    /// A null pointer, a wrong handle, or a second thread in it: only unsafe code brings it about.
+    Misuse,
     /// Memory was refused at an earlier input.
     Spoiled,
     /// The input's number is not the next one.
@@ -126,6 +128,7 @@ impl Fault {
             0 => return Ok(()),
             5 => Fault::Memory,
             11 => Fault::Range,
+            13 => Fault::Misuse,
             20 => Fault::Spoiled,
             21 => Fault::NotNext,
             22 => Fault::TimeNotLater,
@@ -168,6 +171,7 @@ impl fmt::Display for Fault {
             Fault::Other(status) => library::status_text(*status),
             Fault::Memory => "memory was refused",
             Fault::Range => "a number is out of its range",
+            Fault::Misuse => "the handle is wrong, or in use",
             Fault::Spoiled => "memory was refused at an earlier input",
             Fault::NotNext => "the input's number is not the next one",
             Fault::TimeNotLater => "the input's time is not later than that of the last one",
