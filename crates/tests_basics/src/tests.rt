@@ -12,6 +12,7 @@ mod reaction_growths;
 mod reactions;
 mod seals;
 mod sending;
+mod sessions;
 mod snapshots;
 mod table;
 mod table_text;

@@ -1,0 +1,12 @@
+pub mod Ranges
+pub mod Names
+pub mod Runs
+pub mod Messages
+pub mod Fields
+pub mod Datagram
+pub mod Decoding
+pub mod Heard
+pub mod Follows
+pub mod Laws
+pub mod Faults
+pub mod Welcomes
