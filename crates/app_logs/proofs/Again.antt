@@ -1,9 +1,9 @@
 -- The lines of a log, followed by a scene, are a job of the log's inputs.
 use Rattle.std.proofs.Common.{◌≡◌, ◌⊎◌, inl, inr, ℕ, zero, suc, ◌+◌, ◌*◌, ◌/◌, ◌%◌, ◌^◌, ◌<◌, ◌≤◌, ◌<ℤ◌, ◌≤ℤ◌, ℤ, pos, negsuc, ◌+ℤ◌, Bool, true, false, List, [], ◌∷◌, ◌++◌, length, map, take, drop, codes}
 use Rattle.std.proofs.Common.{decimal, refl, sym, ap, subst, ◌∙◌, arith, append_assoc, append-nil, length-append, zero-add}
-use Rattle.std.specs.Prelude.{⊤, ◌&&◌, int_le, int_lt, nat_le, nat_lt, unsigned_abs, Option, Some, None, Result, Ok, Err, if◌then◌else◌, slice_get}
+use Rattle.std.specs.Prelude.{⊤, ◌&&◌, int_le, Option, Some, None, Result, Ok, Err, if◌then◌else◌, slice_get}
 use Rattle.std.specs.Fmt.{digits}
-use Rattle.std.specs.List.{flat_map, join_with_byte, list_all, slice_split}
+use Rattle.std.specs.List.{join_with_byte, slice_split}
 use Rattle.std.specs.Str.Lines.{lines}
 use Rattle.std.proofs.lemmas.Bool.{and_parts, ltb-true}
 use Rattle.std.proofs.lemmas.Bool.Decides.{nat_tests}
@@ -13,12 +13,12 @@ use Rattle.x3d_numerals.specs.Numeral.{IsNumeral}
 use Rattle.x3d_numerals.specs.NumberText.{IsLimited, fixed_text, fraction, number_text}
 use Rattle.x3d_numerals.proofs.Runs.{is_digits_from}
 use Rattle.x3d_numerals.proofs.Written.{numeral_of}
-use Rattle.x3d_values.specs.Pointing.{PointerView, RayView, is_ray}
+use Rattle.x3d_values.specs.Pointing.{PointerView, is_ray}
 use Rattle.x3d_values.specs.Ranges.{coordinate_fits, coordinates_fit, is_input_time, is_viewer, max_inputs, max_time}
 use Rattle.x3d_values.specs.Stamp.{StampedView}
 use Rattle.x3d_values.specs.declared.stamped.Cause.TheVariants as cause
 use Rattle.x3d_values.specs.declared.vector.Vec3.{Vec3}
-use Rattle.share_rules.specs.Lines.{behind_line, first_line, is_lf}
+use Rattle.share_rules.specs.Lines.{behind_line, is_lf}
 use Rattle.share_rules.specs.declared.offers.Standing.{Standing}
 use Rattle.share_rules.specs.declared.offers.Standing.TheVariants as turn
 use Rattle.share_wire.specs.Messages.{OfferView}
@@ -30,17 +30,17 @@ use Rattle.share_law.specs.declared.fault.NumberFault.{NumberFault}
 use Rattle.share_law.specs.declared.kept.SeatCount.{SeatCount}
 use Rattle.share_law.specs.declared.reply.HostReply.{HostReply}
 use Rattle.share_law.specs.declared.reply.HostReply.TheVariants.{Numbered}
-use Rattle.share_law.specs.Host.{HostState, clocked, last_from, last_time, new_host, number_fault, numbered, offer_answered, offer_came, offer_numbered, reply_of}
+use Rattle.share_law.specs.Host.{HostState, clocked, last_from, last_time, number_fault, numbered, offer_answered, offer_came, offer_numbered, reply_of}
 use Rattle.laws_hosts.specs.Log.{host_of, inputs_of}
 use Rattle.share_logged.specs.Logged.{entry_at, logged, logged_from}
 use Rattle.share_logged.specs.Making.{AreMade, IsLogOf, MakesOf}
 use Rattle.share_logged.proofs.Making.{list-push, logged-inputs, makes-next}
-use Rattle.app_jobs.specs.Job.{AreSteps, IsClock, IsJob, IsJobStep, IsNumbered, IsPointed, Lined, behind_lines, job_lines}
+use Rattle.app_jobs.specs.Job.{AreSteps, IsClock, IsJob, IsJobStep, IsPointed, behind_lines, job_lines}
 use Rattle.app_jobs.specs.Points.{AreNumerals, IsNumber, IsPoint}
 use Rattle.app_jobs.proofs.JobOnly.{only}
 use Rattle.app_jobs.proofs.LineLemmas.{cut}
 use Rattle.app_logs.specs.Replaying.{are_pointing, is_pointing, replay_text}
-use Rattle.app_logs.specs.Steps.{down_digit, line_of, point_line, step_line, steps_text, vector_words}
+use Rattle.app_logs.specs.Steps.{down_digit, line_of, steps_text}
 use Rattle.app_logs.proofs.Unbroken.{Unbroken, behind_is, first_is, numeral_is, unbroken_both}
 
 -- ---- the line of an entry, without its end

@@ -1,8 +1,8 @@
 -- The times of the clocks of a beat.
-use Rattle.std.proofs.Common.{◌≡◌, ◌∙◌, ℕ, ℤ, pos, negsuc, ◌+ℤ◌, ◌≤ℤ◌, ◌*◌, ◌^◌, ◌+◌, ◌≤◌, FitsSigned, w64, Bool, true, ap, sym, subst, arith}
-use Rattle.std.specs.Prelude.{Option, Some, None, nat_le, int_le, int_lt}
+use Rattle.std.proofs.Common.{◌≡◌, ◌∙◌, ℕ, ℤ, pos, negsuc, ◌+ℤ◌, ◌≤ℤ◌, ◌*◌, ◌^◌, ◌+◌, ◌≤◌, FitsSigned, w64, true, ap, arith}
+use Rattle.std.specs.Prelude.{Some}
 use Rattle.std.proofs.lemmas.Bool.{le-leb}
-use Rattle.std.proofs.lemmas.Int.{ints, to_z-of_z}
+use Rattle.std.proofs.lemmas.Int.{ints}
 use Rattle.app_logs.specs.Clocks.{beat_time, in_range, later_of}
 
 below : (t : ℤ) → pos 0 ≤ℤ t → t ≤ℤ pos (2 * 10 ^ 18) → FitsSigned w64 t

@@ -1,11 +1,11 @@
 -- A line without a break in it ends where it was joined to the next.
-use Rattle.std.proofs.Common.{◌≡◌, ◌⊎◌, ℕ, suc, ◌+◌, ◌<◌, ◌≤◌, ℤ, Bool, true, false, List, [], ◌∷◌, ◌++◌, length, drop, take, get_or, Option, Some, None}
+use Rattle.std.proofs.Common.{◌≡◌, ◌⊎◌, ℕ, ◌+◌, ◌<◌, ◌≤◌, ℤ, Bool, true, false, List, [], ◌∷◌, ◌++◌, length, drop, take, get_or, Option, Some, None}
 use Rattle.std.proofs.Common.{refl, sym, ap, subst, ◌∙◌, inl, inr, arith, eqb-true, length-append, take_at, drop_at, append_assoc}
-use Rattle.std.specs.Prelude.{⊤, unwrap_or, slice_index, ◌||◌, ◌==◌, ◌-◌, nat_lt}
+use Rattle.std.specs.Prelude.{⊤, unwrap_or, slice_index, ◌||◌, ◌==◌, ◌-◌}
 use Rattle.std.specs.List.{position_or_len}
 use Rattle.std.specs.Option.{option_to_list}
 use Rattle.std.specs.Char.{digit_value}
-use Rattle.std.specs.Str.Lines.{lines, strip_carriage_return}
+use Rattle.std.specs.Str.Lines.{strip_carriage_return}
 use Rattle.std.specs.Str.Parse.{AllDigits}
 use Rattle.std.proofs.lemmas.Bool.{cases_Bool, lt-ltb}
 use Rattle.x3d_numerals.specs.Numeral.{Exponent, Parts, decimal, hexadecimal, point_text, exponent_text, spelling, IsSign, IsExponent, IsForm, IsNumeral}

@@ -1,4 +1,3 @@
-use Rattle.std.proofs.Common.{◌≡◌}
 use Rattle.app_logs.specs.Beginning.{IsNotResumed}
 use Rattle.app_logs.proofs.Recalls.{not_written}
 use Rattle.app_logs.proofs.recalling.written_in.Goals as goal
