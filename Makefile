@@ -2,7 +2,7 @@
 SHELL := bash
 .SHELLFLAGS := -eu -o pipefail -c
 .PHONY: run try unproved quick picture room test-room test-room-quick measure-room room-library \
-        share soak kill fuzz test cases prefixes refusals check definitions calls \
+        share soak kill logs fuzz test cases prefixes refusals check definitions calls \
         bench growth format install library library-unproved bindings fuzz-library wasm \
         dist test-dist abi site
 
@@ -19,8 +19,8 @@ export RT_JOBS ?= $(shell nproc | awk '{ print ($$1 < 4 ? $$1 : 4) }')
 RT := "$(CURDIR)/scripts/rt"
 
 # Whether a program or a library stands, and no source is newer.
-fresh = { [ -e $(1) ] && [ -z "$$(find crates include/x3d.h bindings/c/version.c packaging/version -path '*/out' -prune -o \
-  \( -name '*.rt' -o -name '*.antt' -o -path 'include/*' -o -path 'bindings/*' -o -path 'packaging/*' \) \
+fresh = { [ -e $(1) ] && [ -z "$$(find crates include/x3d.h bindings/c/version.c bindings/c/guard.h scripts/guards packaging/version -path '*/out' -prune -o \
+  \( -name '*.rt' -o -name '*.antt' -o -path 'include/*' -o -path 'bindings/*' -o -path 'scripts/*' -o -path 'packaging/*' \) \
   -newer $(1) -print -quit)" ]; }
 
 # Proves and builds the program, and runs a job: its trace, and then its scene.
@@ -105,6 +105,13 @@ kill:
 	@cd crates/x3d_share && $(RT) run -- --version > /dev/null
 	@scripts/kill $(MINUTES)
 
+# Proves and builds the program, and gives it FILES that are no whole log, and logs after CUTS of the power.
+FILES ?= 10000
+CUTS ?= 200
+logs:
+	@cd crates/x3d_share && $(RT) run -- --version > /dev/null
+	@scripts/logs $(FILES) $(CUTS)
+
 # Proves and builds the program, and gives each of its commands TEXTS changed scenes, jobs and schedules.
 TEXTS ?= 10000
 fuzz:
@@ -116,7 +123,7 @@ fuzz:
 # a thousand changed texts, a shared world over UDP, how hosts and viewers end and what they tell, stacks
 # that are too small, and a world
 # with killed viewers and malicious datagrams;
-# hosts over a log that are killed;
+# hosts over a log that are killed; logs that are damaged, and power cuts;
 # and jobs from C, Rust and Python, by the library of `make library`, or where it isn't built or is older than a
 # source by one that is built of the same sources without a proof.
 test: definitions
@@ -132,6 +139,7 @@ test: definitions
 	scripts/stack; \
 	scripts/soak 1 --seed 48; \
 	scripts/kill 1; \
+	scripts/logs --seed 67; \
 	if $(call fresh,out/libx3d.so); then scripts/abi out/libx3d.so; scripts/bindings --quick; \
 	elif ! command -v "$${CC:-cc}" > /dev/null; then echo "bindings: skipped: no C compiler"; \
 	else $(call fresh,out/quick/libx3d.so) || scripts/unproved_library out/quick; \
