@@ -69,10 +69,9 @@ def part_in(text, whole):
         x3d.World(text).close()
         return Part(text)
     except x3d.Refusal:
-        part = None if whole else part_of(text)
-        if not part:
+        if whole:
             raise
-        return part
+    return part_of(text)
 
 
 def read_text(path):

@@ -4,8 +4,7 @@ import time
 import browser
 from explain import Unshown, read_part_of_file, read_scene_file
 from library import x3d
-from parts import part_of
-from served import LATER, Served, Skipped, Windows, scene_file, spot
+from served import LATER, Served, Windows, scene_file, spot
 
 # A file of VRML 97. The wall hides the box, unless its Switch, which the text names wrongly, goes.
 REAL = """#VRML V2.0 utf8
@@ -46,11 +45,6 @@ AT_BOX = [0, 0, 8_000_000, 0, 0, -1_000_000]
 PRESS = "pressed the red box"
 
 
-def check_parts():
-    if not part_of(b"#X3D V3.0 utf8\n"):
-        raise Skipped("neither the library nor a program finds parts")
-
-
 def is_left(told, lines=0):
     """Whether that was left out, in a file in which so many lines come before."""
     return len(told) == len(LEFT) and all(
@@ -66,7 +60,6 @@ def why(file, whole):
 
 
 def test_a_scene_that_isnt_read_is_read_by_its_part():
-    check_parts()
     with scene_file(REAL) as file:
         part = read_part_of_file(file)
         assert is_left(part.left) and part.count == "6 left out, 1 read as groups", part
@@ -89,7 +82,6 @@ def test_a_scene_that_isnt_read_is_read_by_its_part():
 
 
 def test_a_room_shows_a_part_and_says_what_was_left_out():
-    check_parts()
     with scene_file(REAL) as file, Served(file) as served:
         client = served.client(name="Ana")
         left = client.until("left")
@@ -129,7 +121,6 @@ def test_a_room_shows_a_part_and_says_what_was_left_out():
 
 
 def test_a_page_draws_a_part_and_lists_what_was_left_out():
-    check_parts()
     with scene_file(REAL) as file, Windows(2, file) as windows:
         one, other = windows.pages
         fold = "document.getElementById('left')"

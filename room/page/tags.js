@@ -1,6 +1,7 @@
 /* Where others point: an arrow whose tip is at the place, and the name beside it. */
 import { spotOf } from "./camera.js";
 import { byId, element, personOf, state } from "./core.js";
+import { on } from "./link.js";
 import { drawn } from "./scene.js";
 import { stage } from "./stage.js";
 
@@ -62,6 +63,14 @@ export function placeTags(box) {
     tag.lastChild.style.background = color;
   }
 }
+
+/* Whose viewer runs from now on is seen, though nothing else changes. */
+let running = "";
+on("status", ({ viewers }) => {
+  const now = viewers.filter(({ runs }) => runs).map(({ who }) => who).join();
+  if (now !== running) drawn.dirty = true;
+  running = now;
+});
 
 export const pointsAt = (who) => (places.has(who) ? places.get(who)[1].toArray() : null);
 stage.before.push(() => placeTags(stage.view.getBoundingClientRect()));
