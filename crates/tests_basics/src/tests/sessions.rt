@@ -205,6 +205,7 @@ fn each_fault_is_the_first(rt: HostRuntime) -> Result<(), Fail> {
     assert_eq!(rt; decode(&HELLO[..5]).err(), Some(DatagramFault::BadPacket));
     assert_eq!(rt; decode(&HELLO[..127]).err(), Some(DatagramFault::BadBody));
     assert_eq!(rt; decode(&CLOCK[..21]).err(), Some(DatagramFault::BadBody));
+    assert_eq!(rt; DatagramFault::BadBody.name(), "BadBody");
     Ok(())
 }
 
