@@ -48,5 +48,8 @@ knows_name known name = name_in name known.notes
 abbrev pub is_at : Level → ℕ → Refusal → Bool
 is_at level line refusal = sameb levels.the_type refusal.level level && refusal.line == line
 
+abbrev pub refused_in : List Refusal → Level → ℕ → Bool
+refused_in refused level line = list_any (is_at level line) refused
+
 abbrev pub refuses : Known → Level → ℕ → Bool
-refuses known level line = list_any (is_at level line) known.refused
+refuses known level line = refused_in known.refused level line

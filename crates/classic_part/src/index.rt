@@ -1,13 +1,14 @@
 //! What a round knows, with its names in order.
 
-ghost use Rattle.std.specs.Prelude.{◌≡◌, ◌&&◌, ◌||◌, ◌++◌, ◌∷◌, [], List, ℕ, true, false, IfOk, option_map, if◌then◌else◌};
+ghost use Rattle.std.specs.Prelude.{◌≡◌, ◌&&◌, ◌||◌, ◌++◌, ◌∷◌, [], List, ℕ, true, false, IfOk, IfSome, option_map, if◌then◌else◌};
 ghost use Rattle.std.specs.List.{list_any};
 ghost use Rattle.std.specs.Str.{bytes_eq};
 ghost use Rattle.classic_part.specs.Index.{IsOf, holds};
 ghost use Rattle.classic_part.specs.Notes as spec;
 ghost use Rattle.classic_part.specs.declared.notes.Note.{Note as NoteOf};
 
-use crate::knowing::{Known, Level, any_at};
+use crate::knowing::{Known, Level};
+use crate::lines::RefusedLines;
 use crate::notes::Note;
 use std::alloc::{AllocError, AllocFailed, Global};
 use std::collections::BTreeSet;
@@ -27,23 +28,25 @@ pub struct Tables<'k> {
     pub declared: NameSet<'k>,
 }
 
-/// What a round knows, with the names of its notes in order.
+/// What a round knows, with the names of its notes and the lines of what was refused in order.
 #[derive(Drop)]
 pub struct Index<'k> {
     known: &'k Known,
     tables: Tables<'k>,
+    lines: RefusedLines,
 }
 
 impl<'k> Model for Index<'k> {
     ghost use Rattle.std.specs.Prelude.{IfSome};
-    ghost use Rattle.classic_part.specs.Index.{IsOf};
+    ghost use Rattle.classic_part.specs.Index.{AreOf, IsOf};
     ghost use Rattle.classic_part.specs.declared.knowing.Known.{Known as KnownOf};
 
     ghost Value = { KnownOf };
 
     ghost view = { λ i. i.known.now };
 
-    ghost invariant = { λ i. IfSome i.known.now.notes (IsOf i.tables) };
+    ghost invariant = { λ i. IfSome i.known.now.notes (IsOf i.tables)
+        × AreOf i.lines i.known.now.refused };
 }
 
 impl<'k> NameSet<'k> {
@@ -115,16 +118,33 @@ fn tables_of<'k>(alloc: Global, notes: &'k [Note]) -> Result<Tables<'k>, AllocEr
     Ok(tables)
 }
 
+/// Returns the names of the notes of the round before, if there was one.
+fn known_tables<'k>(alloc: Global, known: &'k Known) -> Result<Tables<'k>, AllocError>
+    ensures { IfOk result (λ tables. IfSome known.now.notes (IsOf tables)) }
+{
+    match &known.notes {
+        None => Ok(Tables::new(alloc)),
+        Some(notes) => tables_of(alloc, notes.as_slice()),
+    }
+}
+
 impl<'k> Index<'k> {
     /// Returns the index of what a round knows. Fails if memory runs out.
     pub(crate) fn of(alloc: Global, known: &'k Known) -> Result<Index<'k>, AllocError>
         ensures { IfOk result (λ i. i ≡ known.now) }
     {
-        let tables = match &known.notes {
-            None => Tables::new(alloc),
-            Some(notes) => tables_of(alloc, notes.as_slice())?,
-        };
-        Ok(Index { known, tables })
+        let lines = RefusedLines::of(alloc, known.refused.as_slice())?;
+        match known_tables(alloc, known) {
+            Ok(tables) => Ok(Index {
+                known,
+                tables,
+                lines,
+            }),
+            Err(refused) => {
+                drop(lines);
+                Err(refused)
+            }
+        }
     }
 
     /// Reports whether a node of that name is there. In the first round any name is taken for one.
@@ -151,6 +171,6 @@ impl<'k> Index<'k> {
     pub(crate) fn refuses(&self, level: Level, line: u32) -> bool
         ensures { result ≡ spec.refuses self.now level line }
     {
-        any_at(level, line, self.known.refused.as_slice())
+        self.lines.refuse(level, line)
     }
 }

@@ -1,9 +1,5 @@
 //! What a round knows: the notes of the round before, and what was refused.
 
-ghost use Rattle.std.specs.Prelude.{◌≡◌};
-ghost use Rattle.std.specs.List.{list_any};
-ghost use Rattle.classic_part.specs.Notes as spec;
-
 use crate::notes::Note;
 use x3d_values::Items;
 
@@ -31,17 +27,4 @@ pub struct Refusal {
 pub struct Known {
     pub notes: Option<Items<Note>>,
     pub refused: Items<Refusal>,
-}
-
-fn is_at(level: Level, line: u32, refusal: &Refusal) -> bool
-    ensures { result ≡ spec.is_at level line refusal.now }
-{
-    refusal.level == level && refusal.line == line
-}
-
-/// Reports whether parts of that level on that line are refused.
-pub(crate) fn any_at(level: Level, line: u32, refused: &[Refusal]) -> bool
-    ensures { result ≡ list_any (spec.is_at level line) refused.now }
-{
-    refused.iter().any(|refusal| is_at(level, line, refusal))
 }

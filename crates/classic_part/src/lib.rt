@@ -16,6 +16,7 @@ mod grouping_nodes;
 mod index;
 mod knowing;
 mod leaves;
+mod lines;
 mod lists;
 mod notes;
 mod part;

@@ -1,0 +1,2 @@
+mod Stays
+mod Words
