@@ -110,4 +110,5 @@ is_over m = m.is_bound && (m.is_other && nat_le max_silence m.silence)
 -- a viewer that has applied an input or made an offer stays in its run, whatever comes
 abbrev pub BoundStay : Type 0
 BoundStay =
-    (m : Arrival) (events : List ArrivalEvent) → m.is_bound ≡ true → (fold after_event m events).run ≡ m.run
+    (m : Arrival) (events : List ArrivalEvent) → m.is_bound ≡ true
+    → (fold after_event m events).run ≡ m.run
