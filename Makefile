@@ -2,7 +2,7 @@
 SHELL := bash
 .SHELLFLAGS := -eu -o pipefail -c
 .PHONY: run try unproved quick picture room test-room test-room-quick measure-room room-library \
-        share soak kill fuzz test cases prefixes refusals check definitions calls \
+        share soak kill logs fuzz test cases prefixes refusals check definitions calls \
         bench growth format install library library-unproved bindings fuzz-library wasm \
         dist test-dist abi site
 
@@ -19,8 +19,8 @@ export RT_JOBS ?= $(shell nproc | awk '{ print ($$1 < 4 ? $$1 : 4) }')
 RT := "$(CURDIR)/scripts/rt"
 
 # Whether a program or a library stands, and no source is newer.
-fresh = { [ -e $(1) ] && [ -z "$$(find crates include/x3d.h bindings/c/version.c packaging/version -path '*/out' -prune -o \
-  \( -name '*.rt' -o -name '*.antt' -o -path 'include/*' -o -path 'bindings/*' -o -path 'packaging/*' \) \
+fresh = { [ -e $(1) ] && [ -z "$$(find crates include/x3d.h bindings/c/version.c bindings/c/guard.h scripts/guards packaging/version -path '*/out' -prune -o \
+  \( -name '*.rt' -o -name '*.antt' -o -path 'include/*' -o -path 'bindings/*' -o -path 'scripts/*' -o -path 'packaging/*' \) \
   -newer $(1) -print -quit)" ]; }
 
 # Proves and builds the program, and runs a job: its trace, and then its scene.
@@ -56,11 +56,13 @@ missing_of_room = [ -e $(THREE) ] && missing= || missing="no $(THREE) (Debian's 
   /usr/bin/python3 -c "import aiohttp" 2> /dev/null || missing="no aiohttp (Debian's package python3-aiohttp)"
 
 # Shows a shared world in browser windows: prints the links. It is kept in out/rooms, and goes on there at the next start.
+# With ADDRESS=0.0.0.0 other machines reach it too, with PORT=8041 it is at that port.
 room:
 	@$(missing_of_room); [ -z "$$missing" ] || { echo "room: $$missing" >&2; exit 1; }
 	@$(MAKE) --no-print-directory room-library
 	@$(found_so); $(found_wasm); [ -n "$$wasm" ] || echo "room: viewers run in the server (make wasm: in windows)" >&2; \
-	X3D_SO=$$(realpath "$$so") X3D_WASM="$$wasm" room/server.py --three $(THREE) --keep out/rooms $(ROOM)
+	X3D_SO=$$(realpath "$$so") X3D_WASM="$$wasm" room/server.py --three $(THREE) --keep out/rooms \
+	  $(if $(ADDRESS),--address $(ADDRESS)) $(if $(PORT),--port $(PORT)) $(ROOM)
 
 # Tests that, in a real browser where chromium is installed. No part of `make test`.
 test-room: room-library
@@ -103,6 +105,13 @@ kill:
 	@cd crates/x3d_share && $(RT) run -- --version > /dev/null
 	@scripts/kill $(MINUTES)
 
+# Proves and builds the program, and gives it FILES that are no whole log, and logs after CUTS of the power.
+FILES ?= 10000
+CUTS ?= 200
+logs:
+	@cd crates/x3d_share && $(RT) run -- --version > /dev/null
+	@scripts/logs $(FILES) $(CUTS)
+
 # Proves and builds the program, and gives each of its commands TEXTS changed scenes, jobs and schedules.
 TEXTS ?= 10000
 fuzz:
@@ -114,7 +123,7 @@ fuzz:
 # a thousand changed texts, a shared world over UDP, how hosts and viewers end and what they tell, stacks
 # that are too small, and a world
 # with killed viewers and malicious datagrams;
-# hosts over a log that are killed;
+# hosts over a log that are killed; logs that are damaged, and power cuts;
 # and jobs from C, Rust and Python, by the library of `make library`, or where it isn't built or is older than a
 # source by one that is built of the same sources without a proof.
 test: definitions
@@ -130,6 +139,7 @@ test: definitions
 	scripts/stack; \
 	scripts/soak 1 --seed 48; \
 	scripts/kill 1; \
+	scripts/logs --seed 67; \
 	if $(call fresh,out/libx3d.so); then scripts/abi out/libx3d.so; scripts/bindings --quick; \
 	elif ! command -v "$${CC:-cc}" > /dev/null; then echo "bindings: skipped: no C compiler"; \
 	else $(call fresh,out/quick/libx3d.so) || scripts/unproved_library out/quick; \

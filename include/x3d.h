@@ -11,29 +11,36 @@
 extern "C" {
 #endif
 
-/* Rules that the caller must keep, because the library cannot check them:
- * - A handle begins as null: `struct x3d_world world = X3D_NONE;`. Do not read, write or copy its
- *   contents.
- * - Make one call at a time on a handle. (Calls on different handles share nothing.)
+/* Rules that the caller must keep:
+ * - A handle begins as null: `struct x3d_world world = X3D_NONE;`. Do not read or write its contents.
+ *   Its bytes may be moved, if the old place is not used again.
+ * - Make one call at a time on a handle. Calls whose handle is const only read: these may run beside
+ *   each other. (Calls on different handles share nothing.)
  * - Each pointer points to at least as much memory as its type, or the length argument after it,
- *   requires. Memory that a call writes overlaps nothing else that the call is given. A pointer
- *   must not be null even if its length is 0.
- * - Close every handle that you open. Closing twice is allowed, and so is opening again. Every
- *   other call on a closed handle returns X3D_CLOSED, or X3D_RANGE, which some calls test first.
- */
+ *   requires. Memory that a call writes overlaps nothing else that the call is given. A pointer may
+ *   be null if the length or the room after it is 0.
+ * - Close every handle that you open. Closing twice is allowed, closing null too, and opening again.
+ *   Every other call on a closed handle returns X3D_CLOSED, or X3D_RANGE, which some calls test
+ *   first.
+ * A call returns X3D_MISUSE, and changes nothing, for any other null pointer, a handle of another
+ * kind, a second call in a handle at the same time, and, as far as can be told, for the copy of a
+ * handle that was closed since. The library cannot check the other rules. A thread that calls it
+ * needs a stack of at least 512 KB. */
 
-/* Handles: each holds a heap object (a world, a host or a viewer), or nothing. */
+/* Handles: each holds a heap object (a world, a host, a viewer, or the part of a text), or nothing.
+ */
 struct x3d_world { void *at; };
 struct x3d_host { void *at; };
 struct x3d_viewer { void *at; };
+struct x3d_part { void *at; };
 #ifdef __cplusplus
 #define X3D_NONE {nullptr}
 #else
 #define X3D_NONE {0}
 #endif
 
-/* The status that every call returns. After any status but X3D_DONE nothing has changed, except
- * where the status or the call says so. */
+/* The status that a call returns, unless it closes a handle or returns something else. After any
+ * status but X3D_DONE nothing has changed, except where the status or the call says so. */
 enum x3d_status {
   X3D_DONE = 0,            /* the call succeeded */
   X3D_SCENE = 1,           /* the scene or its scripts are refused; the refusal's line says why */
@@ -41,6 +48,7 @@ enum x3d_status {
   X3D_CLOSED = 10,         /* the handle holds nothing */
   X3D_RANGE = 11,          /* a number that was passed is not one that the call allows */
   X3D_ROOM = 12,           /* `room` is too small: nothing was copied, `wanted` is the room needed */
+  X3D_MISUSE = 13,         /* a null pointer, a wrong or closed handle, or two calls in one */
   X3D_SPOILED = 20,        /* memory ran out before: only a snapshot brings the world back */
   X3D_NOT_NEXT = 21,       /* the input's number is not the next one */
   X3D_TIME_NOT_LATER = 22, /* the input's time is not above that of the last one */
@@ -94,7 +102,7 @@ struct x3d_aim {
   int64_t direction_z;
 };
 
-/* Where a ray would enter what it hits first: at n / m of the way along its direction. If it hits
+/* Where a ray would enter what it hits first: at the point origin + (n / m) * direction. If it hits
  * nothing, m is 0. */
 struct x3d_met {
   uint64_t n;
@@ -226,6 +234,23 @@ enum x3d_kind {
   X3D_METER = 5
 };
 
+/* What was left out of a text, for its part. */
+enum x3d_left {
+  X3D_LEFT_NODE = 0,        /* a node */
+  X3D_LEFT_GROUPED = 1,     /* nothing: a node became a Group or a Transform */
+  X3D_LEFT_FIELD = 2,       /* a field */
+  X3D_LEFT_TURNED = 3,      /* a rotation by an angle other than 0 */
+  X3D_LEFT_USE = 4,         /* a USE of a name that no node has */
+  X3D_LEFT_ROUTE = 5,       /* a ROUTE to or from no node */
+  X3D_LEFT_PROTO = 6,       /* a PROTO without a node in its body */
+  X3D_LEFT_REFUSED = 7,     /* what x3d_world_open refuses at this line */
+  X3D_LEFT_EXTERNPROTO = 8,
+  X3D_LEFT_IMPORT = 9,
+  X3D_LEFT_EXPORT = 10,
+  X3D_LEFT_UNIT = 11,
+  X3D_LEFT_DECLARATION = 12 /* the declaration of a field whose type is not read */
+};
+
 /* The most bytes that a datagram has: a buffer of this size always has room for one. */
 #define X3D_PACKET 256
 
@@ -251,6 +276,35 @@ const char *x3d_status_text(uint8_t status);
  * X3D_BAD_TAG, X3D_BAD_RANGE or X3D_ZERO_RAY if the bytes are not a datagram. */
 uint8_t x3d_datagram_read(const uint8_t *bytes, size_t length, struct x3d_datagram *datagram);
 
+/* ---- texts */
+
+/* An instance of a prototype may give a field a wrong value, and the refusal then has the line of
+ * the field in the prototype's body. This writes the line on which that instance begins. Writes 0
+ * for every other text, and if no instance's braces hold the value. May return: X3D_MEMORY. */
+uint8_t x3d_text_instance(const uint8_t *text, size_t length, uint32_t *line);
+
+/* ---- the part of a text that the core can run: without the nodes, fields and statements that it
+ * doesn't know. docs/SCENES.md says what stays. */
+
+/* Makes the part of a text (Classic encoding). It replaces the one that the handle had. The part
+ * is itself a text: open worlds, a host and viewers with its bytes (x3d_part_copy_text). May
+ * return: X3D_SCENE if the text has no part, or X3D_MEMORY. Then the handle is empty, and the
+ * line `refused NAME line N` is copied as by x3d_world_open. */
+uint8_t x3d_part_open(struct x3d_part *part, const uint8_t *text, size_t length, uint8_t *refusal,
+                      size_t room, size_t *wanted);
+/* Frees the part. Does nothing if the handle holds none. */
+void x3d_part_close(struct x3d_part *part);
+/* Copies the text of the part, and writes its number of bytes to `wanted`. May return: X3D_ROOM if
+ * `room` bytes are not enough; nothing is copied then. */
+uint8_t x3d_part_copy_text(const struct x3d_part *part, uint8_t *out, size_t room, size_t *wanted);
+/* Copies a line for each thing that was left out, such as `line 12: node Teapot left out (field
+ * geometry)`, and a last line of counts, as x3d_part_copy_text copies. */
+uint8_t x3d_part_copy_notes(const struct x3d_part *part, uint8_t *out, size_t room, size_t *wanted);
+/* Copies two numbers for each of these lines but the last: the line of the text, and what it is (an
+ * x3d_left). May return: X3D_ROOM. */
+uint8_t x3d_part_copy_numbers(const struct x3d_part *part, int64_t *out, size_t room,
+                              size_t *wanted);
+
 /* ---- a world */
 
 /* Opens the world of a scene's text (Classic encoding). It replaces the one that the handle had.
@@ -259,10 +313,14 @@ uint8_t x3d_datagram_read(const uint8_t *bytes, size_t length, struct x3d_datagr
  * to `wanted`. */
 uint8_t x3d_world_open(struct x3d_world *world, const uint8_t *text, size_t length,
                        uint8_t *refusal, size_t room, size_t *wanted);
+/* Opens the world of a part's text, like x3d_world_open. May return: X3D_CLOSED if `part` holds
+ * none; the world is then what it was. */
+uint8_t x3d_world_open_part(struct x3d_world *world, struct x3d_part *part, uint8_t *refusal,
+                            size_t room, size_t *wanted);
 /* Frees the world. Does nothing if the handle holds none. */
 void x3d_world_close(struct x3d_world *world);
 /* Writes the number of inputs that were applied. The next input has that number plus 1. */
-uint8_t x3d_world_applied(struct x3d_world *world, uint32_t *count);
+uint8_t x3d_world_applied(const struct x3d_world *world, uint32_t *count);
 
 /* ---- inputs, numbered from 1 to 2^20, at times of 1 to 10^18 microseconds, each above the last
  *
@@ -303,7 +361,7 @@ uint8_t x3d_world_make_scene(struct x3d_world *world);
 /* Makes the word for a node's type, such as `Transform`. May return: X3D_NO_SUCH_NODE. */
 uint8_t x3d_world_make_type(struct x3d_world *world, uint32_t node);
 /* Makes the label of a node, which no other node has: its DEF name if that is unique, or else `N`
- * and its number. A DEF name of the form `N` and digits does not count. May return:
+ * and its number, also for a node whose DEF name is `N` and digits. May return:
  * X3D_NO_SUCH_NODE. */
 uint8_t x3d_world_make_label(struct x3d_world *world, uint32_t node);
 /* Makes the name of a field of a node, such as `translation`. May return: X3D_NO_SUCH_FIELD if
@@ -316,7 +374,8 @@ uint8_t x3d_world_make_value(struct x3d_world *world, uint32_t node, uint16_t fi
 uint8_t x3d_world_make_snapshot(struct x3d_world *world, uint32_t boot);
 /* Copies the text or the snapshot that was made last, and writes its number of bytes to `wanted`.
  * May return: X3D_ROOM if `room` bytes are not enough; nothing is copied then. */
-uint8_t x3d_world_copy_text(struct x3d_world *world, uint8_t *out, size_t room, size_t *wanted);
+uint8_t x3d_world_copy_text(const struct x3d_world *world, uint8_t *out, size_t room,
+                            size_t *wanted);
 
 /* ---- numbers: a call lists them, then x3d_world_copy_numbers copies them
  *
@@ -324,13 +383,13 @@ uint8_t x3d_world_copy_text(struct x3d_world *world, uint8_t *out, size_t room, 
  * unchanged. Each may return X3D_MEMORY. */
 
 /* Writes the number of nodes in the scene. They are numbered from 0. */
-uint8_t x3d_world_node_count(struct x3d_world *world, size_t *count);
+uint8_t x3d_world_node_count(const struct x3d_world *world, size_t *count);
 /* Writes the number of fields of a node. They are numbered from 0. 0 if there is no such node. */
-uint8_t x3d_world_field_count(struct x3d_world *world, uint32_t node, uint32_t *count);
+uint8_t x3d_world_field_count(const struct x3d_world *world, uint32_t node, uint32_t *count);
 /* Writes the number of the field of a node with this name, such as `translation`: a field of its
  * type, or one that a Script declares. Other calls take a field by this number. May return:
  * X3D_NO_SUCH_FIELD if there is no such node or field. */
-uint8_t x3d_world_field_named(struct x3d_world *world, uint32_t node, const uint8_t *name,
+uint8_t x3d_world_field_named(const struct x3d_world *world, uint32_t node, const uint8_t *name,
                               size_t length, uint16_t *field);
 /* Lists the roots of the scene by their numbers. */
 uint8_t x3d_world_list_roots(struct x3d_world *world);
@@ -344,7 +403,8 @@ uint8_t x3d_world_list_children(struct x3d_world *world, uint32_t node);
 uint8_t x3d_world_list_value(struct x3d_world *world, uint32_t node, uint16_t field);
 /* Copies the numbers that were listed last, and writes how many there are to `wanted`. May return:
  * X3D_ROOM if there is no room for `wanted` numbers; nothing is copied then. */
-uint8_t x3d_world_copy_numbers(struct x3d_world *world, int64_t *out, size_t room, size_t *wanted);
+uint8_t x3d_world_copy_numbers(const struct x3d_world *world, int64_t *out, size_t room,
+                               size_t *wanted);
 
 /* ---- changes: a call lists them, then x3d_world_copy_changed copies them, and
  * x3d_world_copy_numbers their numbers */
@@ -358,7 +418,7 @@ uint8_t x3d_world_copy_numbers(struct x3d_world *world, int64_t *out, size_t roo
 uint8_t x3d_world_list_changed(struct x3d_world *world, uint32_t since);
 /* Copies the fields that were listed last, and writes how many there are to `wanted`. May return:
  * X3D_ROOM if there is no room for `wanted` of them; nothing is copied then. */
-uint8_t x3d_world_copy_changed(struct x3d_world *world, struct x3d_change *out, size_t room,
+uint8_t x3d_world_copy_changed(const struct x3d_world *world, struct x3d_change *out, size_t room,
                                size_t *wanted);
 
 /* ---- snapshots */
@@ -374,7 +434,7 @@ uint8_t x3d_world_load(struct x3d_world *world, uint32_t boot, const uint8_t *by
 /* ---- scripts of a world */
 
 /* Writes the number of scripts that the scene runs. They are numbered from 0. */
-uint8_t x3d_world_script_count(struct x3d_world *world, size_t *count);
+uint8_t x3d_world_script_count(const struct x3d_world *world, size_t *count);
 /* Replaces the object that runs the k-th script by a new one of kind `kind` (an x3d_kind). It takes
  * over the script's state. The world is unchanged whatever is returned. May return: X3D_RANGE for
  * an unknown kind, X3D_SPOILED, X3D_NO_SUCH_SCRIPT, X3D_KIND_DIFFERS, or X3D_MEMORY. */
@@ -409,30 +469,32 @@ uint8_t x3d_host_take_from(struct x3d_host *host, uint8_t who, const uint8_t *by
                            struct x3d_reply *reply);
 /* Copies the datagram of input `number`. There is none (X3D_NO_PACKET) below the floor, or if that
  * input is not numbered yet. */
-uint8_t x3d_host_packet(struct x3d_host *host, uint32_t number, uint8_t *out, size_t room,
+uint8_t x3d_host_packet(const struct x3d_host *host, uint32_t number, uint8_t *out, size_t room,
                         size_t *wanted);
 /* Copies the ack of viewer `who`: the datagram that says how many of its offers are numbered. May
  * return: X3D_RANGE if there is no such viewer. */
-uint8_t x3d_host_ack(struct x3d_host *host, uint8_t who, uint8_t *out, size_t room, size_t *wanted);
+uint8_t x3d_host_ack(const struct x3d_host *host, uint8_t who, uint8_t *out, size_t room,
+                     size_t *wanted);
 /* Writes the highest number that viewer `who` has asked from: it has all inputs below. 0 if it has
  * not asked. May return: X3D_RANGE if there is no such viewer. */
-uint8_t x3d_host_heard(struct x3d_host *host, uint8_t who, uint32_t *asked);
+uint8_t x3d_host_heard(const struct x3d_host *host, uint8_t who, uint32_t *asked);
 /* Drops the inputs that every viewer that has asked has, except the last `count` of them. A viewer
  * that never asked does not count. If none has asked, or there is nothing to drop, the host stays as
  * it was. */
 uint8_t x3d_host_keep(struct x3d_host *host, uint32_t count);
 /* Writes the floor: inputs below it have no datagrams. It is 1 at first. */
-uint8_t x3d_host_floor(struct x3d_host *host, uint32_t *number);
+uint8_t x3d_host_floor(const struct x3d_host *host, uint32_t *number);
 /* Copies the datagram that reports the floor. */
-uint8_t x3d_host_floor_packet(struct x3d_host *host, uint8_t *out, size_t room, size_t *wanted);
+uint8_t x3d_host_floor_packet(const struct x3d_host *host, uint8_t *out, size_t room,
+                              size_t *wanted);
 /* Drops the inputs below `number`, which becomes the floor; their memory is used again or freed.
  * May return: X3D_FLOOR_BACK if `number` is below the floor, or X3D_FLOOR_AHEAD if it is above the
  * number of the next input. */
 uint8_t x3d_host_drop_below(struct x3d_host *host, uint32_t number);
 /* Writes the number of inputs that are numbered. */
-uint8_t x3d_host_count(struct x3d_host *host, uint32_t *count);
+uint8_t x3d_host_count(const struct x3d_host *host, uint32_t *count);
 /* Writes the number of viewers. */
-uint8_t x3d_host_viewers(struct x3d_host *host, uint32_t *count);
+uint8_t x3d_host_viewers(const struct x3d_host *host, uint32_t *count);
 
 /* ---- a viewer of a shared world: it holds the world, offers what it points at, and applies the
  * host's inputs in order. Calls that copy a datagram return the same statuses as a host's. */
@@ -447,11 +509,11 @@ uint8_t x3d_viewer_open(struct x3d_viewer *viewer, const uint8_t *text, size_t l
 /* Frees the viewer. Does nothing if the handle holds none. */
 void x3d_viewer_close(struct x3d_viewer *viewer);
 /* Writes the number of applied inputs; of a spoiled viewer, those applied before memory ran out. */
-uint8_t x3d_viewer_applied(struct x3d_viewer *viewer, uint32_t *count);
+uint8_t x3d_viewer_applied(const struct x3d_viewer *viewer, uint32_t *count);
 /* Writes the viewer's boot. */
-uint8_t x3d_viewer_boot(struct x3d_viewer *viewer, uint32_t *boot);
+uint8_t x3d_viewer_boot(const struct x3d_viewer *viewer, uint32_t *boot);
 /* Writes the number of offers that wait: at most 64. */
-uint8_t x3d_viewer_waiting(struct x3d_viewer *viewer, uint32_t *count);
+uint8_t x3d_viewer_waiting(const struct x3d_viewer *viewer, uint32_t *count);
 /* Takes a datagram of the host, and writes what the viewer did with it. May return, in this order:
  * X3D_SPOILED, the statuses of x3d_host_take if the bytes are not a datagram, X3D_WRONG_SCENE,
  * X3D_NOT_FOR_ME for an offer, an ask, a piece or another viewer's ack, X3D_TIME_NOT_LATER (the
@@ -465,10 +527,10 @@ uint8_t x3d_viewer_take(struct x3d_viewer *viewer, const uint8_t *bytes, size_t 
 uint8_t x3d_viewer_offer(struct x3d_viewer *viewer, bool down, const struct x3d_aim *aim,
                          uint32_t *number);
 /* Copies the datagram of waiting offer number `place`, where 0 is the oldest. */
-uint8_t x3d_viewer_resend(struct x3d_viewer *viewer, uint32_t place, uint8_t *out, size_t room,
-                          size_t *wanted);
+uint8_t x3d_viewer_resend(const struct x3d_viewer *viewer, uint32_t place, uint8_t *out,
+                          size_t room, size_t *wanted);
 /* Copies the datagram that asks for the inputs from the first one that the viewer lacks on. */
-uint8_t x3d_viewer_ask(struct x3d_viewer *viewer, uint8_t *out, size_t room, size_t *wanted);
+uint8_t x3d_viewer_ask(const struct x3d_viewer *viewer, uint8_t *out, size_t room, size_t *wanted);
 /* Makes the snapshot of the viewer's world, with the viewer's boot number in it.
  * x3d_viewer_copy_text copies it. May return: X3D_SPOILED or X3D_MEMORY. */
 uint8_t x3d_viewer_make_snapshot(struct x3d_viewer *viewer);
@@ -481,11 +543,11 @@ uint8_t x3d_viewer_rewind(struct x3d_viewer *viewer, uint32_t boot, const uint8_
 /* Writes the number of pieces that the bytes of a snapshot have: 0 if they do not begin as a
  * snapshot. They may be the snapshot of any world or viewer of the scene. May return: X3D_TOO_LARGE
  * for more than 2^26 bytes; `count` is then 0. */
-uint8_t x3d_viewer_piece_count(struct x3d_viewer *viewer, const uint8_t *bytes, size_t length,
+uint8_t x3d_viewer_piece_count(const struct x3d_viewer *viewer, const uint8_t *bytes, size_t length,
                                uint32_t *count);
 /* Copies the datagram of piece `index`, from 0, of these bytes, for other viewers of the same
  * scene. Of `viewer` only the scene's mark is used. */
-uint8_t x3d_viewer_piece(struct x3d_viewer *viewer, const uint8_t *bytes, size_t length,
+uint8_t x3d_viewer_piece(const struct x3d_viewer *viewer, const uint8_t *bytes, size_t length,
                          uint32_t index, uint8_t *out, size_t room, size_t *wanted);
 /* Gathers a datagram that is a piece, even if the viewer is spoiled, and writes what was done with
  * it (an x3d_gathered). May return, in this order: the statuses of x3d_host_take if the bytes are
@@ -509,19 +571,20 @@ uint8_t x3d_viewer_make_type(struct x3d_viewer *viewer, uint32_t node);
 uint8_t x3d_viewer_make_label(struct x3d_viewer *viewer, uint32_t node);
 uint8_t x3d_viewer_make_field_name(struct x3d_viewer *viewer, uint32_t node, uint16_t field);
 uint8_t x3d_viewer_make_value(struct x3d_viewer *viewer, uint32_t node, uint16_t field);
-uint8_t x3d_viewer_copy_text(struct x3d_viewer *viewer, uint8_t *out, size_t room, size_t *wanted);
-uint8_t x3d_viewer_node_count(struct x3d_viewer *viewer, size_t *count);
-uint8_t x3d_viewer_field_count(struct x3d_viewer *viewer, uint32_t node, uint32_t *count);
-uint8_t x3d_viewer_field_named(struct x3d_viewer *viewer, uint32_t node, const uint8_t *name,
+uint8_t x3d_viewer_copy_text(const struct x3d_viewer *viewer, uint8_t *out, size_t room,
+                             size_t *wanted);
+uint8_t x3d_viewer_node_count(const struct x3d_viewer *viewer, size_t *count);
+uint8_t x3d_viewer_field_count(const struct x3d_viewer *viewer, uint32_t node, uint32_t *count);
+uint8_t x3d_viewer_field_named(const struct x3d_viewer *viewer, uint32_t node, const uint8_t *name,
                                size_t length, uint16_t *field);
 uint8_t x3d_viewer_list_roots(struct x3d_viewer *viewer);
 uint8_t x3d_viewer_list_children(struct x3d_viewer *viewer, uint32_t node);
 uint8_t x3d_viewer_list_value(struct x3d_viewer *viewer, uint32_t node, uint16_t field);
-uint8_t x3d_viewer_copy_numbers(struct x3d_viewer *viewer, int64_t *out, size_t room,
+uint8_t x3d_viewer_copy_numbers(const struct x3d_viewer *viewer, int64_t *out, size_t room,
                                 size_t *wanted);
 uint8_t x3d_viewer_list_changed(struct x3d_viewer *viewer, uint32_t since);
-uint8_t x3d_viewer_copy_changed(struct x3d_viewer *viewer, struct x3d_change *out, size_t room,
-                                size_t *wanted);
+uint8_t x3d_viewer_copy_changed(const struct x3d_viewer *viewer, struct x3d_change *out,
+                                size_t room, size_t *wanted);
 uint8_t x3d_viewer_meet(struct x3d_viewer *viewer, const struct x3d_aim *aim, struct x3d_met *met);
 
 #ifdef __cplusplus

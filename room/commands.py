@@ -90,6 +90,8 @@ def kill(service, window, body):
     """Stops a viewer."""
     if not whole(body.get("who")) or body["who"] not in service.room.seats:
         raise Wrong(400, "no such viewer")
+    name, _ = service.person(body["who"])
+    service.record.say(-1, window.name, window.color, f"stopped the viewer of {name}")
     service.room.kill(body["who"])
 
 
@@ -108,7 +110,7 @@ def start(service, window, body):
 @trainers
 def reset(service, window, body):
     """Begins a new run of the scene, at its opening."""
-    service.restart(service.room.text, f"{window.name} began again: run {service.runs + 1}")
+    service.restart(service.room.text, f"began again: run {service.runs + 1}", window)
 
 
 def replay(service, window, body):

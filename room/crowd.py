@@ -151,7 +151,8 @@ class Crowd:
         return [self.told.get(timeout=self.SECONDS) for _ in range(self.count)]
 
     def __exit__(self, *_):
+        # Asked to end they would wait for their threads.
         for process in self.processes:
-            process.terminate()
+            process.kill()
         for process in self.processes:
             process.join()

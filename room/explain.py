@@ -4,6 +4,7 @@ import re
 from pathlib import Path
 
 from library import TOP, x3d
+from parts import Part, part_of
 
 FAULTS = TOP / "docs/FAULTS.md"
 # A row of a table there: a name, when it is answered, an example.
@@ -47,6 +48,34 @@ def scene_in(whole):
 
 def read_scene_file(path):
     """The scene of a file that a world can be made of. Raises Unshown."""
+    return read_part_of_file(path, True).text
+
+
+def read_part_of_file(path, whole=False):
+    """The scene of a file; of one that isn't read its part, unless all of it is wanted (`whole`). Raises Unshown."""
+    text, first = read_text(path)
+    try:
+        part = part_in(text, whole)
+    except x3d.Refusal as refusal:
+        raise refused(Path(path).name, text.decode(), first, refusal) from None
+    except MemoryError:
+        raise Unshown(Path(path).name, 0, "", "it takes more memory than there is") from None
+    return part._replace(left=tuple((line + first - 1, what) for line, what in part.left))
+
+
+def part_in(text, whole):
+    """A text of which a world can be made, or its part. Raises x3d.Refusal."""
+    try:
+        x3d.World(text).close()
+        return Part(text)
+    except x3d.Refusal:
+        if whole:
+            raise
+    return part_of(text)
+
+
+def read_text(path):
+    """The text of the scene in a file, and on which line it begins. Raises Unshown for what is no text."""
     name = Path(path).name
     try:
         whole = Path(path).read_bytes()
@@ -61,21 +90,17 @@ def read_scene_file(path):
         line = 1 + whole[: fault.start].count(b"\n")
         text = whole.split(b"\n")[line - 1].decode(errors="replace")
         raise Unshown(name, line, text, f"the byte {whole[fault.start]:#04x} isn't UTF-8") from None
-    text, first = scene_in(whole)
-    try:
-        x3d.World(text).close()
-    except x3d.Refusal as refusal:
-        raise refused(name, text.decode(), first, str(refusal)) from None
-    return text
+    return scene_in(whole)
 
 
 def refused(name, text, first, refusal):
-    """A refusal, with its line as the file has it."""
-    found = REFUSED.match(refusal)
+    """A refusal, with its line as the file has it, and that of the instance of a prototype whose value is at fault."""
+    found, instance = REFUSED.match(str(refusal)), getattr(refusal, "instance", None)
     fault, line = found[1], int(found[2] or 0)
     lines = text.split("\n")
     there = lines[line - 1] if 0 < line <= len(lines) else ""
-    return Unshown(name, line + first - 1 if line else 0, there, meaning(fault, there))
+    what = meaning(fault, there) + (f", in the instance on line {instance + first - 1}" if instance else "")
+    return Unshown(name, line + first - 1 if line else 0, there, what)
 
 
 def meaning(fault, line):

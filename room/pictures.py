@@ -68,7 +68,8 @@ def shape(page, size):
 def settle(page, count):
     page.wait(f"room.state.people.length === {count}")
     page.wait("room.state.people.every(({ id, who }) => id === room.state.id || room.pointsAt(who))")
-    page.wait("document.getElementById('badge').textContent.startsWith('All')")
+    page.wait(f"document.getElementById('badge').textContent.startsWith('All {count} ')")
+    page.wait(f"document.querySelectorAll('.tag:not([hidden])').length === {count - 1}")
     page.wait("!room.drawn.stale.size && !room.drawn.dirty")
     time.sleep(1)
 

@@ -68,7 +68,7 @@ class Player:
         self.points = []
         if first is None:
             return "scene", {"n": number, "points": points, **self.record.names.scene(self.world)}
-        return "news", {"n": number, "points": points, **self.record.names.news(self.world, first + 1)}
+        return "news", {"n": number, "points": points, **self.record.names.news(self.world, first)}
 
     def status(self):
         """Where it is: its input, seconds from the first on, whether it plays."""

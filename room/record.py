@@ -6,7 +6,7 @@ from typing import NamedTuple
 from inputs import Inputs
 from library import wire, x3d
 from world_log import Writer
-from scene import LINE, Names
+from scene import Names
 from seat import latest
 
 # A snapshot is kept every 600 inputs; of too many every second goes.
@@ -15,6 +15,8 @@ EVERY, SNAPSHOTS = 600, 32
 BOOT = 1
 LOGGED = 2000
 UNNAMED = re.compile(r"N\d+")
+# A line of the trace, as `3 3 Door.translation 1 0 0`.
+LINE = re.compile(r"^(\d+) \S+ (\S+)\.(\S+) (.*)$", re.M)
 SENSORS = {"TouchSensor": {"TRUE": "pressed"}, "PlaneSensor": {"TRUE": "took", "FALSE": "put down"}}
 
 
@@ -113,7 +115,7 @@ class Record:
         about = {"n": number, "points": latest(each for each in self.points if each.number > (told or 0))}
         if told is None:
             return "scene", {**about, **self.names.scene(self.world)}
-        return "news", {**about, **self.names.news(self.world, told + 1)}
+        return "news", {**about, **self.names.news(self.world, told)}
 
     def forget_points(self):
         """All windows were told."""

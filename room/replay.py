@@ -2,7 +2,7 @@
 import time
 from pathlib import Path
 
-from explain import Unshown, read_scene_file, scene_in
+from explain import Unshown, read_part_of_file, read_scene_file, scene_in
 from library import TOP, wire, x3d
 from world_log import Damaged, is_log, read_log
 from record import Record
@@ -48,13 +48,24 @@ def job(path, whole):
 
 
 def logged(path, whole, scenes):
-    """A log names its scene by its mark alone."""
+    """A log names its scene by its mark alone, which may be that of a file's part."""
     mark, inputs = read_log(whole)
-    files = [*map(Path, scenes), *path.parent.glob("*.job"), *path.parent.glob("*.x3dv"), *TOP.glob("examples/rooms/*.job")]
+    beside = [file for ending in ("job", "x3dv", "wrl") for file in path.parent.glob(f"*.{ending}")]
+    files = [file for file in (*map(Path, scenes), *beside, *TOP.glob("examples/rooms/*.job")) if file.is_file()]
     for file in files:
-        if file.is_file() and wire.mark_of(scene_in(file.read_bytes())[0]) == mark:
+        if wire.mark_of(scene_in(file.read_bytes())[0]) == mark:
             return read_scene_file(file), inputs, ()
+    for text in map(text_of_part, files):
+        if text and wire.mark_of(text) == mark:
+            return text, inputs, ()
     raise Unshown(path.name, 0, "", "its scene isn't here: put the scene's file beside it")
+
+
+def text_of_part(file):
+    try:
+        return read_part_of_file(file).text
+    except Unshown:
+        return None
 
 
 class Replayed(Service):

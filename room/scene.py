@@ -1,11 +1,10 @@
 """A viewer's world as a window takes it: every node, with what its fields hold now."""
-import functools
 import re
 
 from library import x3d
 
-# A line of the trace, as `3 3 Door.translation 1 0 0`.
-LINE = re.compile(r"^(\d+) \S+ (\S+)\.(\S+) (.*)$", re.M)
+# Of a value of these types its text is told, of all others the numbers.
+STRINGS = "SFString", "MFString"
 
 
 def held(world, node, field):
@@ -26,39 +25,29 @@ class Names:
             kind = world.node_type(node)
             key = kind, node if kind == "Script" else None
             if key not in known:
-                count = world.field_count(node)
-                known[key] = {world.field_name(node, field): field for field in range(count)}
+                known[key] = [world.field_name(node, field) for field in range(world.field_count(node))]
             self.kinds.append(kind)
             self.fields.append(known[key])
         self.labels = [world.label(node) for node in range(len(self.kinds))]
         self.nodes = {label: node for node, label in enumerate(self.labels)}
-        self.changed = functools.lru_cache(256)(self.fields_of)
-
-    def fields_of(self, trace):
-        """The fields that lines of a trace name: of each its node, its number and its name."""
-        found = {}
-        for _, label, name, _ in LINE.findall(trace):
-            node = self.nodes.get(label)
-            # In a string a line may go on, and what looks like a name then needn't be one.
-            if node is not None and name in self.fields[node]:
-                found[node, self.fields[node][name], name] = None
-        return tuple(found)
 
     def scene(self, world):
         """The roots of the scene, and each node by its number: its type, its label, its fields."""
         nodes = []
         for node, kind in enumerate(self.kinds):
-            values = {name: held(world, node, field) for name, field in self.fields[node].items()}
+            values = {name: held(world, node, field) for field, name in enumerate(self.fields[node])}
             nodes.append({"kind": kind, "label": self.labels[node], "fields": values})
         return {"roots": world.roots(), "nodes": nodes}
 
-    def news(self, world, first):
-        """The trace from an input on, and what the fields that it names hold now. That may differ from the
-        last line: an output that has sent at a timestamp still sets its field, and sends nothing."""
-        trace = world.trace(first)
-        now = [[node, name, held(world, node, field)] for node, field, name in self.changed(trace)]
-        return {"trace": trace, "now": [each for each in now if each[2] is not None]}
+    def news(self, world, since):
+        """What inputs after that number set: of each field its node, its name, the type and the value as it is now. By
+        these a window draws; the trace is for its lanes alone, since the last line of a field needn't be its value."""
+        now = []
+        for node, field, kind, numbers in world.changed(since):
+            told = world.value(node, field) if kind in STRINGS else numbers
+            now.append([node, self.fields[node][field], kind, told])
+        return {"trace": world.trace(since + 1), "now": now}
 
     def text(self, world, node, name):
         """The text of a field of a node that holds one string."""
-        return re.sub(r"\\(.)", r"\1", held(world, node, self.fields[node][name])[1:-1], flags=re.S)
+        return re.sub(r"\\(.)", r"\1", held(world, node, self.fields[node].index(name))[1:-1], flags=re.S)

@@ -104,7 +104,7 @@ class Seat(Place):
         told = {"n": number, "points": latest(here)}
         if first is None:
             return "scene", {**told, **self.names.scene(self.viewer)}
-        return "news", {**told, **self.names.news(self.viewer, first + 1)}
+        return "news", {**told, **self.names.news(self.viewer, first)}
 
 
 class Far(Place):

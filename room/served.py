@@ -52,6 +52,15 @@ def library_for_windows():
         yield folder
 
 
+def places_of_viewers():
+    """Words for a server, and where viewers run by them: in the server, and in windows where the library for these is."""
+    held = (WASM / "x3d.wasm").exists()
+    if not held:
+        print("there is no library for windows (make wasm)", end=", ")
+    each = "--each", "64"
+    return [((*each, "--wasm", "/none"), "in the server"), *([(each, "in this window")] if held else [])]
+
+
 class Served:
     """A server of its own on a port of its own."""
 

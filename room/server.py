@@ -2,6 +2,7 @@
 """Shows shared worlds in browser windows, each with a viewer of its own."""
 import argparse
 import asyncio
+import errno
 import ipaddress
 import logging
 import re
@@ -30,9 +31,10 @@ from web import Site
 THREE = "/usr/share/javascript/three/three.min.js"
 # How many seats an address may take, and connections beside these.
 EACH, MORE = 16, 64
-FILES = """FILE is a scene in the Classic VRML encoding, or a job, of which the scene counts. Each file is a room, by its
-name without its ending. A file that changes is shown again: a new run begins, or what is wrong is shown over the
-picture. The first link that is printed is for all; the second, with a secret, is for the trainer."""
+FILES = """FILE is a scene in the Classic VRML encoding, of X3D or of VRML 97, or a job, of which the scene counts. What isn't read
+of it is left out, and the page lists that. Each file is a room, by its name without its ending. A file that changes is
+shown again: a new run begins, or what is wrong is shown over the picture. The first link that is printed is for all; the
+second, with a secret, is for the trainer."""
 
 
 def arguments():
@@ -48,8 +50,8 @@ def arguments():
     add("--name", action="append", default=[], metavar="HOST",
         help="a name by which this server is reached, beside localhost and this machine's own; may be given twice")
     add("--password", metavar="WORD", help="ask each window for this before it comes in")
-    add("--trainer", metavar="WORD", default=secrets.token_urlsafe(9),
-        help="the secret of the trainer's link (else a new one at each start)")
+    add("--trainer", metavar="WORD",
+        help="the secret of the trainer's link (else a new one, which --keep keeps)")
     add("--keep", metavar="FOLDER", help="keep each room on the disk there, and go on with it at the next start")
     add("--each", type=int, default=EACH, metavar="N",
         help=f"seats that one address may take ({EACH}); who comes beyond them watches")
@@ -60,6 +62,19 @@ def arguments():
         "where there is none they run in the server")
     add("--three", type=Path, default=Path(THREE), metavar="FILE", help=f"three.js, r111 ({THREE})")
     return words
+
+
+def trainers_secret(folder):
+    """A new secret, or the one that was kept, so that the trainer's link stays what it was."""
+    path = Path(folder, ".trainer") if folder else None
+    if path and path.exists():
+        return path.read_text().strip()
+    secret = secrets.token_urlsafe(9)
+    if path:
+        path.parent.mkdir(parents=True, exist_ok=True)
+        path.touch(0o600)
+        path.write_text(secret)
+    return secret
 
 
 def services_of(given):
@@ -92,6 +107,24 @@ def is_here_alone(address):
         return address == "localhost"
 
 
+def own_address():
+    """An address of this machine by which others reach it: the one that it would send from. Nothing is sent."""
+    try:
+        with socket.socket(socket.AF_INET, socket.SOCK_DGRAM) as link:
+            link.connect(("192.0.2.1", 9))
+            return link.getsockname()[0]
+    except OSError:
+        return socket.gethostname()
+
+
+def place_for_others(given, addresses, port):
+    """Where other machines reach it; nothing where they don't, or where a proxy stands before it."""
+    if given.proxy or all(map(is_here_alone, addresses)):
+        return None
+    whole = not given.name and addresses[0] in ("0.0.0.0", "::")
+    return f"http://{own_address() if whole else reached_at(given, addresses)}:{port}/"
+
+
 def is_no_request(record):
     """Whether a line of the log says that a client sent what is no HTTP: that is no fault of the server."""
     return bool(record.exc_info) and isinstance(record.exc_info[1], HttpProcessingError)
@@ -115,10 +148,12 @@ async def serve(given):
     server = await loop.create_server(guard, addresses, given.port, backlog=256)
     for ends in (signal.SIGINT, signal.SIGTERM):
         loop.add_signal_handler(ends, ended.set)
-    place = f"http://{reached_at(given, addresses)}:{server.sockets[0].getsockname()[1]}/"
+    port = server.sockets[0].getsockname()[1]
+    place, given.place = f"http://{reached_at(given, addresses)}:{port}/", place_for_others(given, addresses, port)
     for name in services:
         print(f"{place}{name}/", flush=True)
         print(f"  trainer: {place}{name}/#trainer={given.trainer}", flush=True)
+    print("Open the trainer's link yourself, and send the other one. Ctrl-C ends.", flush=True)
     if sys.stderr.isatty() and not given.proxy and all(map(is_here_alone, addresses)):
         print("room: for this machine alone; --address 0.0.0.0 lets others in", file=sys.stderr, flush=True)
     clocks = [asyncio.ensure_future(service.run()) for service in services.values()]
@@ -141,12 +176,16 @@ def main():
         sys.exit(f"room: there is no {given.three}: Debian's package libjs-three has it")
     if not (given.wasm / "x3d.wasm").exists():
         given.wasm = None
+    given.trainer = given.trainer or trainers_secret(given.keep)
     logging.getLogger("aiohttp.server").addFilter(lambda record: not is_no_request(record))
     try:
         asyncio.run(serve(given))
     except Unshown as unshown:
         sys.exit(f"room: {unshown}")
-    except (OSError, x3d.Refusal) as refused:
+    except OSError as fault:
+        taken = fault.errno == errno.EADDRINUSE
+        sys.exit(f"room: port {given.port} is taken: --port takes another one" if taken else f"room: {fault}")
+    except x3d.Refusal as refused:
         sys.exit(f"room: {refused}")
 
 

@@ -8,13 +8,14 @@ import time
 from pathlib import Path
 
 from channel import Channel
-from explain import Unshown, read_scene_file
+from parts import Part
 from people import COLORS, NAME, Window, clean, same
 from player import Player
 from record import BOOT, Record
 from room import VIEWERS, Room
 from store import Store
 from viewpoints import orientations_of
+from watched import Watched
 
 RATE, WAITING = 30, 300
 # Turns between what is told of viewers, looks at the scene's file, and writes to the disk.
@@ -24,8 +25,8 @@ AWAY = 20
 SPECTATORS = 64
 # How a connection ends whose window has come in by another one.
 ELSEWHERE = 4000
-# How much of the log a window is sent when it comes in.
-SHOWN = 200
+# How much of the log a window is sent when it comes in, and of what was left out of the scene's file.
+SHOWN, LEFT = 200, 500
 
 # Without blanks, since each event goes to each window.
 ENCODED = json.JSONEncoder(separators=(",", ":")).encode
@@ -55,15 +56,16 @@ class Service:
     def __init__(self, name, file, limits, folder=None):
         self.open_windows(name, file, limits)
         self.store = Store(Path(folder, name)) if folder else None
-        # How the file was when it was read, and at the last look.
-        self.seen = self.looked = self.stamp()
-        text = read_scene_file(self.file)
-        self.open(text, self.store and self.store.load(text))
+        self.watched = Watched(self.file)
+        part = self.watched.part
+        if part.count:
+            print(f"room {name}: of {self.file.name} the part that is read is shown: {part.count}", file=sys.stderr, flush=True)
+        self.open(part.text, self.store and self.store.load(part.text))
 
     def open_windows(self, name, file, limits):
         """A room without windows, and without a world so far."""
         self.name, self.file, self.limits = name, Path(file), limits
-        self.windows, self.ids, self.fault, self.runs = {}, itertools.count(1), None, 1
+        self.windows, self.ids, self.watched, self.runs = {}, itertools.count(1), None, 1
         # Whether datagrams of windows wait to be carried; one download is written at a time.
         self.carries, self.writing = False, asyncio.Lock()
 
@@ -109,7 +111,9 @@ class Service:
         if turn % STATUS == 0:
             self.tell_all("status", {**self.room.status(), "channel": self.channel(), "run": self.runs})
         if turn % LOOK == 0:
-            self.look()
+            self.watched.look()
+        if self.watched.is_read():
+            self.show_file()
         if self.store and (turn % WRITE == 0 or told):
             self.store.append(self.record)
         if self.store and turn % SAVE == SAVE - 1 and self.windows:
@@ -135,32 +139,24 @@ class Service:
         window.told = self.record.world.applied()
         return news
 
-    def look(self):
-        """Looks whether the scene's file is another one, which no one is just writing: it was the same at the last look."""
-        before, self.looked = self.looked, self.stamp()
-        if self.looked == self.seen or self.looked != before:
-            return
-        self.seen = self.looked
-        try:
-            text = read_scene_file(self.file)
-        except Unshown as unshown:
-            self.fault = unshown.told()
-            print(f"room {self.name}: {unshown}", file=sys.stderr, flush=True)
-        else:
-            self.fault = None
-            if text != self.room.text:
-                self.restart(text, f"{self.file.name} was changed: run {self.runs + 1}")
-        self.tell_all("fault", {"fault": self.fault})
+    def show_file(self):
+        """Shows the scene's file once more where its scene is another one, or what is wrong with it."""
+        text, fault = self.watched.part.text, self.watched.fault
+        if fault:
+            print(f"room {self.name}: {fault}", file=sys.stderr, flush=True)
+        elif text != self.room.text:
+            self.restart(text, f"{self.file.name} was changed: run {self.runs + 1}")
+        for window in self.windows.values():
+            self.tell_file(window)
 
-    def stamp(self):
-        try:
-            about = self.file.stat()
-            return about.st_mtime_ns, about.st_size, about.st_ino
-        except OSError:
-            return None
+    def tell_file(self, window):
+        """Tells what is wrong with the scene's file, and what was left out of it."""
+        fault, part = (self.watched.fault, self.watched.part) if self.watched else (None, Part(b""))
+        self.tell(window, "fault", {"fault": fault and fault.told()})
+        self.tell(window, "left", {"file": self.file.name, "count": part.count, "left": part.left[:LEFT]})
 
-    def restart(self, text, why):
-        """A new run, with the windows that there are in the seats that they have."""
+    def restart(self, text, why, by=None):
+        """A new run, with the windows that there are in the seats that they have; why, and whose window began it."""
         channel = self.channel()
         self.open(text)
         self.runs += 1
@@ -171,7 +167,7 @@ class Service:
             self.tell(window, "run", {"run": self.runs, "why": why, "orientations": self.orientations})
             if window.who is not None:
                 self.room.take_seat(window.who, *self.held_by(window))
-        self.record.say(-1, "", "", why)
+        self.record.say(-1, by.name if by else "", by.color if by else "", why)
 
     # Windows.
 
@@ -220,6 +216,7 @@ class Service:
         if window:
             window.outbox.close(ELSEWHERE)
             window.outbox, window.gone, window.told = outbox, None, None
+            window.trainer = window.trainer or same(body.get("trainer"), self.limits.trainer)
             if window.who is not None:
                 self.come_back(window, body)
             return window
@@ -297,8 +294,9 @@ class Service:
             "id": window.id, "who": window.who, "token": window.token, "name": window.name, "color": window.color,
             "trainer": window.trainer, "room": self.name, "colors": COLORS, "run": self.runs,
             "orientations": self.orientations, "file": self.file.name,
+            "place": self.limits.place and f"{self.limits.place}{self.name}/",
         })
-        self.tell(window, "fault", {"fault": self.fault})
+        self.tell_file(window)
         self.tell(window, "log", {"log": [each._asdict() for each in self.record.log[-SHOWN:]], "whole": True})
         self.tell_people()
 

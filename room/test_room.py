@@ -20,11 +20,15 @@ except ImportError:
 import browser
 import tests_examples
 import tests_held
+import tests_hostile
 import tests_log
+import tests_parts
 import tests_people
+import tests_phone
 import tests_room
 import tests_server
 import tests_viewers
+import tests_views
 import tests_windows
 from served import Skipped
 
@@ -32,6 +36,7 @@ QUICK, BUDGET, END = "--quick" in sys.argv, 40, 55
 # Those of --quick: all of the room without a server before them, and then these, in turn.
 GATE = (
     "a_log_has_its_bytes",
+    "a_scene_that_isnt_read_is_read_by_its_part",
     "the_program_recalls_the_log_as_the_job",
     "the_program_goes_on_with_the_log_and_the_room_with_its",
     "viewers_in_windows_are_equal_over_a_bad_channel",
@@ -79,8 +84,9 @@ def outcome(name, test, begun):
 
 def main():
     core = tests_of(tests_room)
-    tests = {**core, **tests_of(tests_log), **tests_of(tests_held), **tests_of(tests_server), **tests_of(tests_windows)}
-    tests |= {**tests_of(tests_viewers), **tests_of(tests_people), **tests_of(tests_examples)}
+    modules = tests_log, tests_held, tests_server, tests_hostile, tests_windows, tests_viewers, tests_people, tests_phone
+    modules += tests_views, tests_parts, tests_examples
+    tests = {name: test for each in (tests_room, *modules) for name, test in tests_of(each).items()}
     names = [word for word in sys.argv[1:] if word != "--quick"]
     if unknown := [name for name in names if name not in tests]:
         sys.exit(f"room: there is no test {unknown[0]}, of " + " ".join(tests))

@@ -1,5 +1,7 @@
 """Tests of the rooms of examples/rooms, each in a browser: what its text says can be done."""
-from served import ASSEMBLY, DRILL, LATER, PANEL, QUIZ, Windows, spot, wait_equal
+import re
+
+from served import ASSEMBLY, DRILL, LATER, PANEL, QUIZ, ROOMS, Windows, scene, spot, wait_equal
 
 
 def shows(page, text):
@@ -40,6 +42,13 @@ def said_by(page, text):
         f"[...document.querySelectorAll('#log li')].filter((each) => each.textContent.endsWith(' {text}'))"
         ".map((each) => each.querySelector('b').textContent).join()"
     )
+
+
+def test_each_room_is_short_and_told_in_three_lines():
+    told = dict(re.findall(r"^## \[(\w+)\.job\]\(\w+\.job\)\n((?:.+\n)+)", (ROOMS / "README.md").read_text(), re.M))
+    assert sorted(told) == sorted(job.stem for job in ROOMS.glob("*.job")) and len(told) == 5, told
+    for name, text in told.items():
+        assert text.count("\n") == 3 and scene(ROOMS / f"{name}.job").count("\n") < 200, name
 
 
 def test_the_panels_flow_needs_the_pump_and_the_valve():

@@ -4,7 +4,7 @@ import tempfile
 from pathlib import Path
 
 from channel import Channel
-from explain import Unshown, read_scene_file
+from explain import Unshown, read_scene_file, refused
 from player import Player
 from record import Record, apply
 from library import x3d
@@ -139,10 +139,12 @@ def test_a_window_is_told_what_changed():
     turned.turns(40)
     kind, told = seat.news()
     assert (kind, told["n"], [point.who for point in told["points"]]) == ("news", 46, [0])
-    for node, name, value in told["now"]:
-        nodes[node]["fields"][name] = value
-    new = seat.names.scene(seat.viewer)["nodes"]
-    assert [node["fields"] for node in nodes] == [node["fields"] for node in new]
+    fields = lambda nodes: {(k, name): held for k, node in enumerate(nodes) for name, held in node["fields"].items()}
+    old, new = fields(nodes), fields(seat.names.scene(seat.viewer)["nodes"])
+    now = {(node, name): told for node, name, _, told in told["now"]}
+    assert {each for each in new if new[each] != old[each]} <= set(now) <= set(new) and len(now) == len(told["now"])
+    for (node, name), told in now.items():
+        assert told == seat.viewer.numbers(node, seat.viewer.field_named(node, name)), (node, name)
 
 
 # Two interpolators go to one field. At 0.5 of the cycle the first sets 0.5 0 0, which is sent; the second sets
@@ -164,11 +166,11 @@ def test_news_say_what_a_field_holds_and_not_its_last_line():
     names = Names(world)
     world.clock(1, 10_000_000)
     world.clock(2, 11_000_000)
-    told = names.news(world, 2)
+    told = names.news(world, 1)
     lines = [line for line in told["trace"].splitlines() if " Door." in line]
     assert lines == ["2 11 Door.translation 0.5 0 0"], lines
     door = names.nodes["Door"]
-    assert [door, "translation", "0 2.5 0"] in told["now"], told["now"]
+    assert [each for each in told["now"] if each[0] == door] == [[door, "translation", "SFVec3f", [0, 2_500_000, 0]]]
     assert "translation 0 2.5 0" in world.scene()
 
 
@@ -316,3 +318,12 @@ def test_a_faulty_file_is_explained_with_its_line():
                 assert unshown.line == line and what in unshown.what, (content, unshown.line, unshown.what)
                 lines = content.split(b"\n")
                 assert unshown.text == (lines[line - 1].decode(errors="replace") if line else ""), unshown.text
+
+
+def test_a_fault_of_an_instance_has_its_line():
+    """The library says it of a value that comes into a prototype by an IS."""
+    refusal = x3d.Refusal("refused ValueRange line 3")
+    for instance, ends in ((7, ", in the instance on line 17"), (None, ")")):
+        refusal.instance = instance
+        unshown = refused("a.job", "one\ntwo\nthree\n", 11, refusal)
+        assert (unshown.line, unshown.text) == (13, "three") and unshown.what.endswith(ends), unshown.what

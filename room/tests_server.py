@@ -1,19 +1,14 @@
-"""Tests of the server: what it refuses, how long it waits, how much one address may take, who may do what."""
-import contextlib
-import json
-import os
-import random
+"""Tests of the server: what it refuses, how much one address may take, who may do what, what it keeps."""
+import re
 import socket
-import sys
+import subprocess
 import time
 
 import browser
-from guard import PATIENCE
 from library import wire
 from world_log import Writer, read_log
-from served import AT_BUTTON, PANEL, TRAINER, Client, Served, scene, scene_file
+from served import AT_BUTTON, HERE, PANEL, TRAINER, Client, Served, scene, scene_file
 
-HOSTILE = int(os.environ.get("HOSTILE", "500" if "--quick" in sys.argv else "10000"))
 POINT = {"down": True, "aim": AT_BUTTON}
 
 
@@ -44,6 +39,36 @@ def test_what_isnt_its_own_is_refused():
         # It listens at no other address, though this is the machine's own too.
         with socket.socket() as link:
             assert link.connect_ex(("127.0.0.2", served.port))
+
+
+def test_help_describes_each_option():
+    told = subprocess.run([HERE / "server.py", "--help"], capture_output=True, text=True, check=True).stdout
+    options = re.findall(r"^  (--[a-z]+|-h, --help|FILE)((?:.*\n(?=   ))*.*)", told, re.M)
+    named = "FILE -h --replay --address --port --name --password --trainer --keep --each --proxy --wasm --three".split()
+    assert [word.partition(",")[0] for word, _ in options] == named, told
+    for word, text in options:
+        described = re.sub(r"^ (?:[A-Z]+)?", "", text).strip()
+        assert len(described) >= 8, (word, described)
+
+
+def test_the_trainers_link_stays_where_rooms_are_kept():
+    with scene_file(scene(), "door.x3dv") as file:
+        links = []
+        for _ in range(2):
+            words = [HERE / "server.py", "--port", "0", "--keep", file.parent / "kept", file]
+            with subprocess.Popen(words, stdout=subprocess.PIPE, text=True) as server:
+                told = [server.stdout.readline().strip() for _ in range(3)]
+                server.terminate()
+            assert told[0].endswith("/door/") and "Open the trainer's link yourself" in told[2], told
+            links.append(told[1].partition("#trainer=")[2])
+        assert links[0] and links[0] == links[1] and (file.parent / "kept/.trainer").stat().st_mode & 0o77 == 0, links
+
+
+def test_a_port_that_is_taken_is_said():
+    with Served() as served:
+        words = [HERE / "server.py", "--port", str(served.port), PANEL]
+        told = subprocess.run(words, capture_output=True, text=True, timeout=60, check=False)
+        assert told.returncode == 1 and told.stderr == f"room: port {served.port} is taken: --port takes another one\n", told
 
 
 def test_a_page_of_another_origin_has_no_window():
@@ -157,6 +182,10 @@ def test_it_is_reached_by_the_machines_name_and_by_ipv6():
         assert served.address.startswith(f"http://room.example:{served.port}/")
         assert served.get("/door/", Host="room.example") == served.get("/door/", Host=socket.gethostname()) == 200
         assert served.get("/door/", Host="other.example") == 403
+        # Who is at an address of this machine alone is told the one for others, as a link and as a QR code.
+        assert served.client().seat["place"] == served.address
+        codes = {served.ask("GET", "/door/link.svg", Host=f"{host}:{served.port}") for host in ("room.example", "127.0.0.1", "[::1]")}
+        assert len(codes) == 1, codes
     with Served(more=("--address", "::1")) as served:
         assert served.address == f"http://[::1]:{served.port}/door/", served.address
         with socket.create_connection(("::1", served.port), timeout=20) as link:
@@ -168,105 +197,6 @@ def test_a_proxy_says_where_a_client_is():
     with Served(more=("--proxy", "--each", "1")) as served:
         ones = [Client(served, [f"X-Forwarded-For: 10.0.0.{k}"]).seat["who"] for k in (1, 2, 2)]
         assert ones == [0, 1, None], ones
-
-
-def test_slow_and_greedy_connections_shut_nothing():
-    """One address opens what it may and sends a byte a second; windows come in meanwhile from another one."""
-    with Served(more=("--each", "2", "--address", "0.0.0.0")) as served, contextlib.ExitStack() as ends:
-        slow = []
-        for _ in range(120):
-            link = ends.enter_context(socket.socket())
-            link.bind(("127.0.0.9", 0))
-            link.settimeout(60)
-            link.connect(("127.0.0.1", served.port))
-            with contextlib.suppress(OSError):
-                link.sendall(b"GET /door/ HTTP/1.1\r\nHost: localhost\r\nX-Slow: ")
-            slow.append(link)
-        begun = time.monotonic()
-        served.address = f"http://127.0.0.1:{served.port}/door/"
-        assert served.client().seat["who"] == 0 and time.monotonic() - begun < 5 * browser.busy()
-        gone = 0
-        while gone < len(slow) and time.monotonic() - begun < 40:
-            gone = sum(not drips(link) for link in slow)
-            time.sleep(1)
-        took = time.monotonic() - begun
-        print(f"120 slow connections are gone after {took:.0f} s", end=", ")
-        assert gone == len(slow) and PATIENCE - 2 < took < (PATIENCE + 10) * browser.busy(), (gone, took)
-
-
-def drips(link):
-    """Sends a byte of a request that never ends; whether the connection stands."""
-    try:
-        link.sendall(b"G")
-        return True
-    except OSError:
-        return False
-
-
-def test_a_window_that_never_comes_in_or_reads_is_cut_off():
-    with Served() as served:
-        silent = browser.Socket(f"ws://127.0.0.1:{served.port}/door/socket")
-        begun = time.monotonic()
-        try:
-            silent.receive()
-            raise AssertionError("it was told something")
-        except ConnectionError:
-            assert 8 < time.monotonic() - begun < 14 * browser.busy()
-        # Another one comes in first and sends what is too long, or no text.
-        for kind, sent in ((1, "x" * 1025), (1, b"\xff\xfe"), (2, b"datagram")):
-            client = served.client()
-            client.socket.send(sent, kind)
-            with contextlib.suppress(ConnectionError):
-                while client.until("answer")["status"] != 415:
-                    pass
-        assert served.client().seat["kind"] == "you"
-
-
-def hostile(chance):
-    """A message that is no command, or one that has no sense."""
-    kind = chance.randrange(6)
-    if kind == 0:
-        return bytes(chance.randrange(32, 127) for _ in range(chance.randrange(200))).decode()
-    if kind == 1:
-        return '{"do": ' * chance.randrange(1, 120)
-    if kind == 2:
-        return json.dumps({"do": "point", "id": chance.choice((None, 1.5, [1], "x")), "down": True, "aim": None})
-    if kind == 3:
-        far = [10 ** chance.randrange(16, 100)] * 6
-        return json.dumps({"do": "point", "down": True, "aim": far})
-    if kind == 4:
-        return json.dumps([{"aim": None}, 1e308, "\ud800"])
-    odd = chance.choice(("\ud800", {"a": [1]}, None, 1e308, float("nan"), ""))
-    command = chance.choice(("point", "channel", "kill", "start", "hand", "replay", "reset", odd))
-    return json.dumps({"do": command, "aim": "NaN", "down": [[]], "loss": odd, "who": odd, "n": odd, "up": odd})
-
-
-def test_hostile_messages_never_stop_it():
-    chance, answers = random.Random(3), {}
-    with Served() as served:
-        client = served.client()
-        for _ in range(HOSTILE):
-            client.socket.send(hostile(chance))
-            status = client.until("answer")["status"]
-            answers[status] = answers.get(status, 0) + 1
-        assert set(answers) <= {400, 403, 404, 409, 429}, answers
-        time.sleep(1)
-        assert client.status("point", **POINT) == 200
-
-
-def test_what_is_no_http_never_stops_it():
-    chance = random.Random(5)
-    lines = b"GET / HTTP/9.9", b"GET", b"POST /door/ HTTP/1.1\r\nHost: \xff", b"a" * 70_000
-    with Served() as served:
-        for number in range(200):
-            noise = bytes(chance.randrange(256) for _ in range(chance.randrange(1, 300)))
-            with socket.create_connection(("127.0.0.1", served.port), timeout=60) as link:
-                with contextlib.suppress(ConnectionError):
-                    link.sendall(chance.choice((*lines, noise)) + b"\r\n\r\n")
-                    if number % 2:
-                        link.shutdown(socket.SHUT_WR)
-                        link.recv(1 << 16)
-        assert served.client().seat["kind"] == "you"
 
 
 def test_a_changed_file_is_a_new_run_and_a_faulty_one_is_said():
@@ -324,7 +254,9 @@ def test_a_restarted_server_goes_on():
             assert client.status("point", **POINT) == 409
         # The list is a log, which has its scene beside it; so has the one that was downloaded.
         file.with_name("run.x3dlog").write_bytes(stored[1])
-        for words, least in ((file.parent / "kept/door/inputs.x3dlog",), whole), ((file.parent / "run.x3dlog",), 30):
-            with Served(None, more=("--replay", *map(str, words))) as served:
+        file.with_name("run.job").write_bytes(job[1])
+        runs = (file.parent / "kept/door/inputs.x3dlog", whole), (file.with_name("run.x3dlog"), 30), (file.with_name("run.job"), 30)
+        for run, least in runs:
+            with Served(None, more=("--replay", str(run))) as served:
                 client = served.client()
                 assert client.until("log")["log"][0]["text"] == said and client.until("replay")["of"] >= least

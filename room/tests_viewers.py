@@ -1,6 +1,5 @@
 """Tests of windows of a browser: where their viewers are, and what is shown where one is stopped, hidden or alone."""
-from library import WASM
-from served import BUTTON, LATER, Served, Windows, spot, wait_equal
+from served import BUTTON, LATER, Served, Windows, places_of_viewers, spot, wait_equal
 from tests_windows import assert_door_is_seen, slow_door
 
 
@@ -13,6 +12,8 @@ def test_a_killed_viewer_comes_back():
         trainer.value("document.querySelectorAll('#viewers .kill')[1].click()")
         one.wait("!document.getElementById('stopped').hidden && document.body.classList.contains('grey')")
         assert trainer.value("document.getElementById('stopped').hidden")
+        one.wait("document.getElementById('log').textContent.includes('Ana stopped the viewer of Ben')", LATER)
+        trainer.wait("document.getElementById('badge').textContent === '1 of 2 viewers runs'", LATER)
         trainer.value("document.getElementById('inside').open = false")
         trainer.click(spot(trainer, BUTTON))
         trainer.wait("room.placeOf('Door')[0] > 0.01", LATER)
@@ -46,16 +47,13 @@ def test_a_hidden_window_shows_what_happened_once_it_is_seen():
 
 def test_the_viewer_is_in_the_window_where_the_library_is():
     """Else it is in the server. The page says which, and each window has its digest of itself."""
-    for words, where in (((), "in this window"), (("--wasm", "/none"), "in the server")):
-        if not words and not (WASM / "x3d.wasm").exists():
-            print("there is no library for windows (make wasm)", end=", ")
-            continue
-        with Windows(2, more=("--each", "64", *words)) as windows:
-            last, (one, other) = wait_equal(windows.pages), windows.pages
+    for words, where in places_of_viewers():
+        with Windows(2, more=words) as windows:
+            here, _, (one, other) = where == "in this window", wait_equal(windows.pages), windows.pages
             assert where in one.value("document.getElementById('where').textContent")
             far = [viewer["far"] for viewer in one.value("room.state.status.viewers")]
-            assert far == [not words] * 2 and one.value("Boolean(room.own.viewer)") == (not words)
-            if not words:
+            assert far == [here] * 2 and one.value("Boolean(room.own.viewer)") == here
+            if here:
                 marks = "room.state.status.viewers.map(({ at, digest }) => `${at} ${digest}`)"
                 one.wait(f"{marks}.every((mark) => mark === `${{room.own.at}} ${{room.own.digest}}`)", LATER)
                 other.click(spot(other, BUTTON))
@@ -68,6 +66,7 @@ def test_it_says_when_the_server_is_gone():
         windows.served.stop()
         for page in windows.pages:
             page.wait("!document.getElementById('gone').hidden", LATER)
+            assert page.value("document.getElementById('badge').textContent") == "Not connected"
         # Another server at the same address: the windows come back.
         with Served(port=windows.served.port):
             for page in windows.pages:

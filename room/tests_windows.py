@@ -8,7 +8,7 @@ import time
 import browser
 from clicks import click, note
 from crowd import Crowd
-from served import BUTTON, LATER, PANEL, Windows, library_for_windows, scene, scene_file, spot, wait_equal
+from served import BUTTON, LATER, PANEL, Windows, library_for_windows, places_of_viewers, scene, scene_file, spot, wait_equal
 from tests_room import TWICE
 
 SECONDS = int(os.environ.get("SECONDS", "60"))
@@ -66,21 +66,52 @@ def test_a_click_in_one_window_opens_the_door_in_both():
         assert opened[0] - shut[0] > 0.08, (shut, opened)
         windows.pages[0].wait("document.getElementById('badge').textContent === 'All 2 viewers agree'")
         title = windows.pages[0].value("document.getElementById('badge').title")
-        assert re.fullmatch(r"equal at input \d+, digest [0-9a-f]{16}", title), title
+        assert re.fullmatch(r"All see the same: equal at input \d+, digest [0-9a-f]{16}", title), title
+
+
+def assert_second_route_is_drawn(page):
+    """The door stands where the second route put it, though the last line of the trace is of the first one."""
+    page.wait("room.state.n && room.value('Door', 'translation')[1] > 2", LATER)
+    x, y, _ = page.value("room.value('Door', 'translation')")
+    drawn = page.value("room.placeOf('Door')")
+    line = page.value("room.state.lanes.get('Door.translation').slice(-1)[0].line")
+    assert x == 0 and abs(y - 2.5) < 0.01 and abs(drawn[0]) < 1e-6 and abs(drawn[1] - 2.5) < 0.01, (x, y, drawn)
+    assert re.fullmatch(r"\d+ [\d.]+ Door.translation 0.5(\d*) 0 0", line), line
 
 
 def test_a_page_draws_what_fields_hold():
-    """The last line of the trace isn't it: of two routes to one field the second sends nothing."""
+    """What was set, and not the last line: wherever the viewer runs, and where the page replays."""
     # Its cycle is so long that it stands, for the test, where it was when it began; the start is a while ago.
     text = TWICE.replace("startTime 10", f"startTime {time.time() - 5e5:.6f}").replace("cycleInterval 2 ", "cycleInterval 1000000 ")
-    with scene_file(text) as file, Windows(1, file) as windows:
-        (page,) = windows.pages
-        page.wait("room.value('Door', 'translation')[1] > 2")
-        x, y, _ = page.value("room.value('Door', 'translation')")
-        drawn = page.value("room.placeOf('Door')")
-        line = page.value("room.state.lanes.get('Door.translation').slice(-1)[0].line")
-        assert x == 0 and abs(y - 2.5) < 0.01 and abs(drawn[0]) < 1e-6 and abs(drawn[1] - 2.5) < 0.01, (x, y, drawn)
-        assert re.fullmatch(r"\d+ [\d.]+ Door.translation 0.5(\d*) 0 0", line), line
+    for words, where in places_of_viewers():
+        with scene_file(text) as file, Windows(1, file, more=words) as windows:
+            (page,) = windows.pages
+            assert page.value("Boolean(room.own.viewer)") == (where == "in this window")
+            assert_second_route_is_drawn(page)
+            page.value("document.getElementById('past').click()")
+            page.wait("room.state.replay && room.state.n === 0", LATER)
+            assert page.value("room.placeOf('Door')") == [0, 0, 0]
+            page.value("document.getElementById('play').click()")
+            assert_second_route_is_drawn(page)
+
+
+# Of each type what a field holds as it is told, and as the page has it: numbers in millionths and microseconds.
+VALUES = """[
+  ["SFBool", [1], true], ["MFBool", [1, 0], [true, false]], ["SFInt32", [-3], -3], ["MFInt32", [5], [5]],
+  ["SFFloat", [250000], 0.25], ["MFFloat", [1000000], [1]], ["SFTime", [10000001], 10.000001], ["MFTime", [], []],
+  ["SFVec2f", [0, 500000], [0, 0.5]], ["SFVec3f", [500000, 0, -1], [0.5, 0, -0.000001]], ["MFVec3f", [], []],
+  ["SFColor", [1000000, 0, 333333], [1, 0, 0.333333]], ["SFNode", [7], [7]], ["SFNode", [], []], ["MFNode", [1, 2], [1, 2]],
+  ["SFString", '"a \\\\"b\\\\" 1"', 'a "b" 1'], ["MFString", '["a" "2"]', ["a", "2"]], ["MFString", "[]", []],
+]"""
+
+
+def test_values_are_read_by_their_types():
+    with Windows(1) as windows:
+        told = windows.pages[0].value(
+            f"import('/static/core.js').then(({{ valueBy }}) => {VALUES}"
+            ".filter(([type, told, held]) => JSON.stringify(valueBy(type, told)) !== JSON.stringify(held)))"
+        )
+        assert told == [], told
 
 
 def test_a_click_opens_the_door_whatever_came_before():
@@ -100,46 +131,6 @@ def test_a_click_opens_the_door_whatever_came_before():
         page.wait(f"room.value('Motor', 'startTime') > {first}", LATER)
         answers = page.value("room.pointer.answers")
         assert [*answers] == ["200"], answers
-
-
-def test_the_camera_is_each_windows_own():
-    """It turns, moves and zooms by mouse, wheel, keys and two fingers, and nothing is sent."""
-    with Windows(2) as windows:
-        one, other = windows.pages
-        pose = "[...room.camera.position.toArray(), ...room.camera.quaternion.toArray()].map((part) => part.toFixed(4)).join()"
-        there, begun = other.value(pose), one.value(pose)
-        offers = "Object.values(room.pointer.answers).reduce((sum, part) => sum + part, 0)"
-        seen = [begun]
-
-        def changed(what):
-            now = one.value(pose)
-            assert now not in seen, what
-            seen.append(now)
-
-        empty = [120, 700]
-        one.mouse("mouseMoved", empty)
-        one.wait("room.pointer.due === null && !room.pointer.busy && !room.pointer.waits.length")
-        before = one.value(offers)
-        for buttons, what in ((1, "orbit"), (2, "pan")):
-            one.mouse("mousePressed", empty, buttons)
-            one.mouse("mouseMoved", [260, 640], buttons)
-            one.mouse("mouseReleased", [260, 640], buttons)
-            changed(what)
-        one.call("Input.dispatchMouseEvent", type="mouseWheel", x=300, y=400, deltaX=0, deltaY=-120)
-        one.wait(f"{pose} !== '{seen[-1]}'", LATER)
-        changed("zoom")
-        one.value("document.getElementById('view').focus()")
-        for key in ("a", "w", "+"):
-            one.press(key)
-            changed(key)
-        fingers = lambda apart: [{"x": 450 - apart, "y": 850, "id": 0}, {"x": 450 + apart, "y": 850, "id": 1}]
-        for kind, points in (("touchStart", fingers(40)), ("touchMove", fingers(90)), ("touchEnd", [])):
-            one.call("Input.dispatchTouchEvent", type=kind, touchPoints=points)
-        changed("pinch")
-        assert one.value(offers) == before and other.value(pose) == there
-        one.press("Home")
-        assert one.value(pose) == begun
-        assert one.value("[...document.getElementById('views').options].map((each) => each.text).join()") == "in front"
 
 
 # A ring goes out within a second: they are counted as they come.
@@ -188,6 +179,40 @@ def test_sixty_four_windows_show_one_world():
             wait_equal(windows.pages)
             badge = windows.pages[0].value("document.getElementById('badge').textContent")
             assert badge == "All 64 viewers agree", badge
+
+
+# Two squares side by side: by face, by face and index, by corner, by corner and index. The colors are red, green and blue.
+SQUARES = """#X3D V3.0 utf8
+Viewpoint { position 1 0.5 4 }
+Shape {
+  geometry IndexedFaceSet {
+    coord Coordinate { point [ 0 0 0, 1 0 0, 1 1 0, 0 1 0, 2 0 0, 2 1 0 ] } coordIndex [ 0 1 2 3 -1 1 4 5 2 -1 ]
+    color Color { color [ 1 0 0, 0 1 0, 0 0 1, 1 0 0, 0 0 1, 0 0 1 ] } %s
+  }
+}
+"""
+
+
+def test_faces_have_their_colors():
+    red, green, blue = (255, 0, 0), (0, 255, 0), (0, 0, 255)
+    # Of each square what its middle has, and at last what the far corner of the second one has.
+    ways = (
+        ("colorPerVertex FALSE", red, green, green),
+        ("colorPerVertex FALSE colorIndex [ 2 0 ]", blue, red, red),
+        ("colorIndex [ 0 0 0 0 -1 1 1 2 1 -1 ]", red, None, blue),
+        ("", None, None, blue),
+    )
+    with scene_file(SQUARES % ways[0][0]) as file, Windows(1, file) as windows:
+        (page,) = windows.pages
+        for run, (way, *seen) in enumerate(ways, 1):
+            file.write_text(SQUARES % way)
+            page.wait(f"room.state.run === {run} && room.drawn.content && room.state.nodes.length === 5", LATER)
+            page.wait("!room.drawn.stale.size && !room.drawn.dirty", LATER)
+            time.sleep(0.3)
+            for place, wanted in zip(([0.5, 0.5, 0], [1.5, 0.5, 0], [1.99, 0.99, 0]), seen):
+                rows, _ = browser.pixels(page.picture([*spot(page, place), 1, 1]))
+                near = wanted is None or all(abs(part - one) < 12 for part, one in zip(rows[0], wanted))
+                assert near, (way, place, [*rows[0]])
 
 
 # Whether the handle of the panel's slider stands so far along its groove.
@@ -283,8 +308,15 @@ def test_the_sliders_of_the_network_are_all_set():
             one.wait(BAD, LATER)
             time.sleep(0.5)
             assert one.value(BAD) and other.value(BAD), other.value("room.state.status.channel")
+            assert not other.value("document.getElementById('bad').hidden")
             one.value(SLIDERS.replace("30]", "0]").replace("20]", "0]"))
             one.wait("Object.values(room.state.status.channel).every((share) => share === 0)", LATER)
+        # One button lets all arrive again, and no window says then that the network is bad.
+        one.value(SLIDERS)
+        one.wait(BAD, LATER)
+        one.value("document.getElementById('good').click()")
+        for page in windows.pages:
+            page.wait("document.getElementById('bad').hidden", LATER)
         shown = "getComputedStyle(document.getElementById('network')).display"
         one.value("document.getElementById('inside').open = true")
         other.value("document.getElementById('inside').open = true")

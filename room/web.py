@@ -23,6 +23,8 @@ from service import Wrong
 HERE = Path(__file__).resolve().parent
 # Bytes of a message, seconds until a window has come in, and between looks whether it is still there.
 MESSAGE, ENTERING, HEARTBEAT = 1024, 10, 20
+# What this machine alone calls itself.
+HERE_ALONE = re.compile(r"(localhost|127\.[\d.]+|\[::1\])(:\d+)?$")
 # How many wrong passwords an address may send in a minute.
 GUESSES = 10
 POLICY = (
@@ -157,8 +159,10 @@ class Site:
         except ImportError:
             raise Wrong(404, "Debian's package python3-segno draws the QR code") from None
         scheme = request.headers.get("X-Forwarded-Proto", "http") if self.options.proxy else "http"
-        scheme, drawn = "https" if scheme == "https" else "http", io.BytesIO()
-        code = segno.make(f"{scheme}://{request.host}/{service.name}/", micro=False)
+        place, drawn = f"{'https' if scheme == 'https' else 'http'}://{request.host}/", io.BytesIO()
+        if HERE_ALONE.match(request.host):
+            place = self.options.place or place
+        code = segno.make(f"{place}{service.name}/", micro=False)
         code.save(drawn, kind="svg", scale=4, border=2, light="white")
         return web.Response(body=drawn.getvalue(), content_type="image/svg+xml")
 

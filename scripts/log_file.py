@@ -1,6 +1,7 @@
 """The file of a world's log, by hand: crates/share_entries and crates/share_log say how its bytes lie."""
 import hashlib
 import struct
+from typing import NamedTuple
 
 # The most entries of a frame, and the kind of a frame of entries.
 MOST, ENTRIES = 977, 0
@@ -49,3 +50,79 @@ def log(mark, run, parts, viewers=2):
         payloads.append(frame(chain, number, entries))
         chain, number = linked(chain, entries), number + len(entries)
     return gated(*payloads)
+
+
+# ---- reading
+
+
+class Damage(Exception):
+    """Why bytes are no log, by the name that the program has for it."""
+
+
+class Entry(NamedTuple):
+    """An input: its time in microseconds, and the viewer that offered it, or None for a clock."""
+
+    time: int
+    who: int
+
+
+class Found(NamedTuple):
+    viewers: int
+    mark: bytes
+    run: bytes
+    entries: list
+    cut: int
+
+
+def whole_frames(data):
+    """The payloads of the valid frames, and the bytes after them."""
+    payloads = []
+    while len(data) >= 3 and data[0] == 1:
+        size = int.from_bytes(data[1:3], "big")
+        if not 1 <= size <= len(data) - 3:
+            break
+        payloads.append(data[3:3 + size])
+        data = data[3 + size:]
+    return payloads, data
+
+
+def read_entries(chain, first, payload):
+    """The entries of a frame and the chain after them, or None if it isn't the next of a log."""
+    if len(payload) < 11 or payload[0] != ENTRIES or int.from_bytes(payload[3:11], "big") != first:
+        return None
+    entries, at = [], 11
+    for _ in range(int.from_bytes(payload[1:3], "big")):
+        size = 67 if payload[at + 8:at + 9] == b"\1" else 9
+        text = payload[at:at + size]
+        if len(text) < size or text[8] > 1:
+            return None
+        entries.append(Entry(int.from_bytes(text[:8], "big"), text[9] if text[8] else None))
+        chain, at = digest(chain + text, 16), at + size
+    return (entries, chain) if payload[at:] == chain else None
+
+
+def read(data):
+    """The log that these bytes are, or Damage."""
+    payloads, rest = whole_frames(data)
+    if not payloads or payloads[0] != head_again(payloads[0]):
+        raise Damage("BadHead")
+    first = payloads[0]
+    viewers, mark, run, entries = first[5], first[8:40], first[40:56], []
+    chain = run
+    for number, payload in enumerate(payloads[1:], 1):
+        found = read_entries(chain, len(entries) + 1, payload)
+        if not found:
+            raise Damage(f"LogDamaged frame {number}")
+        entries, chain = entries + found[0], found[1]
+    size = int.from_bytes(rest[1:3], "big")
+    hidden = len(rest) > 3 + size and rest[3 + size] == 1 and read_entries(chain, len(entries) + 1, rest[3:3 + size])
+    if not rest or rest[0] == 1 or hidden:
+        raise Damage(f"LogDamaged frame {len(payloads)}")
+    return Found(viewers, mark, run, entries, len(rest) - 1)
+
+
+def head_again(payload):
+    """The head that has the viewers, the mark and the run of these bytes, or None if there can be none."""
+    if len(payload) < 56 or not 1 <= payload[5] <= 64:
+        return None
+    return head(payload[8:40], payload[40:56], payload[5])

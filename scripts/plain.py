@@ -1,8 +1,11 @@
 """Words that pages and comments avoid, what to write instead (the table of CONTRIBUTING.md), and names that comments invent."""
 import re
 
+# `behind` is meant in an order, not behind a ray's origin or a pointer; `comes to` of a result, not of an event or an
+# input that arrives; `is none` without `of`.
 AVOIDED = (
-    r"so many", r"so much", r"behind", r"comes? to", r"(?<!there )is none", r"the same of", r"memory aside", r"slip of the pen", r"anew", r"hangs? on",
+    r"so many", r"so much", r"behind(?! (?:the ray|its pointer))", r"(?<!event )(?<!event that )(?<!input )(?<!it )comes? to",
+    r"(?<!there )is none(?! of)", r"the same of", r"memory aside", r"slip of the pen", r"anew", r"hangs? on",
     r"goes by", r"lets? go", r"is told", r"worked out", r"whom", r"gives? back", r"in the place of", r"as it stands", r"as far as",
     r"nobody", r"what is left", r"of before", r"is met", r"aims at",
 )

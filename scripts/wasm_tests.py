@@ -106,7 +106,7 @@ def beside_native(log):
     if not native:
         return skip(what, "no library (make library, or make library-unproved)")
     library = ctypes.CDLL(str(native))
-    handles = {kind: [ctypes.c_void_p() for _ in range(3)] for kind in ("world", "host", "viewer")}
+    handles = {kind: [ctypes.c_void_p() for _ in range(3)] for kind in ("world", "host", "viewer", "part")}
     entries = json.loads(log.read_text())
     for k, entry in enumerate(entries):
         outs = []

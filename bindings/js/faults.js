@@ -13,6 +13,7 @@ const REASONS = {
   5: "Memory",
   10: "Closed",
   11: "Range",
+  13: "Misuse",
   20: "Spoiled",
   21: "NotNext",
   22: "TimeNotLater",
@@ -48,10 +49,12 @@ const REASONS = {
 };
 
 export class Refusal extends Error {
-  constructor(line) {
-    super(line);
+  constructor(line, instance = 0) {
+    super(instance === 0 ? line : `${line}, in the instance on line ${instance}`);
     this.name = "Refusal";
     this.status = SCENE;
+    this.line = line;
+    this.instance = instance || null;
   }
 }
 

@@ -115,10 +115,12 @@ export interface Taken {
   count: number;
 }
 
-/** Why a scene's text is no world: the message is the line that the program prints, such as
- * `refused UnknownNode line 3`. */
+/** Why a scene's text is no world. `line` is the one that the program prints, such as `refused UnknownNode line 3`.
+ * `instance` is the line of the instance whose braces hold the refused value, or null; the message has both. */
 export class Refusal extends Error {
   readonly status: 1;
+  readonly line: string;
+  readonly instance: number | null;
 }
 
 /** Why a call is refused: the status of include/x3d.h, and its name, such as `NotNext`. */
@@ -173,9 +175,31 @@ declare abstract class Readable extends Held {
   numbers(node: number, field: number): BigInt64Array;
 }
 
-/** The world of a scene's text, before any input. Throws a Refusal if the text is refused. */
+/** What was left out of a text: its line, what it is, and the words on it, such as `node Teapot left out (field
+ * geometry)`. The kinds are `Node`, `Grouped` (a node that became a group), `Field`, `Turned` (a rotation that turns),
+ * `Use`, `Route`, `Proto`, `Refused` (by a fault of its line), `ExternProto`, `Import`, `Export`, `Unit` and
+ * `Declaration`. */
+export interface LeftOut {
+  line: number;
+  kind: string;
+  words: string;
+}
+
+/** The part of a text that the core can run: without the nodes, fields and statements that it doesn't know. Open worlds,
+ * hosts and viewers of its text. Throws a Refusal if the text has no part. */
+export class Part extends Held {
+  constructor(library: Library, text: Scene);
+  /** The text of the part. */
+  text(): Uint8Array;
+  /** A line for each thing that was left out, and a last line of counts, as `x3d_share part` prints them. */
+  notes(): string;
+  /** What was left out, in the order of those lines. */
+  leftOut(): LeftOut[];
+}
+
+/** The world of a scene's text, or of a part, before any input. Throws a Refusal if the text is refused. */
 export class World extends Readable {
-  constructor(library: Library, scene: Scene);
+  constructor(library: Library, scene: Scene | Part);
   /** Applies a clock: `number` is 1 to 2^20 and the next one, `time` is 1 to 10^18 microseconds and above the last. */
   clock(number: number, time: Whole): Work;
   /** Applies the pointer of viewer `viewer`, 0 to 63, whose button is down or not. */

@@ -3,5 +3,6 @@ export { datagram } from "./datagram.js";
 export { Fault, Refusal } from "./faults.js";
 export { Host } from "./host.js";
 export { load } from "./library.js";
+export { Part } from "./part.js";
 export { Viewer } from "./viewer.js";
 export { World } from "./world.js";

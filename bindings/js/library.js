@@ -2,7 +2,7 @@
 import { DONE, Fault, MEMORY, ROOM } from "./faults.js";
 
 const CLOSING = "_close";
-const KINDS = ["world", "host", "viewer", "datagram"];
+const KINDS = ["world", "host", "viewer", "part", "text", "datagram"];
 
 // What one block has, which is allocated once: numbers that a call writes, the size of what it copies, a ray, and
 // short texts, numbers and datagrams.

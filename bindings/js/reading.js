@@ -1,7 +1,7 @@
 // What an object of the library holds, and what is read of a world.
 import { CHANGE_SIZE, changedOf } from "./changed.js";
 import { changesOf } from "./changes.js";
-import { CLOSED, DONE, Fault, Refusal, SCENE } from "./faults.js";
+import { CLOSED, DONE, Fault, RANGE, Refusal, SCENE } from "./faults.js";
 import { Library } from "./library.js";
 import { fits, signed } from "./numbers.js";
 
@@ -18,7 +18,7 @@ export function bytesOf(scene) {
   return typeof scene === "string" ? encoder.encode(scene) : scene;
 }
 
-/** What a handle holds: a world, a host or a viewer. */
+/** What a handle holds: a world, a host, a viewer or a part. */
 export class Held {
   constructor(library, kind) {
     if (!(library instanceof Library)) throw new TypeError("the library is wanted that `load` gives");
@@ -41,6 +41,12 @@ export class Held {
     this._free();
   }
 
+  /** The address of the handle. */
+  _at() {
+    if (this._handle === null) throw new Fault(CLOSED);
+    return this._handle;
+  }
+
   /** The status of a call. */
   _status(name, ...passed) {
     if (this._handle === null) throw new Fault(CLOSED);
@@ -58,21 +64,34 @@ export class Held {
     return this._library.told();
   }
 
-  /** Opens what a scene's text and numbers give; closed again if it is refused. */
+  /** Opens what a scene's text and numbers give. */
   _open(scene, ...numbers) {
+    this._library.lend(bytesOf(scene), (...text) => this._opened("open", [...text, ...numbers], text));
+  }
+
+  /** Opens what was passed, or throws the refusal, with the instance of the text that was passed. */
+  _opened(name, passed, text = null) {
     try {
-      this._library.lend(bytesOf(scene), (...text) => this._opened(text, numbers));
+      const { short, wanted } = this._library;
+      const status = this._status(name, ...passed, short, BigInt(LINE), wanted);
+      if (status === SCENE) throw this._refusal(text);
+      if (status !== DONE) throw new Fault(status);
     } catch (error) {
       this.close();
       throw error;
     }
   }
 
-  _opened(text, numbers) {
-    const { short, wanted } = this._library;
-    const status = this._status("open", ...text, ...numbers, short, BigInt(LINE), wanted);
-    if (status === SCENE) throw new Refusal(decoder.decode(this._library.copy(short, this._library.toldSize())));
-    if (status !== DONE) throw new Fault(status);
+  _refusal(text) {
+    const line = decoder.decode(this._library.copy(this._library.short, this._library.toldSize()));
+    const status = text === null ? RANGE : this._library.calls.text.instance(...text, this._library.out);
+    return new Refusal(line, status === DONE ? this._library.told() : 0);
+  }
+
+  /** The numbers that were listed last. */
+  _numbers() {
+    const bytes = this._library.copied((...out) => this._status("copy_numbers", ...out), 8);
+    return new BigInt64Array(bytes.buffer);
   }
 
   /** A datagram that a call copies. */
@@ -100,12 +119,6 @@ export class Readable extends Held {
   _text(name, ...passed) {
     this._call(name, ...passed);
     return decoder.decode(this._bytes());
-  }
-
-  /** The numbers that were listed last. */
-  _numbers() {
-    const bytes = this._library.copied((...out) => this._status("copy_numbers", ...out), 8);
-    return new BigInt64Array(bytes.buffer);
   }
 
   _listed(name, ...passed) {

@@ -1,6 +1,7 @@
 // A world.
 import { Fault, RANGE } from "./faults.js";
 import { fits, signed, truth } from "./numbers.js";
+import { Part } from "./part.js";
 import { Readable } from "./reading.js";
 
 const KINDS = ["counter", "gate", "adder", "batch", "mover", "meter"];
@@ -8,7 +9,8 @@ const KINDS = ["counter", "gate", "adder", "batch", "mover", "meter"];
 export class World extends Readable {
   constructor(library, scene) {
     super(library, "world");
-    this._open(scene);
+    if (scene instanceof Part) this._opened("open_part", [scene._at()]);
+    else this._open(scene);
   }
 
   /** What the input led to. */

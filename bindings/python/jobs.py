@@ -50,7 +50,7 @@ def main():
     try:
         world = World(scene)
     except Refusal as refusal:
-        print(refusal, file=sys.stderr)
+        print(refusal.line, file=sys.stderr)
         sys.exit(1)
     drawn = Drawn(world) if sys.argv[1:] == ["drawn"] else None
     lines = steps.decode().split("\n")[1:]

@@ -40,6 +40,10 @@ public:
   ~World() { x3d_world_close(&world_); }
   World(const World &) = delete;
   World &operator=(const World &) = delete;
+  // A handle may be moved, if the old place is not used again.
+  World(World &&other) noexcept
+      : world_(std::exchange(other.world_, x3d_world X3D_NONE)), number_(other.number_),
+        drawn_(other.drawn_) {}
 
   void clock(int64_t time) {
     x3d_work work;
@@ -114,9 +118,8 @@ private:
 
   x3d_world world_ = X3D_NONE;
   uint32_t number_ = 0, drawn_ = 0;
-  // A pointer must not be null, so there is room for one at first.
-  std::vector<x3d_change> changes_{1};
-  std::vector<int64_t> numbers_{1};
+  std::vector<x3d_change> changes_;
+  std::vector<int64_t> numbers_;
 };
 
 constexpr std::string_view scene = "#X3D V3.0 utf8\n"
@@ -147,7 +150,7 @@ Picture walked(World &world) {
 }
 
 int run() {
-  World world(scene);
+  World opened(scene), world(std::move(opened));
   Picture picture = walked(world);
   const x3d_aim aim{0, 0, 10000000, 0, 0, -1000000};
   int64_t time = 10000000;

@@ -3,13 +3,16 @@
 import { field, state, within } from "./core.js";
 import { drawn } from "./scene.js";
 
-export const camera = new THREE.PerspectiveCamera(45, 1, 0.05, 5000);
+/* What is nearer or farther isn't drawn; of a small or a large world other places are. */
+const NEAR = 0.05, FAR = 5000;
+export const camera = new THREE.PerspectiveCamera(45, 1, NEAR, FAR);
 const head = new THREE.DirectionalLight(0xffffff, 0.65);
 /* In a narrow window more is seen across than a Viewpoint asks for of the shorter side: this many times. */
 const NARROW = 1.25;
 const UP = new THREE.Vector3(0, 1, 0);
-/* Which Viewpoint, of those that there are; whether the camera has left it; round what it turns; its angle of view. */
-const view = { chosen: 0, own: false, pivot: new THREE.Vector3(), angle: Math.PI / 4, aspect: 1 };
+/* Which Viewpoint, of those that there are; whether the camera has left it; round what it turns; its angle of view; how large
+   the world was when it stood there. */
+const view = { chosen: 0, own: false, pivot: new THREE.Vector3(), angle: Math.PI / 4, aspect: 1, ball: new THREE.Sphere() };
 
 export function beginCamera() {
   head.position.set(-0.3, 0.52, 0.8);
@@ -25,6 +28,8 @@ function ballOf() {
   return new THREE.Box3().setFromObject(drawn.content).getBoundingSphere(new THREE.Sphere());
 }
 
+const worldSize = () => view.ball.radius || 1;
+
 function standAt({ node, number }, turn) {
   const thing = drawn.things.get(number)[0], [x, y, z, angle] = turn || [0, 0, 1, 0];
   view.angle = field(node, "fieldOfView", Math.PI / 4);
@@ -35,7 +40,7 @@ function standAt({ node, number }, turn) {
 
 /* Without a Viewpoint one stands before all that there is, above on the right. */
 function standBefore(ball) {
-  const away = new THREE.Vector3(0.42, 0.32, 1).normalize().multiplyScalar(3 * Math.max(ball.radius, 1));
+  const away = new THREE.Vector3(0.42, 0.32, 1).normalize().multiplyScalar(3 * worldSize());
   view.angle = Math.PI / 4;
   camera.position.copy(ball.center).add(away);
   camera.lookAt(ball.center);
@@ -48,12 +53,20 @@ export function look() {
   head.visible = field(light, "headlight", true);
   if (view.own || !drawn.content) return;
   const at = Math.min(view.chosen, all.length - 1), ball = ballOf();
+  view.ball = ball;
   if (all.length) standAt(all[at], state.orientations[at]);
-  else standBefore(ball);
+  // What turned a Viewpoint may have been left out, and then nothing is seen from it.
+  if (!all.length || (state.partly && !sees(ball))) standBefore(ball);
   const ahead = camera.getWorldDirection(new THREE.Vector3());
-  const far = Math.max(0.5, ball.center.clone().sub(camera.position).dot(ahead));
+  const far = Math.max(Math.min(0.5, worldSize()), ball.center.clone().sub(camera.position).dot(ahead));
   view.pivot.copy(camera.position).addScaledVector(ahead, far);
   changed();
+}
+
+function sees(ball) {
+  changed();
+  const seen = new THREE.Matrix4().multiplyMatrices(camera.projectionMatrix, camera.matrixWorldInverse);
+  return new THREE.Frustum().setFromMatrix(seen).intersectsSphere(ball);
 }
 
 export function choose(at) {
@@ -77,6 +90,9 @@ function changed() {
   const half = Math.tan(view.angle / 2) * Math.max(1, NARROW / view.aspect);
   camera.fov = within(2 * Math.atan(half) * 180 / Math.PI, 1, 150);
   camera.aspect = view.aspect;
+  const reach = 4 * (camera.position.distanceTo(view.ball.center) + worldSize());
+  const scale = Math.max(reach / FAR, Math.min(1, worldSize()));
+  Object.assign(camera, { near: NEAR * scale, far: FAR * scale });
   camera.updateProjectionMatrix();
   camera.updateMatrixWorld(true);
   drawn.dirty = true;
@@ -113,7 +129,7 @@ export function pan(across, up) {
 /* Comes nearer, or goes away: the distance is multiplied. */
 export function zoom(times) {
   const away = camera.position.clone().sub(view.pivot), far = away.length();
-  away.setLength(within(far * times, 0.3, 1000));
+  away.setLength(within(far * times, Math.min(0.3, worldSize() / 10), Math.max(1000, 10 * worldSize())));
   camera.position.copy(view.pivot).add(away);
   left();
 }

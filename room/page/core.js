@@ -5,10 +5,12 @@ export const within = (value, least, most) => Math.max(least, Math.min(most, val
 export const pause = (time) => new Promise((resolve) => { setTimeout(resolve, time); });
 
 /* `who` is the number of this window's viewer, or null where it only watches; `lanes` are the last lines of the trace, by
-   output; `people` is who is here. */
+   output; `people` is who is here; `partly` is whether the file isn't read whole; `place` is where other
+   machines reach the room, if they do. */
 export const state = {
   id: null, who: null, token: null, trainer: false, n: 0, status: null, nodes: [], roots: [], labels: new Map(),
   lanes: new Map(), people: [], orientations: [], replay: null, run: 1,
+  partly: false, place: null,
 };
 
 export function write(place, text) {
@@ -32,6 +34,15 @@ export function valueOf(text) {
   const items = strings ? strings.map((word) => word.slice(1, -1).replace(/\\(.)/gs, "$1"))
     : inside.split(/\s+/).filter((word) => word).map(Number);
   return list || items.length !== 1 ? items : items[0];
+}
+
+/* What a field holds that was set: numbers by its type, in millionths and microseconds, or the text of strings. */
+export function valueBy(type, told) {
+  const kind = type.slice(2);
+  if (kind === "String") return valueOf(told);
+  const part = kind === "Bool" ? Boolean : ["Int32", "Node"].includes(kind) ? Number : (number) => number / 1e6;
+  const items = told.map(part);
+  return type[0] === "S" && items.length === 1 && kind !== "Node" ? items[0] : items;
 }
 
 export function field(node, name, otherwise) {

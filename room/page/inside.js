@@ -35,14 +35,15 @@ function showViewers(viewers) {
     const told = runs ? [n, waiting, lost, `${digest} at ${at}`] : ["stopped", "", lost, ""];
     told.forEach((each, column) => write(row.children[column + 1], String(each)));
     button.dataset.does = runs ? "kill" : "start";
-    write(button, runs ? "Stop" : "Start");
+    write(button, runs ? "Stop viewer" : "Start viewer");
+    button.title = runs ? "Ends this viewer, as a crash would; its person stays" : "";
   });
 }
 
 on("status", (status) => {
   if (status.replay) return;
   showViewers(status.viewers);
-  write(byId("made"), `${status.numbered} inputs numbered in run ${status.run}. Worlds are compared by their snapshots.`);
+  write(byId("made"), `${status.numbered} inputs numbered in run ${status.run}. Digests are compared at the same input.`);
   showShares(status.channel);
 });
 
@@ -79,6 +80,11 @@ export function beginInside() {
       sendShares();
     });
   }
-  byId("reset").addEventListener("click", () => ask("reset", {}));
+  byId("reset").addEventListener("click", () => byId("again").showModal());
+  for (const id of ["sure", "not"]) byId(id).addEventListener("click", () => byId("again").close());
+  byId("sure").addEventListener("click", () => ask("reset", {}));
+  byId("good").addEventListener("click", () => {
+    for (const name of SHARES) Object.assign(byId(name), { value: 0 }).dispatchEvent(new Event("input"));
+  });
   byId("inside").addEventListener("toggle", drawLanes);
 }

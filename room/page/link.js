@@ -13,8 +13,9 @@ let socket = null, number = 0;
 export const memory = {
   get token() { return read(sessionStorage, KEY); },
   set token(token) { keep(sessionStorage, KEY, token); },
-  get name() { return given.get("name") || read(localStorage, "room name"); },
-  set name(name) { keep(localStorage, "room name", name); },
+  // A name is this window's, and else the one that was given last in this browser.
+  get name() { return given.get("name") || read(sessionStorage, "room name") || read(localStorage, "room name"); },
+  set name(name) { for (const store of [sessionStorage, localStorage]) keep(store, "room name", name); },
   get color() { return read(localStorage, "room color"); },
   set color(color) { keep(localStorage, "room color", color); },
   get named() { return given.has("name"); },
@@ -22,6 +23,16 @@ export const memory = {
   holds: false, boot: 0, life: null,
 };
 let password = given.get("password") || undefined;
+/* The trainer's secret leaves the address, which people copy and send on; this window keeps it. */
+const trainer = given.get("trainer") || read(sessionStorage, `${KEY} trainer`);
+memory.trainer = Boolean(trainer);
+if (given.has("trainer")) {
+  keep(sessionStorage, `${KEY} trainer`, trainer);
+  given.delete("trainer");
+  history.replaceState(null, "", String(given) ? `#${given}` : location.pathname);
+}
+// Another link to this room is opened here: only what stands behind # differs, so the page has to load again.
+window.addEventListener("hashchange", () => location.reload());
 
 function read(store, key) {
   try { return store.getItem(key) || undefined; } catch (error) { return undefined; }
@@ -80,7 +91,7 @@ export function connect() {
   socket.onopen = () => {
     const { token, name, color, holds, boot, life } = memory;
     socket.send(JSON.stringify({
-      do: "enter", token, name, color, password, trainer: given.get("trainer") || undefined,
+      do: "enter", token, name, color, password, trainer,
       watch: given.has("watch") || undefined, holds, boot, life,
     }));
     happen("open", {});

@@ -28,6 +28,8 @@ function showViewpoints() {
 let hinted = false;
 on("scene", (scene) => {
   const other = String(scene.nodes.map((node) => node.label)) !== String(state.nodes.map((node) => node.label));
+  // Where another run of the same scene begins, each window looks from where it did.
+  if (other) forgetView();
   showScene(scene);
   showPoints(scene.points);
   byId("loading").hidden = true;
@@ -43,12 +45,14 @@ on("run", (run) => {
   Object.assign(state, { run: run.run, orientations: run.orientations });
   state.lanes.clear();
   forgetPoints();
-  forgetView();
   endHints();
   hinted = false;
 });
 byId("views").addEventListener("change", () => choose(Number(byId("views").value)));
-byId("home").addEventListener("click", () => choose(Number(byId("views").value) || 0));
+byId("home").addEventListener("click", () => {
+  choose(Number(byId("views").value) || 0);
+  if (state.who !== null && !state.replay) hint();
+});
 stage.before.push(() => placeHints(stage.view.getBoundingClientRect()));
 
 /* What the tests look at. */

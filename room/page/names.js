@@ -7,6 +7,9 @@ export const LINE = /^(\d+) \S+ ((\S+)\.(\S+)) (.*)$/s;
 /* The lines of a trace; in a string a line goes on. */
 export const linesOf = (trace) => trace.match(/(?:[^"\n]|"(?:[^"\\]|\\.)*")+/gs) || [];
 
+/* Of a value of these types its text is told, of all others the numbers. */
+const STRINGS = ["SFString", "MFString"];
+
 /* The text of what a field holds, or the list of its nodes; null of what holds nothing. */
 function held(world, node, field) {
   try {
@@ -29,7 +32,6 @@ export class Names {
       }
       return { kind, label: world.label(node), fields: known.get(key) };
     });
-    this.labels = new Map(this.nodes.map(({ label }, node) => [label, node]));
   }
 
   /* The roots of the scene, and each node: its type, its label, its fields. */
@@ -40,14 +42,13 @@ export class Names {
     return { roots: world.roots(), nodes };
   }
 
-  /* The trace from an input on, and what the fields that it names hold now. That may differ from the last line: an
-     output that has sent at a timestamp still sets its field, and sends nothing. */
-  news(world, first) {
-    const trace = world.trace(first), named = new Map();
-    for (const line of linesOf(trace)) {
-      const [, , key, label, name] = LINE.exec(line), node = this.labels.get(label);
-      if (!named.has(key)) named.set(key, [node, name, held(world, node, this.nodes[node].fields.indexOf(name))]);
-    }
-    return { trace, now: [...named.values()].filter(([, , text]) => text !== null) };
+  /* What inputs after that number set: of each field its node, its name, the type and the value as it is now. By these
+     the page draws; the trace is for lanes alone, since the last line of a field needn't be its value. */
+  news(world, since) {
+    const now = world.changed(since).map(({ node, field, type, numbers }) => {
+      const told = STRINGS.includes(type) ? world.value(node, field) : Array.from(numbers, Number);
+      return [node, this.nodes[node].fields[field], type, told];
+    });
+    return { trace: world.trace(since + 1), now };
   }
 }

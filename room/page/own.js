@@ -182,7 +182,7 @@ function show(viewer) {
   own.told = n;
   const told = { n, points: [...new Map(here.map(({ point }) => [point[0], point])).values()] };
   if (first === null) happen("scene", { ...told, ...own.names.scene(viewer) });
-  else happen("news", { ...told, ...own.names.news(viewer, first + 1) });
+  else happen("news", { ...told, ...own.names.news(viewer, first) });
 }
 
 /* The viewer sends its offers that wait, and asks for what it lacks. */

@@ -11,6 +11,7 @@ const me = () => state.people.find((person) => person.id === state.id);
 on("you", (you) => {
   Object.assign(state, {
     id: you.id, who: you.who, token: you.token, trainer: you.trainer, orientations: you.orientations, run: you.run,
+    place: you.place,
   });
   memory.token = you.token;
   colors = you.colors;
@@ -19,7 +20,10 @@ on("you", (you) => {
   document.body.classList.toggle("trainer", you.trainer);
   byId("your-name").value = you.name;
   showColors(you.color);
-  if (memory.named || memory.name) byId("naming").hidden = true;
+  // Who comes by the name that was wished for isn't asked for one.
+  if (memory.named || memory.name === you.name) byId("naming").hidden = true;
+  else if (!byId("naming").hidden && !matchMedia("(pointer: coarse)").matches) byId("your-name").focus();
+  if (memory.trainer && !you.trainer) say({ name: "", text: "You are the trainer no longer: the server prints the trainer's link anew." });
 });
 
 on("people", ({ people }) => {
@@ -29,6 +33,7 @@ on("people", ({ people }) => {
   byId("people").replaceChildren(...order.map(chipOf));
   const mine = me();
   byId("hand").setAttribute("aria-pressed", String(Boolean(mine && mine.hand)));
+  write(byId("hand"), mine && mine.hand ? "Lower hand" : "Raise hand");
   document.body.classList.toggle("alone", people.length === 1);
   happen("drawn people", {});
 });
@@ -88,6 +93,8 @@ function lineOf(entry) {
   return line;
 }
 
+on("passed", say);
+
 let quiet = null;
 function say(entry) {
   const said = byId("said"), name = element("b", "", entry.name);
@@ -101,11 +108,14 @@ function say(entry) {
 /* The link. */
 
 function invite() {
-  const dialog = byId("invite"), link = new URL(location.pathname, location.href);
-  byId("link").value = link.href;
-  const code = byId("code"), here = /^(localhost|127\..*|\[::1\])$/.test(location.hostname);
+  const dialog = byId("invite"), own = new URL(location.pathname, location.href).href;
+  // At an address of this computer alone the server says by which one others reach it, if they do.
+  const local = /^(localhost|127\..*|\[::1\])$/.test(location.hostname), here = local && !state.place;
+  byId("link").value = local && state.place ? state.place : own;
+  const code = byId("code");
+  write(byId("copy"), "Copy");
   byId("only-here").hidden = !here;
-  byId("second").href = link.href;
+  byId("second").href = own;
   // A phone has no use for an address of this computer alone.
   code.hidden = here;
   code.onerror = () => { code.hidden = true; };
@@ -122,6 +132,7 @@ async function copy() {
 
 export function beginPeople() {
   byId("naming").addEventListener("submit", setName);
+  byId("your-name").addEventListener("focus", () => byId("your-name").select());
   byId("rename").addEventListener("click", () => {
     const card = byId("naming");
     card.hidden = !card.hidden;

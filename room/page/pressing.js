@@ -5,9 +5,6 @@ import { byId, element, field, listed, state } from "./core.js";
 import { drawn, refresh } from "./scene.js";
 
 const SENSORS = ["TouchSensor", "PlaneSensor"];
-/* For so long, in milliseconds, what can be pressed is hinted at. */
-const HINTED = 45000;
-
 const enabled = (number) => SENSORS.includes(state.nodes[number].kind) && field(state.nodes[number], "enabled", true);
 
 /* The sensors of a Box: those that are enabled in the lowest list of siblings above it that has one, a Switch's children
@@ -58,13 +55,14 @@ export function ring(x, y, hit) {
   setTimeout(() => made.remove(), 500);
 }
 
-const hints = { from: 0, made: new Map(), over: false };
+const hints = { made: new Map(), over: true, content: null, looked: 0, due: null, boxes: new Map() };
+/* What can be pressed is looked for so often at most, in milliseconds: a scene may have many boxes. */
+const LOOK = 500;
 
-/* From now on, for a while, each thing that can be pressed has a mark, until one is pressed. */
+/* From now on each thing that can be pressed has a mark, until one is pressed. */
 export function hint() {
-  hints.from = Date.now();
   hints.over = false;
-  setTimeout(endHints, HINTED);
+  drawn.dirty = true;
 }
 
 export function endHints() {
@@ -74,23 +72,34 @@ export function endHints() {
   hints.made.clear();
 }
 
-/* Puts the marks of hints where things are seen. */
-export function placeHints(box) {
-  if (hints.over || !hints.from) return;
-  const places = new Map();
+/* Notes of each sensor that has a name the first box that is shown. */
+function lookForBoxes() {
+  Object.assign(hints, { content: drawn.content, looked: performance.now(), boxes: new Map() });
   drawn.content.traverse((object) => {
     if (!object.userData.box || !isShown(object)) return;
-    for (const sensor of sensorsOf(object).slice(0, 1)) {
-      if (!places.has(sensor) && namesOf([sensor])) places.set(sensor, new THREE.Vector3().setFromMatrixPosition(object.matrixWorld));
-    }
+    const [sensor] = sensorsOf(object);
+    if (sensor !== undefined && !hints.boxes.has(sensor) && namesOf([sensor])) hints.boxes.set(sensor, object);
   });
-  for (const [sensor, place] of places) {
+}
+
+/* Puts the marks of hints where things are seen. */
+export function placeHints(box) {
+  if (hints.over) return;
+  if (hints.content !== drawn.content || performance.now() - hints.looked >= LOOK) lookForBoxes();
+  else {
+    clearTimeout(hints.due);
+    hints.due = setTimeout(() => { drawn.dirty = true; }, LOOK);
+  }
+  for (const [sensor, made] of hints.made) {
+    if (!hints.boxes.has(sensor)) { made.remove(); hints.made.delete(sensor); }
+  }
+  for (const [sensor, object] of hints.boxes) {
     if (!hints.made.has(sensor)) {
       hints.made.set(sensor, element("div", "hint"));
       byId("over").append(hints.made.get(sensor));
     }
-    const { x, y } = spotOf(place, box);
+    const { x, y } = spotOf(new THREE.Vector3().setFromMatrixPosition(object.matrixWorld), box);
     hints.made.get(sensor).style.transform = `translate(${x}px, ${y}px)`;
   }
-  byId("first").hidden = !places.size;
+  byId("first").hidden = !hints.boxes.size;
 }

@@ -19,7 +19,11 @@ on("status", (status) => { byId("now").hidden = Boolean(status.replay); });
 on("you", leave);
 
 function show(replay) {
+  // Where others point now is no part of it; whose mark is passed is said.
+  if (!state.replay) forgetPoints();
+  else if (replay.playing) tellPassed(state.replay.n, replay.n);
   state.replay = replay;
+  byId("past").setAttribute("aria-pressed", "true");
   byId("replay").hidden = false;
   document.body.classList.add("replays");
   const bar = byId("time");
@@ -32,10 +36,15 @@ function show(replay) {
 
 function leave() {
   state.replay = null;
+  byId("past").setAttribute("aria-pressed", "false");
   byId("replay").hidden = true;
   document.body.classList.remove("replays");
   forgetPoints();
   happen("live", {});
+}
+
+function tellPassed(from, to) {
+  for (const entry of marks.log.filter(({ n }) => n > from && n <= to).slice(-1)) happen("passed", entry);
 }
 
 /* A mark for each thing that someone did, in the color of who did it. */
@@ -89,6 +98,7 @@ async function keep(kind) {
   const link = element("a");
   Object.assign(link, { href: URL.createObjectURL(blob), download: `${byId("title").textContent}.${kind}` });
   link.click();
+  happen("passed", { name: "", text: `${link.download} is saved` });
   setTimeout(() => URL.revokeObjectURL(link.href), 10000);
 }
 

@@ -1,8 +1,8 @@
 /* What three.js draws of the world: `things` are those of each node, `users` the Shapes that a part belongs to. */
 import { addToBatch, fillBatches, forgetBatches, takeFromBatch } from "./batches.js";
-import { color, field, listed, nodeIn, state, valueOf, vector } from "./core.js";
+import { color, field, listed, nodeIn, state, valueBy, valueOf, vector } from "./core.js";
 import { LINE, linesOf } from "./names.js";
-import { forgetShapes, geometryOf, isShared, materialOf, textMesh } from "./shapes.js";
+import { forgetShapes, geometryOf, isPainted, isShared, materialOf, textMesh } from "./shapes.js";
 
 const STOPS = 120;
 export const drawn = {
@@ -17,6 +17,7 @@ function meshOf(shape) {
   const look = materialOf(shape);
   if (node.kind === "Text") return textMesh(node, look.color);
   look.side = field(node, "solid", true) ? THREE.FrontSide : THREE.DoubleSide;
+  if (isPainted(node)) Object.assign(look, { vertexColors: THREE.VertexColors, color: new THREE.Color(0xffffff) });
   // A cone and a cylinder have a side, a top and a bottom, any of which may be left out.
   const has = ["side", "top", "bottom"].map((name) => field(node, name, true)), whole = has.every((part) => part);
   const parts = () => has.map((part) => (part ? look : Object.assign(look.clone(), { visible: false })));
@@ -115,7 +116,9 @@ function thingOf(number) {
 
 /* Notes of each part of a Shape, its look and its geometry, that this Shape is drawn of it. */
 function uses(shape, node) {
-  for (const name of ["appearance", "material", "geometry", "coord", "fontStyle"]) {
+  // A Color has a field of that name too, of numbers.
+  if (node.kind === "Color") return;
+  for (const name of ["appearance", "material", "geometry", "coord", "color", "fontStyle"]) {
     for (const part of listed(node, name)) {
       if (!drawn.users.has(part)) drawn.users.set(part, new Set());
       drawn.users.get(part).add(shape);
@@ -167,13 +170,12 @@ function showLine(line) {
   if (lane.length > STOPS) lane.shift();
 }
 
-/* What changed: lines of the trace, and what fields hold now. What is drawn is what they hold: an output that has sent
-   at a timestamp still sets its field, and sends no second line. */
+/* What was set is drawn as it is now, and lines of the trace go to their lanes. */
 export function showNews(news) {
   state.n = news.n;
   for (const line of linesOf(news.trace)) showLine(line);
-  for (const [number, name, text] of news.now) {
-    state.nodes[number].fields[name] = valueOf(text);
+  for (const [number, name, type, told] of news.now) {
+    state.nodes[number].fields[name] = valueBy(type, told);
     for (const user of drawn.users.get(number) || [number]) if (KINDS[state.nodes[user].kind]) drawn.stale.add(user);
   }
 }

@@ -23,31 +23,46 @@ export function materialOf(shape) {
   });
 }
 
-/* The corners of each triangle of a face. One that isn't convex is cut as its shadow on an axis' plane is. */
+/* Which corners of a face each of its triangles has. A face that isn't convex is cut as its shadow on an axis' plane is. */
 function trianglesOf(face, points, convex) {
-  if (convex) return face.slice(2).map((_, k) => [face[0], face[k + 1], face[k + 2]]);
+  if (convex) return face.slice(2).map((_, k) => [0, k + 1, k + 2]);
   const at = (corner) => new THREE.Vector3(...points.slice(3 * corner, 3 * corner + 3)), normal = new THREE.Vector3();
   face.forEach((corner, k) => normal.add(at(corner).cross(at(face[(k + 1) % face.length]))));
   const sizes = normal.toArray().map(Math.abs), away = sizes.indexOf(Math.max(...sizes));
   const turn = normal.toArray()[away] < 0;
   const flat = face.map((corner) => at(corner).toArray()).map((point) =>
     new THREE.Vector2(point[(away + (turn ? 2 : 1)) % 3], point[(away + (turn ? 1 : 2)) % 3]));
-  return THREE.ShapeUtils.triangulateShape(flat, []).map((places) => places.map((place) => face[place]));
+  return THREE.ShapeUtils.triangulateShape(flat, []);
+}
+
+/* Whether faces have colors of their own, in place of the Material's. */
+export const isPainted = (node) => node.kind === "IndexedFaceSet" && Boolean(nodeIn(node, "color"));
+
+/* The number of the color of a corner: which stands at a place of coordIndex, in a face of a number. */
+function paintOf(node) {
+  const given = listed(node, "colorIndex"), each = field(node, "colorPerVertex", true);
+  if (given.length) return (corner, place, face) => given[each ? place : face];
+  return (corner, place, face) => (each ? corner : face);
 }
 
 function faceSet(node) {
-  const points = listed(nodeIn(node, "coord"), "point"), corners = [], ccw = field(node, "ccw", true);
-  const put = (corner) => corners.push(...[0, 1, 2].map((part) => points[3 * corner + part] || 0));
-  let face = [];
-  for (const index of [...listed(node, "coordIndex"), -1]) {
-    if (index >= 0) { face.push(index); continue; }
-    for (const each of face.length > 2 ? trianglesOf(face, points, field(node, "convex", true)) : []) {
-      (ccw ? each : each.reverse()).forEach(put);
+  const points = listed(nodeIn(node, "coord"), "point"), colors = listed(nodeIn(node, "color"), "color");
+  const corners = [], paints = [], paint = paintOf(node), convex = field(node, "convex", true), ccw = field(node, "ccw", true);
+  const put = (list, from, number) => list.push(...[0, 1, 2].map((part) => from[3 * number + part] || 0));
+  let face = [], start = 0, faces = 0;
+  [...listed(node, "coordIndex"), -1].forEach((index, place) => {
+    if (index >= 0) { face.push(index); return; }
+    for (const each of face.length > 2 ? trianglesOf(face, points, convex) : []) {
+      for (const k of ccw ? each : each.reverse()) {
+        put(corners, points, face[k]);
+        put(paints, colors, paint(face[k], start + k, faces));
+      }
     }
-    face = [];
-  }
+    [face, start, faces] = [[], place + 1, faces + 1];
+  });
   const geometry = new THREE.BufferGeometry();
   geometry.setAttribute("position", new THREE.BufferAttribute(new Float32Array(corners), 3));
+  if (isPainted(node)) geometry.setAttribute("color", new THREE.BufferAttribute(new Float32Array(paints), 3));
   geometry.computeVertexNormals();
   return geometry;
 }

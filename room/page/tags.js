@@ -1,15 +1,24 @@
 /* Where others point: an arrow whose tip is at the place, and the name beside it. */
 import { spotOf } from "./camera.js";
 import { byId, element, personOf, state } from "./core.js";
+import { on } from "./link.js";
 import { drawn } from "./scene.js";
 import { stage } from "./stage.js";
 
 const ARROW = "M1 1 L1 15 L5 11.5 L8 18 L10.5 17 L7.6 10.6 L13 10.4 Z";
-/* Of each viewer its last pointer, which isn't placed yet; where it is in the world; and its tag. */
-const moved = new Map(), places = new Map(), tags = new Map();
+/* Of each viewer its last pointer, which isn't placed yet; where it is in the world; its tag; and when that fades, since it
+   doesn't move. */
+const moved = new Map(), places = new Map(), tags = new Map(), fades = new Map();
+const STILL = 10000;
 
 export function showPoints(points) {
-  for (const [who, down, ray] of points) if (who !== state.who) moved.set(who, [down, ray]);
+  for (const [who, down, ray] of points) {
+    if (who === state.who && !state.replay) continue;
+    moved.set(who, [down, ray]);
+    if (tags.has(who)) tags.get(who).classList.remove("still");
+    clearTimeout(fades.get(who));
+    fades.set(who, setTimeout(() => tags.has(who) && tags.get(who).classList.add("still"), STILL));
+  }
   if (moved.size) drawn.dirty = true;
 }
 
@@ -54,6 +63,14 @@ export function placeTags(box) {
     tag.lastChild.style.background = color;
   }
 }
+
+/* Whose viewer runs from now on is seen, though nothing else changes. */
+let running = "";
+on("status", ({ viewers }) => {
+  const now = viewers.filter(({ runs }) => runs).map(({ who }) => who).join();
+  if (now !== running) drawn.dirty = true;
+  running = now;
+});
 
 export const pointsAt = (who) => (places.has(who) ? places.get(who)[1].toArray() : null);
 stage.before.push(() => placeTags(stage.view.getBoundingClientRect()));

@@ -5,12 +5,12 @@ const HANDLES = 3;
 const KEPT = 64;
 const GUARD = 16;
 const FILLER = 0xaa;
-const HANDLE = /^struct x3d_(world|host|viewer) \*$/;
-const SIZES = { x3d_work: 24, x3d_met: 16, x3d_saved: 8, x3d_reply: 12, x3d_taken: 8, x3d_datagram: 72 };
+const HANDLE = /^(?:const )?struct x3d_(world|host|viewer|part) \*$/;
+const SIZES = { x3d_work: 24, x3d_met: 16, x3d_saved: 8, x3d_reply: 12, x3d_taken: 8, x3d_datagram: 72, x3d_field: 2 };
 /** The sizes of items that are copied as a list, and the places in a struct that hold nothing. */
 const ITEMS = { "uint8_t *": 1, "int64_t *": 8, "struct x3d_change *": 16 };
 const UNUSED = { "struct x3d_change *": [16, [7]], "struct x3d_datagram *": [72, [3, 12, 13, 14, 15]] };
-const WIDTHS = { "uint32_t *": 4, "uint16_t *": 2, "size_t *": 8 };
+const WIDTHS = { "uint32_t *": 4, "uint16_t *": 2, "size_t *": 8, "int64_t *": 8 };
 const NAMES = ["translation", "children", "set_fraction", "\u00e9", ""];
 const OF_SNAPSHOTS = /_(load|rewind|piece|piece_count)$/;
 const encoder = new TextEncoder();
@@ -37,7 +37,7 @@ export class Caller {
     this.shots = [];
     this.queue = [];
     const handles = () => Array.from({ length: HANDLES }, () => this.#place(new Uint8Array(8)));
-    this.handles = { world: handles(), host: handles(), viewer: handles() };
+    this.handles = { world: handles(), host: handles(), viewer: handles(), part: handles() };
     this.#places = [];
   }
 

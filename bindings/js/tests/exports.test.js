@@ -26,7 +26,7 @@ test("index.d.ts declares each method of each class, and nothing else", () => {
   const classes = text.matchAll(/^(?:export|declare abstract) class (\w+)[^{]*\{\n(.*?)^\}/gms);
   const declared = Object.fromEntries(Array.from(classes, ([, name, body]) => [name, methods(body)]));
   const ofClass = (prototype) => Object.getOwnPropertyNames(prototype).filter(isMethod);
-  for (const kind of ["World", "Host", "Viewer"]) {
+  for (const kind of ["World", "Host", "Viewer", "Part"]) {
     assert.deepEqual(declared[kind].sort(), ofClass(x3d[kind].prototype).sort(), kind);
   }
   const readable = Object.getPrototypeOf(x3d.World.prototype);

@@ -34,7 +34,7 @@ export function runJob(library, job, again = false) {
     });
     return { status: 0, output: encoder.encode(world.trace() + world.scene()), error: "" };
   } catch (error) {
-    if (error instanceof Refusal) return { status: error.status, output: new Uint8Array(), error: `${error.message}\n` };
+    if (error instanceof Refusal) return { status: error.status, output: new Uint8Array(), error: `${error.line}\n` };
     throw error;
   } finally {
     world?.close();

@@ -25,6 +25,7 @@ from ._faults import Fault, Refusal
 from ._library import version
 from ._nodes import Datagram, Host, Reply, Taken, Viewer, datagram
 from ._reading import Aim, Change, Changed, Meeting
+from ._part import LeftOut, Part
 from ._world import Saved, Work, World
 
 __all__ = [
@@ -34,7 +35,9 @@ __all__ = [
     "Datagram",
     "Fault",
     "Host",
+    "LeftOut",
     "Meeting",
+    "Part",
     "Refusal",
     "Reply",
     "Saved",

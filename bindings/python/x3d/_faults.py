@@ -1,13 +1,19 @@
 """Why a call is refused."""
 
-from typing import Dict
+from typing import Dict, Optional
 
 from ._library import status_text
 
 
 class Refusal(Exception):
-    """Why a scene's text is no world: the line that the program prints, such as
-    `refused UnknownNode line 3`."""
+    """Why a scene's text is no world. Its `line` is the one that the program prints, such as
+    `refused UnknownNode line 3`. `instance` is the line of the instance whose braces hold the
+    refused value, or None; the message has both."""
+
+    def __init__(self, line: str, instance: int = 0) -> None:
+        self.line = line
+        self.instance: Optional[int] = instance or None
+        super().__init__(f"{line}, in the instance on line {instance}" if instance else line)
 
 
 class Fault(Exception):
@@ -21,6 +27,7 @@ class Fault(Exception):
         5: "Memory",
         10: "Closed",
         11: "Range",
+        13: "Misuse",
         20: "Spoiled",
         21: "NotNext",
         22: "TimeNotLater",

@@ -60,11 +60,13 @@ class RawDatagram(Structure):
 _WORLD = POINTER(Handle)
 _HOST = POINTER(Handle)
 _VIEWER = POINTER(Handle)
+_PART = POINTER(Handle)
 _COUNT = POINTER(c_uint32)
 _SIZE = POINTER(c_size_t)
 # What each call is passed; each answers a status, but those that close, which answer nothing.
 CALLS = {
     "x3d_world_open": [_WORLD, c_char_p, c_size_t, c_char_p, c_size_t, _SIZE],
+    "x3d_world_open_part": [_WORLD, _PART, c_char_p, c_size_t, _SIZE],
     "x3d_world_close": [_WORLD],
     "x3d_world_applied": [_WORLD, _COUNT],
     "x3d_world_clock": [_WORLD, c_uint32, c_int64, POINTER(RawWork)],
@@ -139,6 +141,12 @@ CALLS = {
     "x3d_viewer_copy_numbers": [_VIEWER, POINTER(c_int64), c_size_t, _SIZE],
     "x3d_viewer_list_changed": [_VIEWER, c_uint32],
     "x3d_viewer_copy_changed": [_VIEWER, POINTER(RawChange), c_size_t, _SIZE],
+    "x3d_part_open": [_PART, c_char_p, c_size_t, c_char_p, c_size_t, _SIZE],
+    "x3d_part_close": [_PART],
+    "x3d_part_copy_text": [_PART, c_char_p, c_size_t, _SIZE],
+    "x3d_part_copy_notes": [_PART, c_char_p, c_size_t, _SIZE],
+    "x3d_part_copy_numbers": [_PART, POINTER(c_int64), c_size_t, _SIZE],
+    "x3d_text_instance": [c_char_p, c_size_t, _COUNT],
     "x3d_datagram_read": [c_char_p, c_size_t, POINTER(RawDatagram)],
     "x3d_version": [],
     "x3d_abi": [],
@@ -210,7 +218,7 @@ def _call(name: str) -> Callable[..., Any]:
 
 
 def calls_of(kind: str) -> Dict[str, Callable[..., Any]]:
-    """The calls on a world, a host or a viewer, by what their names have behind `x3d_KIND_`."""
+    """The calls on a world, a host, a viewer or a part, by what their names have behind `x3d_KIND_`."""
     before = f"x3d_{kind}_"
     return {name[len(before) :]: _call(name) for name in CALLS if name.startswith(before)}
 
@@ -221,6 +229,12 @@ def read_datagram(datagram: bytes, told: RawDatagram) -> int:
 
 
 _READ = _call("x3d_datagram_read")
+
+
+def text_instance(text: bytes) -> int:
+    """The line of the instance that a text is refused for, or 0. 0 too if memory is refused."""
+    line = c_uint32()
+    return line.value if _call("x3d_text_instance")(text, len(text), line) == 0 else 0
 
 
 def version() -> str:

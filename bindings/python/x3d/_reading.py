@@ -4,7 +4,7 @@ import ctypes
 from typing import Any, Callable, Dict, Iterator, List, NamedTuple, Optional, Tuple
 
 from ._faults import Fault, Refusal
-from ._library import Handle, RawAim, RawChange, RawMet, calls_of
+from ._library import Handle, RawAim, RawChange, RawMet, calls_of, text_instance
 
 DONE = 0
 _MEMORY = 5
@@ -116,13 +116,17 @@ class Held:
         self._told, self._wanted = ctypes.c_uint32(), ctypes.c_size_t()
 
     def _open(self, text: bytes, *numbers: int) -> None:
-        """Opens what a scene's text and numbers give, or raises the refusal's line."""
+        """Opens what a scene's text and numbers give, or raises the refusal."""
+        self._opened("open", text, len(text), *numbers, text=text)
+
+    def _opened(self, name: str, *passed: Any, text: bytes = b"") -> None:
+        """Opens what was passed, or raises the refusal, with the instance of the text that was."""
         line, wanted = ctypes.create_string_buffer(64), ctypes.c_size_t()
-        status = self._status("open", text, len(text), *numbers, line, 64, wanted)
+        status = self._status(name, *passed, line, 64, wanted)
         if status == _MEMORY:
             raise MemoryError
         if status == 1:
-            raise Refusal(line.raw[: wanted.value].decode())
+            raise Refusal(line.raw[: wanted.value].decode(), text_instance(text))
         self._good(status)
 
     def _status(self, name: str, *passed: Any) -> int:
@@ -140,6 +144,22 @@ class Held:
         """What a call that tells one number of 32 bits tells."""
         self._call(name, *passed, self._told)
         return self._told.value
+
+    def _copied(self, name: str) -> bytes:
+        """The bytes that a call copies."""
+        self._status(name, ctypes.create_string_buffer(1), 0, self._wanted)
+        size = self._wanted.value
+        out = ctypes.create_string_buffer(size + 1)
+        self._call(name, out, size, self._wanted)
+        return out.raw[:size]
+
+    def _numbers(self) -> List[int]:
+        """The numbers that were listed last."""
+        self._status("copy_numbers", (ctypes.c_int64 * 1)(), 0, self._wanted)
+        size = self._wanted.value
+        out = (ctypes.c_int64 * (size + 1))()
+        self._call("copy_numbers", out, size, self._wanted)
+        return list(out[:size])
 
     def close(self) -> None:
         """Frees it. Closing twice is allowed."""
@@ -159,19 +179,7 @@ class Readable(Held):
 
     def _bytes(self) -> bytes:
         """The bytes that were made last."""
-        self._status("copy_text", ctypes.create_string_buffer(1), 0, self._wanted)
-        size = self._wanted.value
-        out = ctypes.create_string_buffer(size + 1)
-        self._call("copy_text", out, size, self._wanted)
-        return out.raw[:size]
-
-    def _numbers(self) -> List[int]:
-        """The numbers that were listed last."""
-        self._status("copy_numbers", (ctypes.c_int64 * 1)(), 0, self._wanted)
-        size = self._wanted.value
-        out = (ctypes.c_int64 * (size + 1))()
-        self._call("copy_numbers", out, size, self._wanted)
-        return list(out[:size])
+        return self._copied("copy_text")
 
     def _text(self, name: str, *passed: Any) -> str:
         self._call(name, *passed)

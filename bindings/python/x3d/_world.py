@@ -3,6 +3,7 @@
 from typing import NamedTuple, Union
 
 from ._library import RawSaved, RawWork
+from ._part import Part
 from ._reading import Aim, Readable, fits, raw_aim, signed
 
 
@@ -30,6 +31,14 @@ class World(Readable):
     def __init__(self, text: Union[bytes, str]) -> None:
         super().__init__()
         self._open(text.encode() if isinstance(text, str) else bytes(text))
+
+    @classmethod
+    def of_part(cls, part: Part) -> "World":
+        """The world of a part, before any input."""
+        world = cls.__new__(cls)
+        Readable.__init__(world)
+        world._opened("open_part", part._handle)
+        return world
 
     def clock(self, number: int, time: int) -> Work:
         """Applies a clock: number 1 to 2^20, time 1 to 10^18 microseconds, above that of the last

@@ -24,7 +24,7 @@ fn main() -> Result<(), Box<dyn std::error::Error>> {
     let mut world = match World::open(&job[at + mark.len()..]) {
         Ok(world) => world,
         Err(refusal) => {
-            eprintln!("{refusal}");
+            eprintln!("{}", refusal.line);
             std::process::exit(if refusal.is_memory { 5 } else { 1 });
         }
     };

@@ -1,6 +1,7 @@
 //! Why a call is refused.
 
 use crate::library;
+use crate::raw;
 use std::error::Error;
 use std::fmt;
 
@@ -11,11 +12,33 @@ pub struct Refusal {
     pub line: String,
     /// Whether memory was refused, and not the scene.
     pub is_memory: bool,
+    /// The line of the instance whose braces hold the refused value, if an instance's do.
+    pub instance: Option<u32>,
+}
+
+const MEMORY: u8 = 5;
+
+impl Refusal {
+    /// The refusal of a text by the status and the line of a call.
+    pub(crate) fn of(text: &[u8], status: u8, line: &[u8]) -> Refusal {
+        let mut instance = 0;
+        // SAFETY: the bytes are lent for the call.
+        let told = unsafe { raw::x3d_text_instance(text.as_ptr(), text.len(), &mut instance) };
+        Refusal {
+            line: String::from_utf8_lossy(line).into_owned(),
+            is_memory: status == MEMORY,
+            instance: (told == 0 && instance > 0).then_some(instance),
+        }
+    }
 }
 
 impl fmt::Display for Refusal {
     fn fmt(&self, f: &mut fmt::Formatter<'_>) -> fmt::Result {
-        f.write_str(&self.line)
+        f.write_str(&self.line)?;
+        match self.instance {
+            Some(line) => write!(f, ", in the instance on line {line}"),
+            None => Ok(()),
+        }
     }
 }
 
@@ -30,6 +53,8 @@ pub enum Fault {
     Memory,
     /// A number is out of its range.
     Range,
+    /// A null pointer, a wrong handle, or a second thread in it: only unsafe code brings it about.
+    Misuse,
     /// Memory was refused at an earlier input.
     Spoiled,
     /// The input's number is not the next one.
@@ -103,6 +128,7 @@ impl Fault {
             0 => return Ok(()),
             5 => Fault::Memory,
             11 => Fault::Range,
+            13 => Fault::Misuse,
             20 => Fault::Spoiled,
             21 => Fault::NotNext,
             22 => Fault::TimeNotLater,
@@ -145,6 +171,7 @@ impl fmt::Display for Fault {
             Fault::Other(status) => library::status_text(*status),
             Fault::Memory => "memory was refused",
             Fault::Range => "a number is out of its range",
+            Fault::Misuse => "the handle is wrong, or in use",
             Fault::Spoiled => "memory was refused at an earlier input",
             Fault::NotNext => "the input's number is not the next one",
             Fault::TimeNotLater => "the input's time is not later than that of the last one",

@@ -22,6 +22,11 @@ pub struct RawViewer {
 }
 
 #[repr(C)]
+pub struct RawPart {
+    pub at: *mut c_void,
+}
+
+#[repr(C)]
 #[derive(Default)]
 pub struct RawWork {
     pub sends: usize,
@@ -94,10 +99,45 @@ pub struct RawDatagram {
 
 unsafe extern "C" {
     pub fn x3d_datagram_read(bytes: *const u8, length: usize, datagram: *mut RawDatagram) -> u8;
+    pub fn x3d_text_instance(text: *const u8, length: usize, line: *mut u32) -> u8;
+    pub fn x3d_part_open(
+        part: *mut RawPart,
+        text: *const u8,
+        length: usize,
+        refusal: *mut u8,
+        room: usize,
+        wanted: *mut usize,
+    ) -> u8;
+    pub fn x3d_part_close(part: *mut RawPart);
+    pub fn x3d_part_copy_text(
+        part: *mut RawPart,
+        out: *mut u8,
+        room: usize,
+        wanted: *mut usize,
+    ) -> u8;
+    pub fn x3d_part_copy_notes(
+        part: *mut RawPart,
+        out: *mut u8,
+        room: usize,
+        wanted: *mut usize,
+    ) -> u8;
+    pub fn x3d_part_copy_numbers(
+        part: *mut RawPart,
+        out: *mut i64,
+        room: usize,
+        wanted: *mut usize,
+    ) -> u8;
     pub fn x3d_world_open(
         world: *mut RawWorld,
         text: *const u8,
         length: usize,
+        refusal: *mut u8,
+        room: usize,
+        wanted: *mut usize,
+    ) -> u8;
+    pub fn x3d_world_open_part(
+        world: *mut RawWorld,
+        part: *mut RawPart,
         refusal: *mut u8,
         room: usize,
         wanted: *mut usize,

@@ -77,10 +77,7 @@ impl Viewer {
         if status == 0 {
             return Ok(viewer);
         }
-        Err(Refusal {
-            line: String::from_utf8_lossy(&line[..wanted]).into_owned(),
-            is_memory: status == 5,
-        })
+        Err(Refusal::of(text, status, &line[..wanted]))
     }
 
     /// How many inputs were applied, or had been when memory was refused.

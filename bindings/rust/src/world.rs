@@ -3,6 +3,7 @@
 use crate::changed::ChangedFields;
 use crate::changes::Changes;
 use crate::fault::{Fault, Refusal};
+use crate::part::Part;
 use crate::raw::{self, RawMet, RawSaved, RawWork, RawWorld};
 use crate::reading::{Aim, Meeting, copied, readable};
 use std::ptr;
@@ -72,10 +73,30 @@ impl World {
         if status == 0 {
             return Ok(world);
         }
-        Err(Refusal {
-            line: String::from_utf8_lossy(&line[..wanted]).into_owned(),
-            is_memory: status == 5,
-        })
+        Err(Refusal::of(text, status, &line[..wanted]))
+    }
+
+    /// The world of a part, before any input.
+    pub fn of_part(part: &mut Part) -> Result<World, Refusal> {
+        let mut world = World {
+            handle: RawWorld {
+                at: ptr::null_mut(),
+            },
+        };
+        let (mut line, mut wanted) = ([0; 64], 0);
+        let status = unsafe {
+            raw::x3d_world_open_part(
+                &mut world.handle,
+                part.handle(),
+                line.as_mut_ptr(),
+                line.len(),
+                &mut wanted,
+            )
+        };
+        if status == 0 {
+            return Ok(world);
+        }
+        Err(Refusal::of(&part.text(), status, &line[..wanted]))
     }
 
     /// How many scripts the scene runs, which are numbered from 0.

@@ -3,3 +3,7 @@ mod Running
 mod Heads
 mod Recalls
 mod Lasting
+mod Unbroken
+mod Again
+pub mod Passed
+mod Beats

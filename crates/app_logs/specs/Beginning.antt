@@ -6,7 +6,7 @@ use Rattle.share_entries.specs.Head.{is_viewer_count}
 use Rattle.share_file.specs.declared.fault.OpenFault.{OpenFault}
 use Rattle.share_file.specs.Contents.{FileView}
 use Rattle.share_law.specs.Parts.{part_of}
-use Rattle.share_turns.specs.Heard.{nobody}
+use Rattle.share_turns.specs.Attendance.{none_heard}
 use Rattle.laws_hosts.specs.Log.{host_of}
 use Rattle.share_logged.specs.Hosting.{LoggedView}
 use Rattle.share_logged.specs.Logged.{logged}
@@ -20,7 +20,7 @@ abbrev pub host_with : Head → List EntryView → LoggedView
 host_with head entries = record {
   mark = head.mark;
   part = part_of (host_of head.viewers (logged entries) 1);
-  heard = nobody;
+  attendance = none_heard;
 }
 
 -- why a host doesn't begin with entries

@@ -1,6 +1,8 @@
 pub mod Faults
 pub mod Steps
-pub mod Recalling
 pub mod Clocks
+pub mod Info
+pub mod Recalling
 pub mod Beginning
 pub mod Hosting
+pub mod Replaying

@@ -1,5 +1,5 @@
 -- The file of a log, of whatever scene, as the steps of a job.
-use Rattle.std.specs.Prelude.{◌≡◌, ◌⊎◌, ℕ, List, take, replicate, Option, None, Some, Result, Ok, Err}
+use Rattle.std.specs.Prelude.{◌≡◌, ◌⊎◌, ℕ, List, length, take, replicate, Option, None, Some, Result, Ok, Err}
 use Rattle.share_entries.specs.declared.head.Head.{Head}
 use Rattle.share_entries.specs.declared.head.HeadFault.{HeadFault}
 use Rattle.share_entries.specs.Entry.{EntryView}
@@ -12,6 +12,7 @@ use Rattle.share_logged.specs.Resuming.{BreaksAt}
 use Rattle.app_logs.specs.declared.fault.LogFault.{LogFault}
 use Rattle.app_logs.specs.declared.fault.LogFault.TheVariants.{NotALog}
 use Rattle.app_logs.specs.Faults.{open_fault_of}
+use Rattle.app_logs.specs.Info.{info_text}
 use Rattle.app_logs.specs.Steps.{steps_text}
 
 -- the mark of the scene that a head names; zeros if there is no head
@@ -35,6 +36,14 @@ pub record IsRecalled (until : Option ℕ) (file text : List ℕ) : Type 0 where
   pub of_file : log_in file ≡ Ok found
   pub log : IsLogOf found.head.viewers found.entries
   pub steps : text ≡ steps_text (first_of until found.entries)
+
+-- the file is a log that a host wrote, and the text says what it has, and of its first entries
+pub record IsInfo (until : Option ℕ) (file text : List ℕ) : Type 0 where
+  pub found : FileView
+  pub of_file : log_in file ≡ Ok found
+  pub log : IsLogOf found.head.viewers found.entries
+  pub lines : text
+      ≡ info_text (length file) found.cut found.head (first_of until found.entries)
 
 -- the first fault of a file, or its first entry that no host wrote
 abbrev pub IsNoLog : (file : List ℕ) → LogFault → Type 0

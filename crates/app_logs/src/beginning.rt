@@ -1,9 +1,10 @@
 //! A host that makes a log, or goes on with one.
 
-ghost use Rattle.std.specs.Prelude.{◌≡◌, ◌⊎◌, ◌<◌, ◌≤◌, [], IfErr, IfOk, IsTrue, OnOk, Ok, length, pos};
+ghost use Rattle.std.specs.Prelude.{◌≡◌, ◌⊎◌, [], IfErr, IfOk, IsTrue, OnOk, Ok, false, pos};
 ghost use Rattle.share_entries.specs.Head.{is_viewer_count};
 ghost use Rattle.share_file.specs.Contents.{contents_of};
 ghost use Rattle.share_file.specs.Keeping.{IsNew};
+ghost use Rattle.share_file.specs.Making.{is_unmade};
 ghost use Rattle.share_log.specs.Frames.{frames_of};
 ghost use Rattle.share_logged.specs.Making.{IsLogOf};
 ghost use Rattle.share_store.specs.OneLog.{Last};
@@ -129,11 +130,11 @@ pub fn go_on<D: Disk>(
     }
 }
 
-/// Makes a log of this head in an empty file, and the host of its viewers. The number of viewers
-/// must pass `is_viewer_count`.
+/// Makes a log of this head in a file that has none, and the host of its viewers. The number of
+/// viewers must pass `is_viewer_count`.
 ///
-/// Fails with `NotEmpty`, if the file has more than one byte, or with `Device` or `Memory`; and
-/// returns the disk.
+/// Fails with `NotEmpty`, unless the file is empty or the making of a log was cut off in it, or
+/// with `Device` or `Memory`; and returns the disk.
 pub fn make_log<D: Disk>(alloc: Global, disk: D, head: &Head) -> Result<Begun<D>, (LogFault, D)>
     requires usable { IsTrue (D.is_usable disk) }
     requires viewers { IsTrue (is_viewer_count head.now.viewers) }
@@ -150,10 +151,10 @@ pub fn make_log<D: Disk>(alloc: Global, disk: D, head: &Head) -> Result<Begun<D>
         (⟦<FileLog<D> as share_store::Log>⟧.known b.log)) }
     ensures open { IfOk result
         (λ b. IsTrue (⟦<FileLog<D> as share_store::Log>⟧.is_open b.log)) }
-    ensures empty { IfOk result (λ b. IsTrue (D.is_clean b.log.log.disk)
-        → length (D.seen disk) ≤ 1) }
+    ensures unmade { IfOk result (λ b. IsTrue (D.is_clean b.log.log.disk)
+        → IsTrue (is_unmade (D.seen disk))) }
     ensures refused { IfErr result (λ f. (f.0 ≡ Device) ⊎ ((f.0 ≡ Memory)
-        ⊎ ((f.0 ≡ NotEmpty) × (IsTrue (D.is_clean f.1) → 1 < length (D.seen disk))
+        ⊎ ((f.0 ≡ NotEmpty) × (IsTrue (D.is_clean f.1) → is_unmade (D.seen disk) ≡ false)
         × (D.seen f.1 ≡ D.seen disk)))) }
 {
     match create(alloc, disk, head) {

@@ -4,9 +4,11 @@
 //! | Modules | Content |
 //! |---|---|
 //! | `beginning` | a host that makes a log, or goes on with one |
-//! | `clocks` | which clocks of a job are left after a log |
+//! | `clocks` | which clocks of a job are left after a log, and those that a host makes |
 //! | `hosting` | turns of a host over a log, until its plan is done |
 //! | `recalling`, `steps` | a log's file as the steps of a job |
+//! | `info` | what a log has, in lines |
+//! | `laws` | that `run` reads these steps as the log's inputs |
 //! | `fault`, `refusal` | faults, and what is printed of them |
 #![tactic(auto)]
 
@@ -14,15 +16,18 @@ mod beginning;
 mod clocks;
 mod fault;
 mod hosting;
+mod info;
+mod laws;
 mod recalling;
 mod refusal;
 mod steps;
 
 pub use beginning::{Begun, go_on, make_log};
-pub use clocks::times_after;
+pub use clocks::{Beat, times_after};
 pub use fault::{LogFault, RunFault, append_fault_of};
 pub use hosting::{LogPlan, log_run};
-pub use recalling::recalled;
+pub use laws::logs_run_again;
+pub use recalling::{recalled, recalled_info};
 pub use refusal::{log_refusal_line, log_status_of};
 pub use share_entries::{Head, is_viewer_count};
 pub use share_file::{Expected, FileLog};

@@ -11,12 +11,14 @@ ghost use Rattle.share_log.specs.Log.{payloads};
 ghost use Rattle.share_logged.specs.Making.{IsLogOf};
 ghost use Rattle.app_logs.specs.Beginning.{IsNotResumed};
 ghost use Rattle.app_logs.specs.Faults.{open_fault_of};
-ghost use Rattle.app_logs.specs.Recalling.{IsNoLog, IsRecalled, first_of, log_in, mark_of};
+ghost use Rattle.app_logs.specs.Info.{info_text};
+ghost use Rattle.app_logs.specs.Recalling.{IsInfo, IsNoLog, IsRecalled, first_of, log_in, mark_of};
 ghost use Rattle.app_logs.specs.Steps.{steps_text};
 ghost use Rattle.app_logs.specs.declared.fault.LogFault.TheVariants.{Memory as NoMemory};
 
 use crate::beginning::resumed;
 use crate::fault::{LogFault, open_fault_of};
+use crate::info::push_info;
 use crate::steps::push_steps;
 use share_entries::{Entry, Head, head_of};
 use share_file::{Expected, OpenFault, Opened, open};
@@ -29,6 +31,7 @@ use std::alloc::{AllocError, Global};
 struct FoundLog {
     head: Head,
     entries: Vec<Entry>,
+    cut: u64,
 }
 
 /// Returns a file in memory with these bytes.
@@ -85,7 +88,7 @@ fn find_log(alloc: Global, file: Memory, mark: [u8; 32]) -> Result<FoundLog, Log
     requires usable { IsTrue (memory_is_usable file) }
     requires mark { mark ≡ mark_of (head_among (frames_of (memory_bytes file))) }
     ensures found { IfOk result (λ f. (v : FileView) × (log_in (memory_bytes file) ≡ Ok v)
-        × (v.head ≡ f.head) × (v.entries ≡ f.entries.items)) }
+        × (v.head ≡ f.head) × (v.entries ≡ f.entries.items) × (v.cut ≡ f.cut)) }
     ensures refused { IfErr result
         (λ fault. (fault ≡ NoMemory) ⊎ IsNoLog (memory_bytes file) fault) }
 {
@@ -99,10 +102,10 @@ fn find_log(alloc: Global, file: Memory, mark: [u8; 32]) -> Result<FoundLog, Log
                 log,
                 head,
                 entries,
-                cut: _,
+                cut,
             } = found;
             drop(log);
-            Ok(FoundLog { head, entries })
+            Ok(FoundLog { head, entries, cut })
         }
         Err((fault, file)) => {
             drop(file);
@@ -114,7 +117,7 @@ fn find_log(alloc: Global, file: Memory, mark: [u8; 32]) -> Result<FoundLog, Log
 /// Finds the log of these bytes.
 fn found_in(alloc: Global, bytes: &[u8]) -> Result<FoundLog, LogFault>
     ensures found { IfOk result (λ f. (v : FileView) × (log_in bytes.now ≡ Ok v)
-        × (v.head ≡ f.head) × (v.entries ≡ f.entries.items)) }
+        × (v.head ≡ f.head) × (v.entries ≡ f.entries.items) × (v.cut ≡ f.cut)) }
     ensures refused { IfErr result (λ fault. (fault ≡ NoMemory) ⊎ IsNoLog bytes.now fault) }
 {
     let mut file = file_of(alloc, bytes)?;
@@ -156,6 +159,39 @@ fn text_of(alloc: Global, entries: &[Entry], until: Option<u32>) -> Result<Vec<u
     Ok(text)
 }
 
+/// Returns what a log has, in lines, and of its first entries, or all.
+fn info_of(
+    alloc: Global,
+    size: usize,
+    found: &FoundLog,
+    until: Option<u32>,
+) -> Result<Vec<u8>, AllocError>
+    ensures { IfOk result (λ v. v.items ≡ info_text size found.now.cut found.now.head
+        (first_of until found.now.entries.items)) }
+{
+    let mut text = Vec::new(alloc);
+    let entries = first_of(&found.entries, until);
+    push_info(alloc, size, found.cut, &found.head, entries, &mut text)?;
+    Ok(text)
+}
+
+/// Finds the log that these bytes are, of entries that a host wrote.
+fn written_in(alloc: Global, bytes: &[u8]) -> Result<FoundLog, LogFault>
+    ensures found { IfOk result (λ f. (v : FileView) × (log_in bytes.now ≡ Ok v)
+        × (v.head ≡ f.head) × (v.entries ≡ f.entries.items) × (v.cut ≡ f.cut)) }
+    ensures log { IfOk result (λ f. IsLogOf f.head.viewers f.entries.items) }
+    ensures refused { IfErr result (λ fault. (fault ≡ NoMemory) ⊎ IsNoLog bytes.now fault) }
+{
+    let found = found_in(alloc, bytes)?;
+    match is_written(alloc, &found) {
+        Ok(()) => Ok(found),
+        Err(fault) => {
+            drop(found);
+            Err(fault)
+        }
+    }
+}
+
 /// Returns the inputs of the log that these bytes are, or the first `until` of them, as the lines
 /// of a job.
 ///
@@ -165,7 +201,19 @@ pub fn recalled(alloc: Global, bytes: &[u8], until: Option<u32>) -> Result<Vec<u
     ensures found { IfOk result (λ text. IsRecalled until bytes.now text.items) }
     ensures refused { IfErr result (λ fault. (fault ≡ NoMemory) ⊎ IsNoLog bytes.now fault) }
 {
-    let found = found_in(alloc, bytes)?;
-    is_written(alloc, &found)?;
+    let found = written_in(alloc, bytes)?;
     Ok(text_of(alloc, &found.entries, until)?)
+}
+
+/// Returns lines on the log that these bytes are, and on its first `until` inputs or all: its head,
+/// the size of the file, how many inputs there are, the times of the first and the last, and how
+/// many each viewer has offered.
+///
+/// Fails like `recalled`.
+pub fn recalled_info(alloc: Global, bytes: &[u8], until: Option<u32>) -> Result<Vec<u8>, LogFault>
+    ensures found { IfOk result (λ text. IsInfo until bytes.now text.items) }
+    ensures refused { IfErr result (λ fault. (fault ≡ NoMemory) ⊎ IsNoLog bytes.now fault) }
+{
+    let found = written_in(alloc, bytes)?;
+    Ok(info_of(alloc, bytes.len(), &found, until)?)
 }

@@ -18,5 +18,6 @@ mod tries;
 mod words;
 
 pub use list::told_text;
+pub use order::ordered;
 pub use part::{ScenePart, part_of_text};
 pub use streams::{PartTexts, read_part};

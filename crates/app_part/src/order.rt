@@ -21,7 +21,7 @@ fn by_line(notes: Items<Note>) -> Result<Items<Note>, AllocError>
 
 /// Returns a part with its notes in the order of their lines; those of one line stay in the order
 /// of the rounds. Fails if memory runs out.
-pub(crate) fn ordered(part: ScenePart) -> Result<ScenePart, AllocError>
+pub fn ordered(part: ScenePart) -> Result<ScenePart, AllocError>
     ensures { IfOk result (spec.IsOrdered part) }
 {
     let ScenePart {

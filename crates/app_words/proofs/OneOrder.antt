@@ -44,8 +44,9 @@ one_host rows x y a b =
     ap (λ n. record x { port = n }) (one a.port b.port)
     ∙ ap (λ u. record x { port = y.port; log = u }) (let same : x.log ≡ y.log = (cc) in same)
     ∙ ap (λ n. record x { port = y.port; log = y.log; viewers = n }) (one_or_none _ rows _ _ x.viewers y.viewers a.viewers b.viewers)
-    ∙ ap (λ n. record y { turns = n; keep = x.keep; until = x.until; verbose = x.verbose }) (one_or_none _ rows _ _ x.turns y.turns a.turns b.turns)
-    ∙ ap (λ o. record y { keep = o; until = x.until; verbose = x.verbose }) (one_or_none _ rows _ _ x.keep y.keep a.keep b.keep)
+    ∙ ap (λ n. record y { turns = n; keep = x.keep; every = x.every; until = x.until; verbose = x.verbose }) (one_or_none _ rows _ _ x.turns y.turns a.turns b.turns)
+    ∙ ap (λ o. record y { keep = o; every = x.every; until = x.until; verbose = x.verbose }) (one_or_none _ rows _ _ x.keep y.keep a.keep b.keep)
+    ∙ ap (λ o. record y { every = o; until = x.until; verbose = x.verbose }) (one_or_none _ rows _ _ x.every y.every a.every b.every)
     ∙ ap (λ o. record y { until = o; verbose = x.verbose }) (one_or_none _ rows _ _ x.until y.until a.until b.until)
     ∙ ap (λ v. record y { verbose = v }) (a.verbose ∙ sym b.verbose)
 
@@ -88,7 +89,7 @@ run_alone (View asked2) p h g =
     let x : slice_index p.0 0 ≡ 114 = ap (λ t. slice_index t 0) h in
     let y : slice_index p.0 0 ≡ 118 = ap (λ t. slice_index t 0) g.0 in
     absurd (omega (arith, x, y))
-run_alone (Recall until2) p h g =
+run_alone (Recall until2 info2) p h g =
     let x : slice_index p.0 1 ≡ 117 = ap (λ t. slice_index t 1) h in
     let y : slice_index p.0 1 ≡ 101 = ap (λ t. slice_index t 1) g.0 in
     absurd (omega (arith, x, y))
@@ -123,7 +124,7 @@ format_alone (View asked2) p h g =
     let x : slice_index p.0 0 ≡ 102 = ap (λ t. slice_index t 0) h in
     let y : slice_index p.0 0 ≡ 118 = ap (λ t. slice_index t 0) g.0 in
     absurd (omega (arith, x, y))
-format_alone (Recall until2) p h g =
+format_alone (Recall until2 info2) p h g =
     let x : slice_index p.0 0 ≡ 102 = ap (λ t. slice_index t 0) h in
     let y : slice_index p.0 0 ≡ 114 = ap (λ t. slice_index t 0) g.0 in
     absurd (omega (arith, x, y))
@@ -158,7 +159,7 @@ check_alone (View asked2) p h g =
     let x : slice_index p.0 0 ≡ 99 = ap (λ t. slice_index t 0) h in
     let y : slice_index p.0 0 ≡ 118 = ap (λ t. slice_index t 0) g.0 in
     absurd (omega (arith, x, y))
-check_alone (Recall until2) p h g =
+check_alone (Recall until2 info2) p h g =
     let x : slice_index p.0 0 ≡ 99 = ap (λ t. slice_index t 0) h in
     let y : slice_index p.0 0 ≡ 114 = ap (λ t. slice_index t 0) g.0 in
     absurd (omega (arith, x, y))
@@ -193,7 +194,7 @@ rehearse_alone viewers (View asked2) p h g =
     let x : slice_index p.0 0 ≡ 114 = ap (λ t. slice_index t 0) h.0 in
     let y : slice_index p.0 0 ≡ 118 = ap (λ t. slice_index t 0) g.0 in
     absurd (omega (arith, x, y))
-rehearse_alone viewers (Recall until2) p h g =
+rehearse_alone viewers (Recall until2 info2) p h g =
     let x : slice_index p.0 2 ≡ 104 = ap (λ t. slice_index t 2) h.0 in
     let y : slice_index p.0 2 ≡ 99 = ap (λ t. slice_index t 2) g.0 in
     absurd (omega (arith, x, y))
@@ -228,7 +229,7 @@ agree_alone viewers turns (View asked2) p h g =
     let x : slice_index p.0 0 ≡ 97 = ap (λ t. slice_index t 0) h.0 in
     let y : slice_index p.0 0 ≡ 118 = ap (λ t. slice_index t 0) g.0 in
     absurd (omega (arith, x, y))
-agree_alone viewers turns (Recall until2) p h g =
+agree_alone viewers turns (Recall until2 info2) p h g =
     let x : slice_index p.0 0 ≡ 97 = ap (λ t. slice_index t 0) h.0 in
     let y : slice_index p.0 0 ≡ 114 = ap (λ t. slice_index t 0) g.0 in
     absurd (omega (arith, x, y))
@@ -263,7 +264,7 @@ host_alone asked (View asked2) p h g =
     let x : slice_index p.0 0 ≡ 104 = ap (λ t. slice_index t 0) h.0 in
     let y : slice_index p.0 0 ≡ 118 = ap (λ t. slice_index t 0) g.0 in
     absurd (omega (arith, x, y))
-host_alone asked (Recall until2) p h g =
+host_alone asked (Recall until2 info2) p h g =
     let x : slice_index p.0 0 ≡ 104 = ap (λ t. slice_index t 0) h.0 in
     let y : slice_index p.0 0 ≡ 114 = ap (λ t. slice_index t 0) g.0 in
     absurd (omega (arith, x, y))
@@ -298,7 +299,7 @@ view_alone asked (Host asked2) p h g =
     let y : slice_index p.0 0 ≡ 104 = ap (λ t. slice_index t 0) g.0 in
     absurd (omega (arith, x, y))
 view_alone asked (View asked2) p h g = ap (λ x. View x) (one_view p.1 asked asked2 h.1 g.1)
-view_alone asked (Recall until2) p h g =
+view_alone asked (Recall until2 info2) p h g =
     let x : slice_index p.0 0 ≡ 118 = ap (λ t. slice_index t 0) h.0 in
     let y : slice_index p.0 0 ≡ 114 = ap (λ t. slice_index t 0) g.0 in
     absurd (omega (arith, x, y))
@@ -307,37 +308,37 @@ view_alone asked (Part list2) p h g =
     let y : slice_index p.0 0 ≡ 112 = ap (λ t. slice_index t 0) g.0 in
     absurd (omega (arith, x, y))
 
-recall_alone : (until : Option ℕ) (o : Order) (p : Text × List Row) → Asks (Recall until) p → Asks o p → Recall until ≡ o
-recall_alone until Run p h g =
+recall_alone : (until : Option ℕ) (info : Bool) (o : Order) (p : Text × List Row) → Asks (Recall until info) p → Asks o p → Recall until info ≡ o
+recall_alone until info Run p h g =
     let x : slice_index p.0 1 ≡ 101 = ap (λ t. slice_index t 1) h.0 in
     let y : slice_index p.0 1 ≡ 117 = ap (λ t. slice_index t 1) g in
     absurd (omega (arith, x, y))
-recall_alone until Format p h g =
+recall_alone until info Format p h g =
     let x : slice_index p.0 0 ≡ 114 = ap (λ t. slice_index t 0) h.0 in
     let y : slice_index p.0 0 ≡ 102 = ap (λ t. slice_index t 0) g in
     absurd (omega (arith, x, y))
-recall_alone until Check p h g =
+recall_alone until info Check p h g =
     let x : slice_index p.0 0 ≡ 114 = ap (λ t. slice_index t 0) h.0 in
     let y : slice_index p.0 0 ≡ 99 = ap (λ t. slice_index t 0) g in
     absurd (omega (arith, x, y))
-recall_alone until (Rehearse viewers2) p h g =
+recall_alone until info (Rehearse viewers2) p h g =
     let x : slice_index p.0 2 ≡ 99 = ap (λ t. slice_index t 2) h.0 in
     let y : slice_index p.0 2 ≡ 104 = ap (λ t. slice_index t 2) g.0 in
     absurd (omega (arith, x, y))
-recall_alone until (Agree viewers2 turns2) p h g =
+recall_alone until info (Agree viewers2 turns2) p h g =
     let x : slice_index p.0 0 ≡ 114 = ap (λ t. slice_index t 0) h.0 in
     let y : slice_index p.0 0 ≡ 97 = ap (λ t. slice_index t 0) g.0 in
     absurd (omega (arith, x, y))
-recall_alone until (Host asked2) p h g =
+recall_alone until info (Host asked2) p h g =
     let x : slice_index p.0 0 ≡ 114 = ap (λ t. slice_index t 0) h.0 in
     let y : slice_index p.0 0 ≡ 104 = ap (λ t. slice_index t 0) g.0 in
     absurd (omega (arith, x, y))
-recall_alone until (View asked2) p h g =
+recall_alone until info (View asked2) p h g =
     let x : slice_index p.0 0 ≡ 114 = ap (λ t. slice_index t 0) h.0 in
     let y : slice_index p.0 0 ≡ 118 = ap (λ t. slice_index t 0) g.0 in
     absurd (omega (arith, x, y))
-recall_alone until (Recall until2) p h g = ap (λ o. Recall o) (one_or_none _ p.1 _ _ until until2 h.1 g.1)
-recall_alone until (Part list2) p h g =
+recall_alone until info (Recall until2 info2) p h g = ap (λ o. Recall o info) (one_or_none _ p.1 _ _ until until2 h.1 g.1) ∙ ap (λ b. Recall until2 b) (h.2 ∙ sym g.2)
+recall_alone until info (Part list2) p h g =
     let x : slice_index p.0 0 ≡ 114 = ap (λ t. slice_index t 0) h.0 in
     let y : slice_index p.0 0 ≡ 112 = ap (λ t. slice_index t 0) g.0 in
     absurd (omega (arith, x, y))
@@ -371,7 +372,7 @@ part_alone list (View asked2) p h g =
     let x : slice_index p.0 0 ≡ 112 = ap (λ t. slice_index t 0) h.0 in
     let y : slice_index p.0 0 ≡ 118 = ap (λ t. slice_index t 0) g.0 in
     absurd (omega (arith, x, y))
-part_alone list (Recall until2) p h g =
+part_alone list (Recall until2 info2) p h g =
     let x : slice_index p.0 0 ≡ 112 = ap (λ t. slice_index t 0) h.0 in
     let y : slice_index p.0 0 ≡ 114 = ap (λ t. slice_index t 0) g.0 in
     absurd (omega (arith, x, y))
@@ -385,7 +386,7 @@ asks_one (Rehearse viewers) b p h g = rehearse_alone viewers b p h g
 asks_one (Agree viewers turns) b p h g = agree_alone viewers turns b p h g
 asks_one (Host asked) b p h g = host_alone asked b p h g
 asks_one (View asked) b p h g = view_alone asked b p h g
-asks_one (Recall until) b p h g = recall_alone until b p h g
+asks_one (Recall until info) b p h g = recall_alone until info b p h g
 asks_one (Part list) b p h g = part_alone list b p h g
 
 some_one : (x : Option (Text × List Row)) (a b : Order) → IsSomeAnd x (Asks a) → IsSomeAnd x (Asks b) → a ≡ b

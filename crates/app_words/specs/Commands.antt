@@ -3,11 +3,12 @@ use Rattle.std.specs.Prelude.{List, [], ◌∷◌, codes, true}
 use Rattle.std.specs.List.{fold}
 use Rattle.clap.specs.Words.{App, Rule, Text, new_app, with_rule, with_subcommand}
 use Rattle.clap.specs.Simple.{on_top}
-use Rattle.app_words.specs.Options.{viewers_rule, turns_rule, port_rule, keep_rule, until_rule}
+use Rattle.app_words.specs.Options.{viewers_rule, turns_rule, port_rule, keep_rule, every_rule}
+use Rattle.app_words.specs.Options.{until_rule}
 use Rattle.app_words.specs.Options.{who_rule, boot_rule, exactly_rule, at_rule, give_rule}
 use Rattle.app_words.specs.Options.{give_turns_rule, host_viewers_rule, host_turns_rule}
 use Rattle.app_words.specs.Options.{log_rule, new_log_rule, text_rule}
-use Rattle.app_words.specs.Options.{join_rule, list_rule, verbose_rule, number_rule, flag_rule}
+use Rattle.app_words.specs.Options.{join_rule, info_rule, list_rule, verbose_rule, number_rule, flag_rule}
 use Rattle.app_words.specs.declared.commands.CommandWords.{CommandWords}
 use Rattle.app_words.specs.declared.options.FlagOption.{FlagOption}
 use Rattle.app_words.specs.declared.options.NumberOption.{NumberOption}
@@ -46,11 +47,11 @@ rehearse_app = taking (codes "rehearse") (viewers_rule ∷ [])
 unfoldable pub agree_app : App
 agree_app = taking (codes "agree") (viewers_rule ∷ turns_rule ∷ [])
 
--- `host --port P --viewers K --until N --keep N --turns T --log FILE --new-log FILE -v`
+-- `host --port P --viewers K --until N --keep N --every MS --turns T --log FILE --new-log FILE -v`
 unfoldable pub host_app : App
 host_app = taking (codes "host")
-    (port_rule ∷ host_viewers_rule ∷ until_rule ∷ keep_rule ∷ host_turns_rule ∷ log_rule
-    ∷ new_log_rule ∷ verbose_rule ∷ [])
+    (port_rule ∷ host_viewers_rule ∷ until_rule ∷ keep_rule ∷ every_rule ∷ host_turns_rule
+    ∷ log_rule ∷ new_log_rule ∷ verbose_rule ∷ [])
 
 -- `view --port P --who V --boot B --until N --exactly N --turns T --at Q --give Q --give-turns T
 -- --join -v`
@@ -59,9 +60,9 @@ view_app = taking (codes "view")
     (port_rule ∷ who_rule ∷ boot_rule ∷ until_rule ∷ exactly_rule ∷ turns_rule ∷ at_rule
     ∷ give_rule ∷ give_turns_rule ∷ join_rule ∷ verbose_rule ∷ [])
 
--- `recall --until N`
+-- `recall --until N --info`
 unfoldable pub recall_app : App
-recall_app = taking (codes "recall") (until_rule ∷ [])
+recall_app = taking (codes "recall") (until_rule ∷ info_rule ∷ [])
 
 -- `part --list`
 unfoldable pub part_app : App

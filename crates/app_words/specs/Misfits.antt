@@ -47,6 +47,7 @@ has_log Without = false
 has_log GoesOn = true
 has_log Makes = true
 
--- a host with a log keeps all inputs
+-- only a host with a log makes clocks
 abbrev pub host_misfit : HostOrder → Option Misfit
-host_misfit o = if has_log o.log && is_some o.keep then Some misfit.KeepsAll else None
+host_misfit o =
+    if not (has_log o.log) && is_some o.every then Some misfit.EveryWithoutLog else None

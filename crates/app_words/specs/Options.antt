@@ -68,6 +68,10 @@ exactly_rule = ranged (codes "exactly") 0 max_inputs
 abbrev pub keep_rule : Rule
 keep_rule = ranged (codes "keep") 0 max_inputs
 
+-- `--every MS`, from a millisecond to an hour
+abbrev pub every_rule : Rule
+every_rule = ranged (codes "every") 1 3600000
+
 -- `--at Q` and `--give Q`, from 1 to 65535
 abbrev pub at_rule : Rule
 at_rule = ranged (codes "at") 1 65535
@@ -87,6 +91,10 @@ flag name = record (new_rule name) { long = Some name; action = Some SetTrue }
 -- `--join`
 abbrev pub join_rule : Rule
 join_rule = flag (codes "join")
+
+-- `--info`
+abbrev pub info_rule : Rule
+info_rule = flag (codes "info")
 
 -- `--list`
 abbrev pub list_rule : Rule

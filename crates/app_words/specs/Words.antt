@@ -79,6 +79,9 @@ MayHaveTurns rows turns = MayHaveNumberIn (codes "turns") rows 1 10000000 turns
 abbrev pub MayHaveKeep : List Row → Option ℕ → Type 0
 MayHaveKeep rows keep = MayHaveNumberIn (codes "keep") rows 0 max_inputs keep
 
+abbrev pub MayHaveEvery : List Row → Option ℕ → Type 0
+MayHaveEvery rows every = MayHaveNumberIn (codes "every") rows 1 3600000 every
+
 abbrev pub MayHaveUntil : List Row → Option ℕ → Type 0
 MayHaveUntil rows until = MayHaveNumberIn (codes "until") rows 0 max_inputs until
 
@@ -142,6 +145,7 @@ pub record AsksHost (rows : List Row) (o : HostOrder) : Type 0 where
   pub viewers : MayHaveViewers rows o.viewers
   pub until : MayHaveUntil rows o.until
   pub keep : MayHaveKeep rows o.keep
+  pub every : MayHaveEvery rows o.every
   pub turns : MayHaveTurns rows o.turns
   pub verbose : o.verbose ≡ is_given (codes "verbose") rows
 
@@ -168,7 +172,8 @@ Asks (Agree viewers turns) p =
     (p.0 ≡ codes "agree") × IsViewers p.1 viewers × IsTurns p.1 turns
 Asks (Host o) p = (p.0 ≡ codes "host") × AsksHost p.1 o × (host_misfit o ≡ None)
 Asks (View o) p = (p.0 ≡ codes "view") × AsksView p.1 o × (misfit_of o ≡ None)
-Asks (Recall until) p = (p.0 ≡ codes "recall") × MayHaveUntil p.1 until
+Asks (Recall until info) p =
+    (p.0 ≡ codes "recall") × MayHaveUntil p.1 until × (info ≡ is_given (codes "info") p.1)
 Asks (Part list) p = (p.0 ≡ codes "part") × (list ≡ is_given (codes "list") p.1)
 
 -- `clap` takes the words, and the command that they name asks for this
@@ -190,6 +195,8 @@ pub record HostInRange (o : HostOrder) : Type 0 where
   pub viewers_high : IfSome o.viewers (λ n. n ≤ max_viewers)
   pub until_high : IfSome o.until (λ n. n ≤ max_inputs)
   pub keep_high : IfSome o.keep (λ n. n ≤ max_inputs)
+  pub every_low : IfSome o.every (λ n. 1 ≤ n)
+  pub every_high : IfSome o.every (λ n. n ≤ 3600000)
   pub turns_low : IfSome o.turns (λ n. 1 ≤ n)
   pub turns_high : IfSome o.turns (λ n. n ≤ 10000000)
   pub together : host_misfit o ≡ None
@@ -213,7 +220,7 @@ IsInRange (Rehearse viewers) = (1 ≤ viewers) × (viewers ≤ max_viewers)
 IsInRange (Agree viewers turns) = (1 ≤ viewers) × (viewers ≤ max_viewers)
 IsInRange (Host o) = HostInRange o
 IsInRange (View o) = ViewInRange o
-IsInRange (Recall until) = IfSome until (λ n. n ≤ max_inputs)
+IsInRange (Recall until info) = IfSome until (λ n. n ≤ max_inputs)
 IsInRange _ = ⊤
 
 -- why the process's own words can't be read: memory was refused, or one of them is not a text

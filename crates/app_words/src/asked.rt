@@ -5,7 +5,7 @@ ghost use Rattle.clap.specs.Words.{rows_of, found_of, subcommand_rows_of};
 ghost use Rattle.app_words.specs.Words.{Asks, AsksHost, AsksView, IsEnd, end_of};
 ghost use Rattle.app_words.specs.Words.{log_file_in, log_file_named, log_use_in, log_use_of};
 ghost use Rattle.app_words.specs.Words.{IsViewers, IsTurns, IsGiveTurns, IsPort, IsWho, IsBoot};
-ghost use Rattle.app_words.specs.Words.{MayHaveAt, MayHaveGive, MayHaveKeep};
+ghost use Rattle.app_words.specs.Words.{MayHaveAt, MayHaveEvery, MayHaveGive, MayHaveKeep};
 ghost use Rattle.app_words.specs.Words.{MayHaveTurns, MayHaveViewers};
 ghost use Rattle.app_words.specs.Words.{MayHaveUntil, MayHaveExactly, MayHaveNumberIn};
 ghost use Rattle.app_words.specs.declared.order.HostOrder.{HostOrder as HostOf};
@@ -85,6 +85,14 @@ fn keep_in(found: &ArgMatches<'_>) -> Option<Option<u32>>
         ((o : Option ℕ) → ¬ MayHaveKeep (rows_of (found_of found.now)) o) }
 {
     optional_in(found, "keep", 0, MAX_INPUTS)
+}
+
+fn every_in(found: &ArgMatches<'_>) -> Option<Option<u32>>
+    ensures some { IfSome result (λ o. MayHaveEvery (rows_of (found_of found.now)) o) }
+    ensures none { IfNone result
+        ((o : Option ℕ) → ¬ MayHaveEvery (rows_of (found_of found.now)) o) }
+{
+    optional_in(found, "every", 1, 3_600_000)
 }
 
 fn until_in(found: &ArgMatches<'_>) -> Option<Option<u32>>
@@ -233,6 +241,9 @@ fn host_asked(found: &ArgMatches<'_>) -> Option<HostOrder>
     let Some(keep) = keep_in(found) else {
         return None;
     };
+    let Some(every) = every_in(found) else {
+        return None;
+    };
     let Some(until) = until_in(found) else {
         return None;
     };
@@ -242,6 +253,7 @@ fn host_asked(found: &ArgMatches<'_>) -> Option<HostOrder>
         viewers,
         turns,
         keep,
+        every,
         until,
         verbose: is_named(found, "verbose"),
     })
@@ -325,7 +337,10 @@ fn recall_in(found: &ArgMatches<'_>) -> Option<Order>
     let Some(until) = until_in(found) else {
         return None;
     };
-    Some(Order::Recall { until })
+    Some(Order::Recall {
+        until,
+        info: is_named(found, "info"),
+    })
 }
 
 fn part_in(found: &ArgMatches<'_>) -> Option<Order>

@@ -10,9 +10,9 @@ ghost use Rattle.app_words.specs.Commands.{rehearse_app, agree_app, host_app, vi
 ghost use Rattle.app_words.specs.Commands.{part_app};
 
 use crate::options::{
-    AT, BOOT, EXACTLY, FlagOption, GIVE, GIVE_TURNS, HOST_TURNS, HOST_UNTIL, HOST_VIEWERS, JOIN,
-    KEEP, LIST, LOG, NEW_LOG, NumberOption, PORT, RECALL_UNTIL, TURNS, TextOption, VERBOSE,
-    VIEW_UNTIL, VIEWERS, WHO, flag_arg, number_arg, text_arg,
+    AT, BOOT, EVERY, EXACTLY, FlagOption, GIVE, GIVE_TURNS, HOST_TURNS, HOST_UNTIL, HOST_VIEWERS,
+    INFO, JOIN, KEEP, LIST, LOG, NEW_LOG, NumberOption, PORT, RECALL_UNTIL, TURNS, TextOption,
+    VERBOSE, VIEW_UNTIL, VIEWERS, WHO, flag_arg, number_arg, text_arg,
 };
 use clap::Command;
 use std::alloc::{AllocError, Global};
@@ -115,7 +115,9 @@ A turn takes up to 64 datagrams. If nothing comes, the host rests between turns 
 milliseconds, so 1000000 turns last up to 14 hours.
 With --new-log FILE the host makes a log, and stores each input in it before it sends it. After the
 host has ended, even if it was killed, `host --log FILE` goes on with the same world: it skips the
-clocks that the log already has. With a log the turns have no end, and --keep isn't taken.
+clocks that the log already has. With a log the turns have no end. With --every MS the host makes a
+clock every MS milliseconds once the job's are over, at the time of the last input as it began and
+the time that has passed since, so the world stands still while no host runs.
 
 Examples:
   x3d_share host --port 4000 --until 2 < examples/two-clocks.job
@@ -134,6 +136,10 @@ const RECALL_HELP: &str = "The file of a host's log is read from standard input.
 
 The inputs are printed in order, as lines `clock T` and `point V D ox oy oz dx dy dz`. Followed by a
 line `scene` and the scene, they are a job. Its run prints what each viewer of that world prints.
+With --info these lines are printed instead: the number of viewers, the scene's SHA-256, the run,
+how many inputs there are and how many of them are clocks, the size of the file and how much of it
+is of an append that was not finished, the times of the first and the last input, and how many
+inputs each viewer has offered. With --until N they are about the first N inputs.
 
 Example:
   (x3d_share recall < w.x3dlog; echo scene; cat scene.x3dv) | x3d_share run
@@ -243,7 +249,7 @@ static COMMANDS: [CommandWords; 9] = [
         name: "host",
         about: "Number the inputs of viewers, and send them to each, over UDP",
         after_help: HOST_HELP,
-        options: &[PORT, HOST_VIEWERS, HOST_UNTIL, KEEP, HOST_TURNS],
+        options: &[PORT, HOST_VIEWERS, HOST_UNTIL, KEEP, EVERY, HOST_TURNS],
         texts: &[LOG, NEW_LOG],
         flags: &[VERBOSE],
     },
@@ -263,7 +269,7 @@ static COMMANDS: [CommandWords; 9] = [
         after_help: RECALL_HELP,
         options: &[RECALL_UNTIL],
         texts: &[],
-        flags: &[],
+        flags: &[INFO],
     },
     CommandWords {
         name: "part",

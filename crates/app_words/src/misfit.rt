@@ -31,9 +31,9 @@ pub enum Misfit {
     /// `--log` and `--new-log` were both given.
     #[error("one of --log and --new-log, and not both")]
     TwoLogs,
-    /// A host with a log is to keep some inputs alone.
-    #[error("--keep: not with a log, of which the host keeps all inputs")]
-    KeepsAll,
+    /// A host without a log is to make clocks.
+    #[error("--every: only with --log or --new-log")]
+    EveryWithoutLog,
 }
 
 fn join_misfit(asked: &ViewOrder) -> Option<Misfit>
@@ -97,8 +97,8 @@ fn has_log(log: LogUse) -> bool
 pub(crate) fn host_misfit(asked: &HostOrder) -> Option<Misfit>
     ensures { result ≡ host_misfit asked.now }
 {
-    if has_log(asked.log) && asked.keep.is_some() {
-        Some(Misfit::KeepsAll)
+    if !has_log(asked.log) && asked.every.is_some() {
+        Some(Misfit::EveryWithoutLog)
     } else {
         None
     }

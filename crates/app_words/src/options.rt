@@ -125,6 +125,15 @@ pub const KEEP: NumberOption = NumberOption {
     help: "Keeps the last N of the inputs that all viewers have, 0 to 1048576 [default: all]",
 };
 
+pub const EVERY: NumberOption = NumberOption {
+    name: "every",
+    low: 1,
+    high: 3_600_000,
+    unless: Unless::Nothing,
+    value: "MS",
+    help: "With a log, makes a clock every MS milliseconds after the job's, 1 to 3600000",
+};
+
 /// The option `--until` of `host`.
 pub const HOST_UNTIL: NumberOption = NumberOption {
     name: "until",
@@ -213,6 +222,12 @@ pub const JOIN: FlagOption = FlagOption {
     name: "join",
     letter: None,
     help: "Starts from the snapshot that another viewer sends to its port",
+};
+
+pub const INFO: FlagOption = FlagOption {
+    name: "info",
+    letter: None,
+    help: "Prints what the log has instead of its inputs",
 };
 
 pub const LIST: FlagOption = FlagOption {

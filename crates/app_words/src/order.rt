@@ -33,6 +33,9 @@ pub struct HostOrder {
     /// How many of the last inputs are kept for viewers that have them, 0 to 2^20; `None` keeps
     /// all.
     pub keep: Option<u32>,
+    /// How many milliseconds pass from one clock that the host makes to the next, 1 to 3,600,000,
+    /// once those of its job are over; `None` for no such clocks.
+    pub every: Option<u32>,
     /// After how many inputs the host ends, 0 to 2^20; `None` for no such end.
     pub until: Option<u32>,
     /// Reports events on standard error.
@@ -88,7 +91,8 @@ pub enum Order {
     Host(HostOrder),
     View(ViewOrder),
     /// `recall`: the input is a log's file; at most this many of its inputs, 0 to 2^20, or all.
-    Recall { until: Option<u32> },
+    /// `info` prints what the log has instead of them.
+    Recall { until: Option<u32>, info: bool },
     /// `part`: the input is a text; `list` prints only what goes.
     Part { list: bool },
 }

@@ -6,9 +6,9 @@ ghost use Rattle.scene_core.specs.Scene.{shapes_of, types_of};
 ghost use Rattle.cascade_world.specs.Answers.{answer, answered, with_answer};
 ghost use Rattle.cascade_world.specs.Nodes.{moves_boxes};
 
+use crate::buffers::Buffers;
 use cascade_world::{Live, WorldData};
 use pick_core::BoxCache;
-use react_core::Outbox;
 use scene_core::{End, Scene};
 use std::alloc::{AllocError, Global};
 use std::mem;
@@ -28,51 +28,53 @@ fn moves_boxes(scene: &Scene, node: u32) -> bool
 }
 
 /// Delivers an event to the target, if there is such a node, whatever has sent before. Puts the
-/// replies into `out` and updates the boxes. Fails with `AllocError` if memory runs out.
+/// replies into `replies` and updates the boxes. Fails with `AllocError` if memory runs out.
 pub fn deliver(
     live: &mut Live,
-    alloc: Global,
     scene: &Scene,
-    boxes: &mut BoxCache,
+    buffers: &mut Buffers,
     target: End,
     value: &Value,
-    out: &mut Outbox,
 ) -> Result<(), AllocError>
-    requires empty { out.old.items ≡ [] }
-    requires boxes { boxes.old ≡ rows_of scene.now live.old.world.fields }
+    requires empty { buffers.old.replies.items ≡ [] }
+    requires boxes { buffers.old.boxes ≡ rows_of scene.now live.old.world.fields }
     ensures live { OnOk result (live.new
         ≡ with_answer live.old (answer (shapes_of scene.now) live.old.world target value.now)) }
-    ensures replies { OnOk result (out.new.items
+    ensures replies { OnOk result (buffers.new.replies.items
         ≡ (answer (shapes_of scene.now) live.old.world target value.now).replies) }
-    ensures boxes { OnOk result (boxes.new ≡ rows_of scene.now live.new.world.fields) }
+    ensures boxes { OnOk result (buffers.new.boxes ≡ rows_of scene.now live.new.world.fields) }
+    ensures tasks { buffers.new.tasks ≡ buffers.old.tasks }
 {
-    answer(&mut live.world, alloc, scene, boxes, target, value, out)
+    answer(&mut live.world, scene, buffers, target, value)
 }
 
 /// Delivers an event to the target, if there is such a node.
 fn answer(
     world: &mut WorldData,
-    alloc: Global,
     scene: &Scene,
-    boxes: &mut BoxCache,
+    buffers: &mut Buffers,
     target: End,
     value: &Value,
-    out: &mut Outbox,
 ) -> Result<(), AllocError>
-    requires empty { out.old.items ≡ [] }
-    requires boxes { boxes.old ≡ rows_of scene.now world.old.fields }
+    requires empty { buffers.old.replies.items ≡ [] }
+    requires boxes { buffers.old.boxes ≡ rows_of scene.now world.old.fields }
     ensures world { OnOk result
         (world.new ≡ answered world.old
         (answer (shapes_of scene.now) world.old target value.now)) }
     ensures replies { OnOk result
-        (out.new.items ≡ (answer (shapes_of scene.now) world.old target value.now).replies) }
-    ensures boxes { OnOk result (boxes.new ≡ rows_of scene.now world.new.fields) }
+        (buffers.new.replies.items
+        ≡ (answer (shapes_of scene.now) world.old target value.now).replies) }
+    ensures boxes { OnOk result (buffers.new.boxes ≡ rows_of scene.now world.new.fields) }
+    ensures tasks { buffers.new.tasks ≡ buffers.old.tasks }
 {
-    world.reply_to(alloc, scene, target, value, out)?;
+    let alloc = *buffers.tasks.allocator();
+    world.reply_to(alloc, scene, target, value, &mut buffers.replies)?;
     if !moves_boxes(scene, target.node) {
         return Ok(());
     }
-    boxes.renew(scene, world.fields.as_slice(), target.node);
+    buffers
+        .boxes
+        .renew(scene, world.fields.as_slice(), target.node);
     Ok(())
 }
 

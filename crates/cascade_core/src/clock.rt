@@ -1,23 +1,22 @@
-//! The clock ticks for each TimeSensor in number order. Blocks of nodes where a tick is known to do
-//! nothing are skipped.
+//! The clock ticks for each TimeSensor in number order.
 
-ghost use Rattle.std.specs.Prelude.{◌≡◌, ◌*◌, ◌-◌, ◌≤◌, [], OnOk, true};
-ghost use Rattle.std.specs.List.{fold, range_with_len};
+ghost use Rattle.std.specs.Prelude.{◌≡◌, OnOk, true};
+ghost use Rattle.std.specs.List.{fold};
+ghost use Rattle.react_core.specs.Reaction.{is_time_sensor};
 ghost use Rattle.scene_core.specs.Scene.{types_of};
 ghost use Rattle.cascade_core.specs.Course.{wiring_at, seen};
 ghost use Rattle.cascade_core.specs.Resting.{HasSameScripts, IsAtRest};
 ghost use Rattle.cascade_world.specs.Nodes.{clocks_of, is_clock};
 ghost use Rattle.cascade_core.specs.Apply.{tick_node as tick_node_of};
-ghost use Rattle.cascade_core.specs.Walks.{over_block, where_passes};
 
+use crate::buffers::Buffers;
 use crate::course::Course;
 use crate::nodes::is_clock;
 use crate::routed::RoutedScene;
 use crate::stack::send_replies;
-use crate::tasks::CascadeTask;
-use cascade_world::BLOCK;
-use pick_core::BoxCache;
-use react_core::Outbox;
+use crate::walk::{VisitsNodes, walk_all};
+use cascade_world::WorldData;
+use scene_core::Scene;
 use script_host::Behaviour;
 use std::alloc::AllocError;
 use x3d_values::Stamped;
@@ -25,148 +24,70 @@ use x3d_values::Stamped;
 /// Lets a TimeSensor tick and follows the events that it sends.
 fn tick_node<B: Behaviour>(
     routed: &RoutedScene,
-    tasks: &mut Vec<CascadeTask>,
+    buffers: &mut Buffers,
     course: &mut Course<B>,
-    replies: &mut Outbox,
-    boxes: &mut BoxCache,
     node: u32,
     input: &Stamped,
 ) -> Result<(), AllocError>
-    requires rest { IsAtRest routed.now tasks.old.items replies.old.items boxes.old
-        (seen course.old) }
+    requires rest { IsAtRest routed.now buffers.old (seen course.old) }
     requires clock { is_clock (types_of routed.now.scene) node ≡ true }
     ensures course { OnOk result (seen course.new
         ≡ tick_node_of (wiring_at routed.now) input.now.time (seen course.old) node) }
-    ensures rest { OnOk result
-        (IsAtRest routed.now tasks.new.items replies.new.items boxes.new (seen course.new)) }
+    ensures rest { OnOk result (IsAtRest routed.now buffers.new (seen course.new)) }
     ensures scripts { HasSameScripts (seen course.old) (seen course.new) }
 {
-    course.live.world.tick(node, input, replies);
-    send_replies(routed, tasks, course, replies, boxes, node)
+    course.live.world.tick(node, input, &mut buffers.replies);
+    send_replies(routed, buffers, course, node)
 }
 
-/// Lets the node of that number tick, if it is a TimeSensor.
-fn tick_at<B: Behaviour>(
-    routed: &RoutedScene,
-    tasks: &mut Vec<CascadeTask>,
-    course: &mut Course<B>,
-    replies: &mut Outbox,
-    boxes: &mut BoxCache,
-    node: u32,
-    input: &Stamped,
-) -> Result<(), AllocError>
-    requires rest { IsAtRest routed.now tasks.old.items replies.old.items boxes.old
-        (seen course.old) }
-    ensures course { OnOk result (seen course.new
-        ≡ where_passes (is_clock (types_of routed.now.scene))
-        (tick_node_of (wiring_at routed.now) input.now.time) (seen course.old) node) }
-    ensures rest { OnOk result
-        (IsAtRest routed.now tasks.new.items replies.new.items boxes.new (seen course.new)) }
-    ensures scripts { HasSameScripts (seen course.old) (seen course.new) }
-{
-    if !is_clock(&routed.scene, node) {
-        return Ok(());
-    }
-    tick_node(routed, tasks, course, replies, boxes, node, input)
+/// The clock ticks at an input.
+#[derive(Clone, Copy)]
+struct Ticks<'a> {
+    input: &'a Stamped,
 }
 
-/// Lets each TimeSensor from node `start` to before `end` tick in turn.
-fn tick_range<B: Behaviour>(
-    routed: &RoutedScene,
-    tasks: &mut Vec<CascadeTask>,
-    course: &mut Course<B>,
-    replies: &mut Outbox,
-    boxes: &mut BoxCache,
-    start: u32,
-    end: u32,
-    input: &Stamped,
-) -> Result<(), AllocError>
-    requires rest { IsAtRest routed.now tasks.old.items replies.old.items boxes.old
-        (seen course.old) }
-    ensures course { OnOk result (seen course.new
-        ≡ fold (where_passes (is_clock (types_of routed.now.scene))
-        (tick_node_of (wiring_at routed.now) input.now.time)) (seen course.old)
-        (range_with_len start (end - start))) }
-    ensures rest { OnOk result
-        (IsAtRest routed.now tasks.new.items replies.new.items boxes.new (seen course.new)) }
-    ensures scripts { HasSameScripts (seen course.old) (seen course.new) }
-{
-    for node in start..end {
-        tick_at(routed, tasks, course, replies, boxes, node, input)?;
-    }
-    Ok(())
-}
+impl<'a> VisitsNodes for Ticks<'a> {
+    ghost wanted = { is_time_sensor };
 
-/// Lets the TimeSensors of a block tick, in a scene of `count` nodes. Skips a block where a tick is
-/// known to do nothing.
-fn tick_block<B: Behaviour>(
-    routed: &RoutedScene,
-    tasks: &mut Vec<CascadeTask>,
-    course: &mut Course<B>,
-    replies: &mut Outbox,
-    boxes: &mut BoxCache,
-    block: u32,
-    count: u32,
-    input: &Stamped,
-) -> Result<(), AllocError>
-    requires within { block * 32 ≤ count }
-    requires rest { IsAtRest routed.now tasks.old.items replies.old.items boxes.old
-        (seen course.old) }
-    ensures course { OnOk result (seen course.new
-        ≡ over_block (where_passes (is_clock (types_of routed.now.scene))
-        (tick_node_of (wiring_at routed.now) input.now.time)) (seen course.old) block count) }
-    ensures rest { OnOk result
-        (IsAtRest routed.now tasks.new.items replies.new.items boxes.new (seen course.new)) }
-    ensures scripts { HasSameScripts (seen course.old) (seen course.new) }
-{
-    if course.live.world.is_idle(block, input) {
-        return Ok(());
+    ghost step = { λ ticks routed. tick_node_of (wiring_at routed) ticks.input.now.time };
+
+    fn concerns(&self, scene: &Scene, node: u32) -> bool {
+        is_clock(scene, node)
     }
-    let start = block * BLOCK;
-    let many = (count - start).min(BLOCK);
-    tick_range(
-        routed,
-        tasks,
-        course,
-        replies,
-        boxes,
-        start,
-        start + many,
-        input,
-    )?;
-    course.live.world.remember_idle(block, input);
-    Ok(())
+
+    fn skips(&self, world: &WorldData, block: u32) -> bool {
+        world.is_idle(block, self.input)
+    }
+
+    fn visit<B: Behaviour>(
+        &self,
+        routed: &RoutedScene,
+        buffers: &mut Buffers,
+        course: &mut Course<B>,
+        node: u32,
+    ) -> Result<(), AllocError> {
+        tick_node(routed, buffers, course, node, self.input)
+    }
+
+    fn remember(&self, world: &mut WorldData, block: u32) {
+        world.remember_idle(block, self.input);
+    }
 }
 
 /// Lets each TimeSensor tick in turn. Fails with `AllocError` if memory runs out.
 pub fn clock<B: Behaviour>(
     routed: &RoutedScene,
-    tasks: &mut Vec<CascadeTask>,
+    buffers: &mut Buffers,
     course: &mut Course<B>,
-    boxes: &mut BoxCache,
     input: &Stamped,
 ) -> Result<(), AllocError>
-    requires rest { IsAtRest routed.now tasks.old.items [] boxes.old (seen course.old) }
+    requires rest { IsAtRest routed.now buffers.old (seen course.old) }
     ensures course { OnOk result (seen course.new
         ≡ fold (tick_node_of (wiring_at routed.now) input.now.time) (seen course.old)
         (clocks_of (types_of routed.now.scene))) }
-    ensures rest { OnOk result
-        (IsAtRest routed.now tasks.new.items [] boxes.new (seen course.new)) }
+    ensures rest { OnOk result (IsAtRest routed.now buffers.new (seen course.new)) }
     ensures scripts { HasSameScripts (seen course.old) (seen course.new) }
 {
-    let count = routed.scene.count()?;
-    let mut replies = Outbox::new();
-    for block in 0..count / BLOCK + 1 {
-        tick_block(
-            routed,
-            tasks,
-            course,
-            &mut replies,
-            boxes,
-            block,
-            count,
-            input,
-        )?;
-    }
-    Ok(())
+    let ticks = Ticks { input };
+    walk_all(routed, buffers, course, &ticks)
 }

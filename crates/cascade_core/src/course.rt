@@ -5,18 +5,18 @@ ghost use Rattle.pick_core.specs.Sites.{rows_of};
 ghost use Rattle.cascade_core.specs.Course.{wiring_at, seen};
 ghost use Rattle.cascade_core.specs.Cascade.{arrival, reached, received_by};
 ghost use Rattle.cascade_core.specs.Sound.{HasScriptsOf};
-ghost use Rattle.cascade_core.specs.Resting.{HasSameScripts, IsAtRest};
+ghost use Rattle.cascade_core.specs.Resting.{HasSameScripts, IsWorking};
 
 use crate::boxes::deliver;
+use crate::buffers::Buffers;
 use crate::routed::RoutedScene;
 use cascade_world::Live;
-use pick_core::BoxCache;
 use react_core::Outbox;
 use scene_core::End;
 use script_host::Behaviour;
 use script_running::BegunScripts;
 use script_slots::DueScripts;
-use std::alloc::{AllocError, Global};
+use std::alloc::AllocError;
 use x3d_values::Value;
 
 /// A world in the course of an input, its scripts, and which of them have received an event and
@@ -67,33 +67,24 @@ impl<B: Behaviour> Course<B> {
     #[tactic(auto, unfolding(crate::specs::Cascade::reached))]
     pub(crate) fn deliver(
         &mut self,
-        alloc: Global,
         routed: &RoutedScene,
-        boxes: &mut BoxCache,
+        buffers: &mut Buffers,
         target: End,
         value: &Value,
-        out: &mut Outbox,
     ) -> Result<(), AllocError>
-        requires rest { IsAtRest routed.now [] out.old.items boxes.old (seen self.old) }
+        requires working { IsWorking routed.now buffers.old (seen self.old) }
         ensures course { OnOk result (seen self.new
             ≡ (reached (wiring_at routed.now) (seen self.old) target value.now).course) }
-        ensures replies { OnOk result (out.new.items
+        ensures replies { OnOk result (buffers.new.replies.items
             ≡ (reached (wiring_at routed.now) (seen self.old) target value.now).replies) }
         ensures boxes { OnOk result
-            (boxes.new ≡ rows_of routed.now.scene self.new.live.world.fields) }
+            (buffers.new.boxes ≡ rows_of routed.now.scene self.new.live.world.fields) }
+        ensures tasks { buffers.new.tasks ≡ buffers.old.tasks }
         ensures scripts { HasSameScripts (seen self.old) (seen self.new) }
     {
-        if self.receive(routed, target, value, out)? {
+        if self.receive(routed, target, value, &mut buffers.replies)? {
             return Ok(());
         }
-        deliver(
-            &mut self.live,
-            alloc,
-            &routed.scene,
-            boxes,
-            target,
-            value,
-            out,
-        )
+        deliver(&mut self.live, &routed.scene, buffers, target, value)
     }
 }

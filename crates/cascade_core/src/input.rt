@@ -1,12 +1,14 @@
 //! Handles an input: it goes to the nodes that it concerns, scripts settle, and the world advances.
 
-ghost use Rattle.std.specs.Prelude.{◌≡◌, ◌+◌, [], IfOk, OnOk, length};
+ghost use Rattle.std.specs.Prelude.{◌≡◌, ◌+◌, IfOk, OnOk, length};
+ghost use Rattle.pick_core.specs.Sites.{rows_of};
 ghost use Rattle.script_running.specs.Acting.{kinds_of};
 ghost use Rattle.cascade_core.specs.Course.{wiring_at, seen};
 ghost use Rattle.cascade_core.specs.Resting.{HasSameScripts, HasSceneScripts, IsAtRest};
 ghost use Rattle.cascade_core.specs.Course.{course as course_of, ended};
 ghost use Rattle.cascade_core.specs.Scripts.{running, states_of};
 ghost use Rattle.cascade_core.specs.Apply.{begin as begin_of};
+ghost use Rattle.cascade_core.specs.Sound.{HasScriptsOf};
 ghost use Rattle.cascade_core.specs.Work.{IsWork};
 ghost use Rattle.cascade_core.specs.Apply.{apply, course_after, happen};
 
@@ -44,23 +46,15 @@ fn happen<B: Behaviour>(
     course: &mut Course<B>,
     input: &Stamped,
 ) -> Result<(), AllocError>
-    requires rest { IsAtRest routed.now buffers.old.tasks.items [] buffers.old.boxes
-        (seen course.old) }
+    requires rest { IsAtRest routed.now buffers.old (seen course.old) }
     ensures course { OnOk result (seen course.new
         ≡ happen routed.now.scene (wiring_at routed.now) input.now.time (seen course.old)
         input.now.cause) }
-    ensures rest { OnOk result
-        (IsAtRest routed.now buffers.new.tasks.items [] buffers.new.boxes (seen course.new)) }
+    ensures rest { OnOk result (IsAtRest routed.now buffers.new (seen course.new)) }
     ensures scripts { HasSameScripts (seen course.old) (seen course.new) }
 {
     match input.cause() {
-        Cause::Clock => clock(
-            routed,
-            &mut buffers.tasks,
-            course,
-            &mut buffers.boxes,
-            input,
-        ),
+        Cause::Clock => clock(routed, buffers, course, input),
         Cause::Pointer(pointer) => point(routed, buffers, course, pointer),
     }
 }
@@ -74,13 +68,14 @@ pub fn advance<B: Behaviour>(
     course: &mut Course<B>,
     input: &Stamped,
 ) -> Result<Work, AllocError>
-    requires rest { IsAtRest routed.now [] [] buffers.old.boxes (seen course.old) }
+    requires boxes { buffers.old.boxes
+        ≡ rows_of routed.now.scene course.old.live.world.fields }
+    requires has_scripts { HasScriptsOf (wiring_at routed.now) (seen course.old) }
     requires scene { HasSceneScripts routed.now (seen course.old) }
     requires next { input.now.number ≡ course.old.live.world.applied + 1 }
     ensures world { OnOk result (ended (seen course.new)
         ≡ apply routed.now.scene routed.now.routes (ended (seen course.old)) input.now) }
-    ensures rest { OnOk result
-        (IsAtRest routed.now buffers.new.tasks.items [] buffers.new.boxes (seen course.new)) }
+    ensures rest { OnOk result (IsAtRest routed.now buffers.new (seen course.new)) }
     ensures work { IfOk result
         (IsWork routed.now.routes course.old.live.world.trace course.new.live.world.trace
         (course_after routed.now.scene routed.now.routes (ended (seen course.old))
@@ -88,9 +83,10 @@ pub fn advance<B: Behaviour>(
     ensures scripts { HasSameScripts (seen course.old) (seen course.new) }
 {
     buffers.tasks.clear();
+    buffers.replies.clear();
     course.begin(input);
     happen(routed, buffers, course, input)?;
-    settle(routed, &mut buffers.tasks, course, &mut buffers.boxes)?;
+    settle(routed, buffers, course)?;
     let sent = course.live.sent.as_slice();
     Ok(Work {
         sends: sent.len(),

@@ -4,7 +4,7 @@
 //! | Modules | Content |
 //! |---|---|
 //! | `stage`, `series` | a scene with its world, and inputs applied to it |
-//! | `input`, `clock`, `pointer`, `pressed` | what an input does, node by node |
+//! | `input`, `clock`, `pointer`, `pressed`, `walk` | what an input does, node by node |
 //! | `course`, `stack`, `tasks`, `sending`, `boxes` | a cascade, as a stack of tasks |
 //! | `settle`, `opening` | scripts after the events of a timestamp, and before all inputs |
 //! | `routed`, `parts`, `buffers`, `work`, `nodes` | what a stage is made of |
@@ -30,9 +30,11 @@ mod settle;
 mod stack;
 mod stage;
 mod tasks;
+mod walk;
 mod work;
 
 pub use boxes::{deliver, put_boxes};
+pub use buffers::Buffers;
 pub use cascade_trace::{LineHead, Trace, TraceLine, WritesLines};
 pub use cascade_world::{State, Watched, WorldData};
 pub use fault::{ApplyFault, LoadFault, PlaceFault, StatesFault, TextFault};

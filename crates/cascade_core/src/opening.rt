@@ -18,9 +18,7 @@ use crate::course::Course;
 use crate::routed::RoutedScene;
 use crate::settle::settle;
 use crate::stack::send_replies;
-use crate::tasks::CascadeTask;
 use cascade_world::Live;
-use pick_core::BoxCache;
 use react_core::Outbox;
 use script_host::{Behaviour, Scripts};
 use script_running::BegunScripts;
@@ -89,41 +87,38 @@ fn initialize_all<B: Behaviour>(
 /// Sends the events of one script's node.
 fn send_one<B: Behaviour>(
     routed: &RoutedScene,
-    tasks: &mut Vec<CascadeTask>,
+    buffers: &mut Buffers,
     course: &mut Course<B>,
-    boxes: &mut BoxCache,
     sending: Sending,
 ) -> Result<(), AllocError>
-    requires rest { IsAtRest routed.now tasks.old.items [] boxes.old (seen course.old) }
+    requires rest { IsAtRest routed.now buffers.old (seen course.old) }
     requires outputs { are_sent (shapes_of routed.now.scene) sending ≡ true }
     ensures course { OnOk result (seen course.new
         ≡ send_replies_of (wiring_at routed.now) sending.node (seen course.old) sending.replies) }
-    ensures rest { OnOk result
-        (IsAtRest routed.now tasks.new.items [] boxes.new (seen course.new)) }
+    ensures rest { OnOk result (IsAtRest routed.now buffers.new (seen course.new)) }
     ensures scripts { HasSameScripts (seen course.old) (seen course.new) }
 {
-    let Sending { node, mut replies } = sending;
-    send_replies(routed, tasks, course, &mut replies, boxes, node)
+    let Sending { node, replies } = sending;
+    buffers.replies = replies;
+    send_replies(routed, buffers, course, node)
 }
 
 /// Sends the events of the scripts' nodes, in order.
 fn send_all<B: Behaviour>(
     routed: &RoutedScene,
-    tasks: &mut Vec<CascadeTask>,
+    buffers: &mut Buffers,
     course: &mut Course<B>,
-    boxes: &mut BoxCache,
     sendings: Vec<Sending>,
 ) -> Result<(), AllocError>
-    requires rest { IsAtRest routed.now tasks.old.items [] boxes.old (seen course.old) }
+    requires rest { IsAtRest routed.now buffers.old (seen course.old) }
     requires outputs { list_all (are_sent (shapes_of routed.now.scene)) sendings.items ≡ true }
     ensures course { OnOk result (seen course.new
         ≡ sent_by_all (wiring_at routed.now) (seen course.old) sendings.items) }
-    ensures rest { OnOk result
-        (IsAtRest routed.now tasks.new.items [] boxes.new (seen course.new)) }
+    ensures rest { OnOk result (IsAtRest routed.now buffers.new (seen course.new)) }
     ensures scripts { HasSameScripts (seen course.old) (seen course.new) }
 {
     for sending in sendings {
-        send_one(routed, tasks, course, boxes, sending)?;
+        send_one(routed, buffers, course, sending)?;
     }
     Ok(())
 }
@@ -135,24 +130,16 @@ fn send_and_settle<B: Behaviour>(
     course: &mut Course<B>,
     sendings: Vec<Sending>,
 ) -> Result<(), AllocError>
-    requires rest { IsAtRest routed.now buffers.old.tasks.items [] buffers.old.boxes
-        (seen course.old) }
+    requires rest { IsAtRest routed.now buffers.old (seen course.old) }
     requires outputs { list_all (are_sent (shapes_of routed.now.scene)) sendings.items ≡ true }
     requires fresh { course.old.settling.settled ≡ [] }
     ensures course { OnOk result (seen course.new ≡ settle_of (wiring_at routed.now)
         (sent_by_all (wiring_at routed.now) (seen course.old) sendings.items)) }
-    ensures rest { OnOk result
-        (IsAtRest routed.now buffers.new.tasks.items [] buffers.new.boxes (seen course.new)) }
+    ensures rest { OnOk result (IsAtRest routed.now buffers.new (seen course.new)) }
     ensures scripts { HasSameScripts (seen course.old) (seen course.new) }
 {
-    send_all(
-        routed,
-        &mut buffers.tasks,
-        course,
-        &mut buffers.boxes,
-        sendings,
-    )?;
-    settle(routed, &mut buffers.tasks, course, &mut buffers.boxes)?;
+    send_all(routed, buffers, course, sendings)?;
+    settle(routed, buffers, course)?;
     Ok(())
 }
 
@@ -165,15 +152,14 @@ pub fn open<B: Behaviour>(
     live: Live,
     mut scripts: Scripts<B>,
 ) -> Result<Course<B>, AllocError>
-    requires rest { IsAtRest routed.now buffers.old.tasks.items [] buffers.old.boxes
-        (course_of live scripts) }
+    requires rest { IsAtRest routed.now buffers.old (course_of live scripts) }
     requires runs { RunsItsScripts routed.now }
     requires scripts { scripts ≡ scripts_in routed.now.scene }
     requires live { live ≡ record { world = untold routed.now.scene; sent = [] } }
     ensures world { IfOk result (λ course.
         ended (seen course) ≡ opening_of routed.now.scene routed.now.routes) }
     ensures rest { IfOk result (λ course.
-        IsAtRest routed.now buffers.new.tasks.items [] buffers.new.boxes (seen course)) }
+        IsAtRest routed.now buffers.new (seen course)) }
     ensures scene { IfOk result (λ course. HasSceneScripts routed.now (seen course)) }
 {
     // For the prover: each exit drops by calls; an in-place drop is proved again at each exit.

@@ -18,6 +18,7 @@ use crate::routed::RoutedScene;
 use cascade_trace::{SentBits, Trace};
 use cascade_world::{Live, State, VIEWERS, Watched, WorldData};
 use pick_core::BoxCache;
+use react_core::Outbox;
 use route_core::Routes;
 use scene_core::Scene;
 use script_running::Runs;
@@ -79,10 +80,12 @@ fn untold(alloc: Global, scene: &Scene) -> Result<WorldData, AllocError>
 fn buffers_of(alloc: Global, scene: &Scene, world: &WorldData) -> Result<Buffers, AllocError>
     ensures boxes { IfOk result (λ buffers. buffers.boxes ≡ rows_of scene.now world.now.fields) }
     ensures tasks { IfOk result (λ buffers. buffers.tasks.items ≡ []) }
+    ensures replies { IfOk result (λ buffers. buffers.replies.items ≡ []) }
 {
     let boxes = BoxCache::new(alloc, scene, world.fields.as_slice())?;
     Ok(Buffers {
         tasks: Vec::new(alloc),
+        replies: Outbox::new(),
         pressed: Vec::new(alloc),
         boxes,
     })
@@ -110,6 +113,7 @@ pub(crate) fn parts_of(alloc: Global, scene: &Scene) -> Result<Parts, AllocError
     ensures world { IfOk result (λ parts. parts.live.world ≡ untold scene.now) }
     ensures sent { IfOk result (λ parts. parts.live.sent ≡ []) }
     ensures tasks { IfOk result (λ parts. parts.buffers.tasks.items ≡ []) }
+    ensures replies { IfOk result (λ parts. parts.buffers.replies.items ≡ []) }
     ensures boxes { IfOk result
         (λ parts. parts.buffers.boxes ≡ rows_of scene.now parts.live.world.fields) }
 {

@@ -8,15 +8,16 @@ ghost use Rattle.cascade_core.specs.Replies.{send_by};
 ghost use Rattle.cascade_core.specs.Outputs.{is_scene_output};
 ghost use Rattle.cascade_core.specs.Course.{wiring_at, seen};
 ghost use Rattle.cascade_core.specs.Cascade.{send_full, send_replies as send_replies_of};
+ghost use Rattle.cascade_core.specs.Sound.{HasScriptsOf};
+ghost use Rattle.pick_core.specs.Sites.{rows_of};
 ghost use Rattle.cascade_core.specs.Resting.{HasSameScripts, IsAtRest, IsWorking};
 ghost use Rattle.cascade_core.specs.Stack.{do_task, finish, IsReady, weight, work_left};
 
+use crate::buffers::Buffers;
 use crate::course::Course;
 use crate::routed::RoutedScene;
 use crate::sending::send;
 use crate::tasks::{CascadeTask, push_before, push_replies};
-use pick_core::BoxCache;
-use react_core::Outbox;
 use route_core::Routes;
 use scene_core::End;
 use script_host::Behaviour;
@@ -27,44 +28,40 @@ use x3d_values::Value;
 /// memory runs out.
 pub fn send_replies<B: Behaviour>(
     routed: &RoutedScene,
-    tasks: &mut Vec<CascadeTask>,
+    buffers: &mut Buffers,
     course: &mut Course<B>,
-    replies: &mut Outbox,
-    boxes: &mut BoxCache,
     node: u32,
 ) -> Result<(), AllocError>
-    requires rest { IsAtRest routed.now tasks.old.items [] boxes.old (seen course.old) }
+    requires empty { buffers.old.tasks.items ≡ [] }
+    requires boxes { buffers.old.boxes
+        ≡ rows_of routed.now.scene course.old.live.world.fields }
+    requires has_scripts { HasScriptsOf (wiring_at routed.now) (seen course.old) }
     requires ready { AllByRecursion (IsReady (shapes_of routed.now.scene))
-        (map (send_by node) (reverse replies.old.items)) }
+        (map (send_by node) (reverse buffers.old.replies.items)) }
     ensures course { OnOk result (seen course.new
-        ≡ send_replies_of (wiring_at routed.now) node (seen course.old) replies.old.items) }
-    ensures rest { OnOk result
-        (IsAtRest routed.now tasks.new.items replies.new.items boxes.new (seen course.new)) }
+        ≡ send_replies_of (wiring_at routed.now) node (seen course.old) buffers.old.replies.items) }
+    ensures rest { OnOk result (IsAtRest routed.now buffers.new (seen course.new)) }
     ensures scripts { HasSameScripts (seen course.old) (seen course.new) }
 {
-    push_replies(tasks, node, replies)?;
-    run_tasks(routed, tasks, course, replies, boxes)?;
+    push_replies(&mut buffers.tasks, node, &mut buffers.replies)?;
+    run_tasks(routed, buffers, course)?;
     Ok(())
 }
 
 /// Does all tasks, the last one first.
 fn run_tasks<B: Behaviour>(
     routed: &RoutedScene,
-    tasks: &mut Vec<CascadeTask>,
+    buffers: &mut Buffers,
     course: &mut Course<B>,
-    replies: &mut Outbox,
-    boxes: &mut BoxCache,
 ) -> Result<(), AllocError>
-    requires working { IsWorking routed.now tasks.old.items replies.old.items boxes.old
-        (seen course.old) }
+    requires working { IsWorking routed.now buffers.old (seen course.old) }
     ensures course { OnOk result
-        (seen course.new ≡ finish (wiring_at routed.now) (seen course.old) tasks.old.items) }
-    ensures rest { OnOk result
-        (IsAtRest routed.now tasks.new.items replies.new.items boxes.new (seen course.new)) }
+        (seen course.new ≡ finish (wiring_at routed.now) (seen course.old) buffers.old.tasks.items) }
+    ensures rest { OnOk result (IsAtRest routed.now buffers.new (seen course.new)) }
     ensures scripts { HasSameScripts (seen course.old) (seen course.new) }
 {
-    while let Some(task) = tasks.pop() {
-        step(routed, tasks, course, replies, boxes, task)?;
+    while let Some(task) = buffers.tasks.pop() {
+        step(routed, buffers, course, task)?;
     }
     Ok(())
 }
@@ -72,33 +69,27 @@ fn run_tasks<B: Behaviour>(
 /// Does one task, which may push others.
 fn step<B: Behaviour>(
     routed: &RoutedScene,
-    tasks: &mut Vec<CascadeTask>,
+    buffers: &mut Buffers,
     course: &mut Course<B>,
-    replies: &mut Outbox,
-    boxes: &mut BoxCache,
     task: CascadeTask,
 ) -> Result<(), AllocError>
-    requires working { IsWorking routed.now tasks.old.items replies.old.items boxes.old
-        (seen course.old) }
+    requires working { IsWorking routed.now buffers.old (seen course.old) }
     requires task { IsReady (shapes_of routed.now.scene) task }
     ensures done { OnOk result
-        (finish (wiring_at routed.now) (seen course.new) tasks.new.items
+        (finish (wiring_at routed.now) (seen course.new) buffers.new.tasks.items
         ≡ finish (wiring_at routed.now) (do_task (wiring_at routed.now) (seen course.old) task)
-        tasks.old.items) }
+        buffers.old.tasks.items) }
     ensures fewer { OnOk result
-        (work_left (wiring_at routed.now) (seen course.new) tasks.new.items + 1
-        ≤ work_left (wiring_at routed.now) (seen course.old) tasks.old.items
+        (work_left (wiring_at routed.now) (seen course.new) buffers.new.tasks.items + 1
+        ≤ work_left (wiring_at routed.now) (seen course.old) buffers.old.tasks.items
         + weight routed.now.routes task) }
-    ensures working { OnOk result
-        (IsWorking routed.now tasks.new.items replies.new.items boxes.new (seen course.new)) }
+    ensures working { OnOk result (IsWorking routed.now buffers.new (seen course.new)) }
     ensures scripts { HasSameScripts (seen course.old) (seen course.new) }
 {
     match task {
-        CascadeTask::Send(source, value) => begin(
-            routed, tasks, course, replies, boxes, source, value,
-        ),
+        CascadeTask::Send(source, value) => begin(routed, buffers, course, source, value),
         CascadeTask::Follow(source, value, next) => {
-            follow(routed, tasks, course, replies, boxes, source, value, next)
+            follow(routed, buffers, course, source, value, next)
         }
     }
 }
@@ -106,36 +97,32 @@ fn step<B: Behaviour>(
 /// Sends an event by an output, unless the output has sent before.
 fn begin<B: Behaviour>(
     routed: &RoutedScene,
-    tasks: &mut Vec<CascadeTask>,
+    buffers: &mut Buffers,
     course: &mut Course<B>,
-    replies: &mut Outbox,
-    boxes: &mut BoxCache,
     source: End,
     value: Value,
 ) -> Result<(), AllocError>
-    requires working { IsWorking routed.now tasks.old.items replies.old.items boxes.old
-        (seen course.old) }
+    requires working { IsWorking routed.now buffers.old (seen course.old) }
     requires task { is_scene_output (shapes_of routed.now.scene) source ≡ true }
     ensures done { OnOk result
-        (finish (wiring_at routed.now) (seen course.new) tasks.new.items
+        (finish (wiring_at routed.now) (seen course.new) buffers.new.tasks.items
         ≡ finish (wiring_at routed.now)
         (send_full (wiring_at routed.now) (seen course.old) source value)
-        tasks.old.items) }
+        buffers.old.tasks.items) }
     ensures fewer { OnOk result
-        (work_left (wiring_at routed.now) (seen course.new) tasks.new.items + 1
-        ≤ work_left (wiring_at routed.now) (seen course.old) tasks.old.items + 1) }
-    ensures working { OnOk result
-        (IsWorking routed.now tasks.new.items replies.new.items boxes.new (seen course.new)) }
+        (work_left (wiring_at routed.now) (seen course.new) buffers.new.tasks.items + 1
+        ≤ work_left (wiring_at routed.now) (seen course.old) buffers.old.tasks.items + 1) }
+    ensures working { OnOk result (IsWorking routed.now buffers.new (seen course.new)) }
     ensures scripts { HasSameScripts (seen course.old) (seen course.new) }
 {
     // For the prover: the value is dropped by a call; otherwise its drop is proved at each exit.
-    let alloc = *tasks.allocator();
+    let alloc = *buffers.tasks.allocator();
     let Ok(sends) = send(&mut course.live, alloc, source, &value) else {
         drop(value);
         return Err(AllocError);
     };
     if sends {
-        follow(routed, tasks, course, replies, boxes, source, value, 0)?;
+        follow(routed, buffers, course, source, value, 0)?;
         return Ok(());
     }
     drop(value);
@@ -145,27 +132,23 @@ fn begin<B: Behaviour>(
 /// Follows the route at this place among those of the output, and leaves the rest as a task.
 fn follow<B: Behaviour>(
     routed: &RoutedScene,
-    tasks: &mut Vec<CascadeTask>,
+    buffers: &mut Buffers,
     course: &mut Course<B>,
-    replies: &mut Outbox,
-    boxes: &mut BoxCache,
     source: End,
     value: Value,
     next: usize,
 ) -> Result<(), AllocError>
-    requires working { IsWorking routed.now tasks.old.items replies.old.items boxes.old
-        (seen course.old) }
+    requires working { IsWorking routed.now buffers.old (seen course.old) }
     ensures done { OnOk result
-        (finish (wiring_at routed.now) (seen course.new) tasks.new.items
+        (finish (wiring_at routed.now) (seen course.new) buffers.new.tasks.items
         ≡ finish (wiring_at routed.now)
         (do_task (wiring_at routed.now) (seen course.old) (CascadeTask.Follow source value next))
-        tasks.old.items) }
+        buffers.old.tasks.items) }
     ensures fewer { OnOk result
-        (work_left (wiring_at routed.now) (seen course.new) tasks.new.items + 1
-        ≤ work_left (wiring_at routed.now) (seen course.old) tasks.old.items
+        (work_left (wiring_at routed.now) (seen course.new) buffers.new.tasks.items + 1
+        ≤ work_left (wiring_at routed.now) (seen course.old) buffers.old.tasks.items
         + weight routed.now.routes (CascadeTask.Follow source value next)) }
-    ensures working { OnOk result
-        (IsWorking routed.now tasks.new.items replies.new.items boxes.new (seen course.new)) }
+    ensures working { OnOk result (IsWorking routed.now buffers.new (seen course.new)) }
     ensures scripts { HasSameScripts (seen course.old) (seen course.new) }
 {
     // For the prover: the value is dropped by a call; otherwise its drop is proved at each exit.
@@ -173,18 +156,22 @@ fn follow<B: Behaviour>(
         drop(value);
         return Ok(());
     };
-    let alloc = *tasks.allocator();
-    let Ok(()) = course.deliver(alloc, routed, boxes, hop.target, &value, replies) else {
+    let Ok(()) = course.deliver(routed, buffers, hop.target, &value) else {
         drop(value);
         return Err(AllocError);
     };
     if hop.more {
         let rest = CascadeTask::Follow(source, value, next + 1);
-        push_before(tasks, rest, hop.target.node, replies)?;
+        push_before(
+            &mut buffers.tasks,
+            rest,
+            hop.target.node,
+            &mut buffers.replies,
+        )?;
         return Ok(());
     }
     drop(value);
-    push_replies(tasks, hop.target.node, replies)?;
+    push_replies(&mut buffers.tasks, hop.target.node, &mut buffers.replies)?;
     Ok(())
 }
 

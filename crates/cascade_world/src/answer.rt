@@ -4,6 +4,7 @@ ghost use Rattle.std.specs.Prelude.{◌≡◌, ◌/◌, ℕ, [], IsTrue, OnOk, p
 ghost use Rattle.scene_core.specs.Scene.{rows_at, shapes_of};
 ghost use Rattle.cascade_world.specs.Answers.{answer, answer_by, answered, setting_at, nothing, reacting, ticked};
 
+use crate::event::NodeEvent;
 use crate::world::WorldData;
 use react_core::Outbox;
 use scene_core::{End, Scene, is_pointing};
@@ -37,44 +38,35 @@ impl WorldData {
         self.sensors.set(target.node as usize, state);
     }
 
-    /// Handles an event at the target, a node of this type.
+    /// Handles an event at a node.
     fn reply_by(
         &mut self,
         alloc: Global,
         scene: &Scene,
-        node_type: NodeType,
-        target: End,
-        value: &Value,
+        event: &NodeEvent<'_>,
         out: &mut Outbox,
     ) -> Result<(), AllocError>
         requires empty { out.old.items ≡ [] }
         ensures world { OnOk result (self.new
             ≡ answered self.old
-            (answer_by self.old target value.now node_type
-            (slice_get (rows_at scene.now target.node) target.field))) }
+            (answer_by self.old event.now.target event.now.value.now event.now.node_type
+            (slice_get (rows_at scene.now event.now.target.node) event.now.target.field))) }
         ensures replies { OnOk result (out.new.items
-            ≡ (answer_by self.old target value.now node_type
-            (slice_get (rows_at scene.now target.node) target.field)).replies) }
+            ≡ (answer_by self.old event.now.target event.now.value.now event.now.node_type
+            (slice_get (rows_at scene.now event.now.target.node)
+            event.now.target.field)).replies) }
     {
-        if node_type == NodeType::TimeSensor {
-            self.set_sensor(target, value, out);
+        if event.node_type == NodeType::TimeSensor {
+            self.set_sensor(event.target, event.value, out);
             return Ok(());
         }
-        if is_pointing(node_type) {
-            return self.touch(alloc, node_type, target, value, out);
+        if is_pointing(event.node_type) {
+            return self.touch(alloc, event, out);
         }
-        if node_type == NodeType::Script {
-            return self.set_script(alloc, scene, target, value, out);
+        if event.node_type == NodeType::Script {
+            return self.set_script(alloc, scene, event.target, event.value, out);
         }
-        self.fields.react(
-            alloc,
-            target.node,
-            node_type,
-            target.field,
-            value,
-            self.last_time,
-            out,
-        )
+        self.fields.react(alloc, event, self.last_time, out)
     }
 
     /// Handles an event at the target and puts the replies into `out`. Does nothing if there is no
@@ -96,7 +88,12 @@ impl WorldData {
         let Some(node_type) = scene.type_at(target.node) else {
             return Ok(());
         };
-        self.reply_by(alloc, scene, node_type, target, value, out)
+        let event = NodeEvent {
+            node_type,
+            target,
+            value,
+        };
+        self.reply_by(alloc, scene, &event, out)
     }
 
     /// Handles a tick of the clock at a TimeSensor and puts the replies into `out`.

@@ -6,6 +6,7 @@
 
 mod aim;
 mod answer;
+mod event;
 mod fits;
 mod idle;
 mod pointing;

@@ -14,11 +14,12 @@ ghost use Rattle.cascade_world.specs.Insides.{inside_at, seen};
 ghost use Rattle.cascade_world.specs.Pointer.{is_pressed, tracked_at, tracked_by};
 
 use crate::aim::{AimedAt, Concerned, Inside, inside_at};
+use crate::event::NodeEvent;
 use crate::watched::{BLOCK, Watched};
 use crate::world::WorldData;
 use pick_core::{is_enabled, track_point};
 use react_core::Outbox;
-use scene_core::{End, Scene};
+use scene_core::Scene;
 use sensor_core::TOUCH_ENABLED;
 use sensor_plane::{Drag, PLANE_ENABLED, PointingSlot, PointingState};
 use std::alloc::{AllocError, Global};
@@ -120,38 +121,28 @@ impl WorldData {
         keep(&mut self.pointing, node as usize, state);
     }
 
-    /// Handles an event at a pointing sensor of this type.
+    /// Handles an event at a pointing sensor.
     pub(crate) fn touch(
         &mut self,
         alloc: Global,
-        node_type: NodeType,
-        target: End,
-        value: &Value,
+        event: &NodeEvent<'_>,
         out: &mut Outbox,
     ) -> Result<(), AllocError>
-        requires sensor { is_pointing node_type ≡ true }
+        requires sensor { is_pointing event.now.node_type ≡ true }
         requires empty { out.old.items ≡ [] }
         ensures world { OnOk result
             (self.new
             ≡ answered self.old
-            (touching self.old target value.now node_type
-            (slice_get self.old.fields target.node))) }
+            (touching self.old event.now.target event.now.value.now event.now.node_type
+            (slice_get self.old.fields event.now.target.node))) }
         ensures replies { OnOk result
             (out.new.items
-            ≡ (touching self.old target value.now node_type
-            (slice_get self.old.fields target.node)).replies) }
+            ≡ (touching self.old event.now.target event.now.value.now event.now.node_type
+            (slice_get self.old.fields event.now.target.node)).replies) }
     {
-        self.fields.react(
-            alloc,
-            target.node,
-            node_type,
-            target.field,
-            value,
-            self.last_time,
-            out,
-        )?;
-        if turns_off(node_type, target.field, value) {
-            self.forget(node_type, target.node, out);
+        self.fields.react(alloc, event, self.last_time, out)?;
+        if turns_off(event.node_type, event.target.field, event.value) {
+            self.forget(event.node_type, event.target.node, out);
         }
         Ok(())
     }

@@ -11,6 +11,7 @@ ghost use Rattle.x3d_values.specs.declared.fields.Fields.{Fields as FieldsView};
 ghost use Rattle.cascade_world.specs.Blocks.{AreOthers};
 ghost use Rattle.cascade_world.specs.Idle.{starts_at};
 
+use crate::event::NodeEvent;
 use crate::idle::{Idle, idle_of, is_among, no_time, wake};
 use crate::watched::WIDTH;
 use react_core::{Outbox, SentEvent, copy_of, react};
@@ -19,7 +20,7 @@ use sensor_core::TimeFields;
 use sensor_plane::{PointingState, SensorPointer};
 use std::alloc::{AllocError, Global};
 use std::marker::Model;
-use x3d_values::{Fields, NodeType, Value};
+use x3d_values::{Fields, Value};
 
 /// The fields that each node keeps, by its number.
 #[derive(Drop)]
@@ -41,33 +42,41 @@ impl Model for State {
     ghost invariant = { λ s. AreIdle s.items.items s.idles.items };
 }
 
-/// Lets a node of this type react to an event, if there is such a node. The other nodes are
-/// unchanged.
+/// Lets a node react to an event, if there is such a node. The other nodes are unchanged.
 fn react_at(
     items: &mut Vec<Fields>,
     alloc: Global,
-    node: u32,
-    node_type: NodeType,
-    input: u16,
-    value: &Value,
+    event: &NodeEvent<'_>,
     time: i64,
     out: &mut Outbox,
 ) -> Result<(), AllocError>
     requires empty { out.old.items ≡ [] }
     ensures fields { OnOk result (items.new.items
         ≡ option_map_or (λ fields.
-        slice_set items.old.items node (reaction node_type fields input value.now time).fields)
-        (slice_get items.old.items node) items.old.items) }
+        slice_set items.old.items event.now.target.node
+        (reaction event.now.node_type fields event.now.target.field event.now.value.now
+        time).fields)
+        (slice_get items.old.items event.now.target.node) items.old.items) }
     ensures replies { OnOk result (out.new.items
-        ≡ option_map_or (λ fields. (reaction node_type fields input value.now time).replies)
-        (slice_get items.old.items node) []) }
-    ensures others { AreOthers node items.old.items items.new.items }
+        ≡ option_map_or (λ fields.
+        (reaction event.now.node_type fields event.now.target.field event.now.value.now
+        time).replies)
+        (slice_get items.old.items event.now.target.node) []) }
+    ensures others { AreOthers event.now.target.node items.old.items items.new.items }
 {
-    let node = node as usize;
+    let node = event.target.node as usize;
     if node >= items.len() {
         return Ok(());
     }
-    react(alloc, node_type, &mut items[node], input, value, time, out)
+    react(
+        alloc,
+        event.node_type,
+        &mut items[node],
+        event.target.field,
+        event.value,
+        time,
+        out,
+    )
 }
 
 /// Sets the field of a node that an event comes to and sends the value, if there is such a node.
@@ -174,38 +183,30 @@ impl State {
         self.items.get(node as usize)
     }
 
-    /// Lets a node of this type react to an event at a time in microseconds, if there is such a
-    /// node, and puts the replies into `out`. Fails with `AllocError` if memory runs out.
-    pub fn react(
+    /// Lets a node react to an event at a time in microseconds, if there is such a node, and puts
+    /// the replies into `out`. Fails with `AllocError` if memory runs out.
+    pub(crate) fn react(
         &mut self,
         alloc: Global,
-        node: u32,
-        node_type: NodeType,
-        input: u16,
-        value: &Value,
+        event: &NodeEvent<'_>,
         time: i64,
         out: &mut Outbox,
     ) -> Result<(), AllocError>
         requires empty { out.old.items ≡ [] }
         ensures fields { OnOk result (self.new
             ≡ option_map_or (λ fields.
-            slice_set self.old node (reaction node_type fields input value.now time).fields)
-            (slice_get self.old node) self.old) }
+            slice_set self.old event.now.target.node
+            (reaction event.now.node_type fields event.now.target.field event.now.value.now
+            time).fields)
+            (slice_get self.old event.now.target.node) self.old) }
         ensures replies { OnOk result (out.new.items
-            ≡ option_map_or (λ fields. (reaction node_type fields input value.now time).replies)
-            (slice_get self.old node) []) }
+            ≡ option_map_or (λ fields.
+            (reaction event.now.node_type fields event.now.target.field event.now.value.now
+            time).replies)
+            (slice_get self.old event.now.target.node) []) }
     {
-        wake(&mut self.idles, node as usize / WIDTH);
-        react_at(
-            &mut self.items,
-            alloc,
-            node,
-            node_type,
-            input,
-            value,
-            time,
-            out,
-        )
+        wake(&mut self.idles, event.target.node as usize / WIDTH);
+        react_at(&mut self.items, alloc, event, time, out)
     }
 
     /// Sets the field of a node that an event comes to and sends the value, if there is such a

@@ -1,3 +1,4 @@
 pub mod Answers
 pub mod NodeAnswers
+pub mod Parts
 pub mod Points

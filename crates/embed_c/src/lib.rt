@@ -3,7 +3,8 @@
 //!
 //! The functions of a world are in `open`, `inputs`, `scripts`, `shots`, `texts`, `lists` and
 //! `changed`. Those of a host are in `host`, and those of a viewer in `viewer`, `joining`,
-//! `viewer_texts`, `viewer_lists` and `viewer_changed`. `datagram` reads a datagram.
+//! `viewer_texts`, `viewer_lists` and `viewer_changed`. `datagram` reads a datagram, and `parts`
+//! makes the part of a text.
 #![tactic(auto)]
 
 mod changed;
@@ -13,6 +14,7 @@ mod inputs;
 mod joining;
 mod lists;
 mod open;
+mod parts;
 mod scripts;
 mod shots;
 mod texts;

@@ -1,4 +1,5 @@
 pub mod HostHandles
+pub mod PartHandles
 pub mod ViewerHandles
 pub mod WorldHandles
 pub mod Values

@@ -1,4 +1,5 @@
 pub mod Heap
 pub mod HostHeld
+pub mod PartHeld
 pub mod ViewerHeld
 pub mod WorldHeld

@@ -81,6 +81,13 @@ pub mod LineParts
 pub mod LineNodes
 pub mod LineProtos
 pub mod Lines
+pub mod DefWalks
+pub mod DefSteps
+pub mod DefParts
+pub mod DefNodes
+pub mod DefProtos
+pub mod DefTexts
+mod DefWhole
 pub mod HeldGood
 pub mod HeldParts
 pub mod HeldNodes

@@ -10,6 +10,7 @@ pub mod Signatures
 pub mod Steps
 pub mod Untaken
 pub mod Renamed
+pub mod RenamedDefs
 pub mod Plain
 pub mod InPlace
 pub mod WithFields

@@ -30,8 +30,8 @@ pub use plain_laws::{
     lines_are_for_faults, nodes_close, routes_are_read, uses_are_named,
 };
 pub use prototypes::{
-    instances_are_their_bodies, names_of_prototypes_dont_matter, plain_documents_are_themselves,
-    untaken_plain_values_dont_matter, untaken_values_dont_matter,
+    def_names_dont_matter, instances_are_their_bodies, names_of_prototypes_dont_matter,
+    plain_documents_are_themselves, untaken_plain_values_dont_matter, untaken_values_dont_matter,
 };
 pub use spelled::{flats_are_short, spelled_flats_are_named};
 pub use written::{

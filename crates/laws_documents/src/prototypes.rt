@@ -3,6 +3,7 @@
 ghost use Rattle.laws_documents.specs.InPlace.{InstancesAreTheirBodies};
 ghost use Rattle.laws_documents.specs.Plain.{PlainDocumentsAreThemselves};
 ghost use Rattle.laws_documents.specs.Renamed.{NamesOfPrototypesDontMatter};
+ghost use Rattle.laws_documents.specs.RenamedDefs.{DefNamesDontMatter};
 ghost use Rattle.laws_documents.specs.Untaken.{UntakenPlainValuesDontMatter, UntakenValuesDontMatter};
 
 /// A document stands for the same with other values that no IS takes, if these declare the same.
@@ -19,6 +20,12 @@ pub fn untaken_plain_values_dont_matter()
 /// A document stands for the same with other names of prototypes.
 pub fn names_of_prototypes_dont_matter()
     ensures { NamesOfPrototypesDontMatter }
+{}
+
+/// A document with other DEF names, in its own scope and in that of each body, stands for the same,
+/// but for the names of nodes.
+pub fn def_names_dont_matter()
+    ensures { DefNamesDontMatter }
 {}
 
 /// A document without PROTO is read plainly: each pair of braces is a node.

@@ -1,5 +1,6 @@
 pub mod Numbering
 pub mod Offers
+pub mod SomeParts
 pub mod Fresh
 pub mod Queues
 pub mod Places

@@ -41,7 +41,7 @@ take-answered h o k reply at is = inl (came h o k (Some reply) at is)
 -- ---- with the inputs that a call left
 
 -- what the host makes of them
-abbrev from_entries : List SeatCount → OfferView → Result ℕ NumberFault × HostInputsView → Result HostReply HostFault × HostPart
+abbrev pub from_entries : List SeatCount → OfferView → Result ℕ NumberFault × HostInputsView → Result HostReply HostFault × HostPart
 from_entries kept o (Ok n, e) = (Ok (Numbered n), part_with e (slice_set kept o.pointer.who (record { boot = o.boot; count = o.number })))
 from_entries kept o (Err fault, e) = (Err (Number fault), part_with e kept)
 

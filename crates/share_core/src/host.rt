@@ -31,13 +31,15 @@ pub struct Host {
 impl Model for Host {
     ghost use Rattle.std.specs.Prelude.{◌≡◌, ◌≤◌, length};
     ghost use Rattle.x3d_values.specs.Ranges.{max_viewers};
+    ghost use Rattle.share_law.specs.HostCalls.{IsSomePart};
     ghost use Rattle.share_core.specs.Host.{HostView, part_with};
 
     ghost Value = { HostView };
 
     ghost view = { λ h. record { mark = h.mark; part = part_with h.inputs h.kept.items } };
 
-    ghost invariant = { λ h. (length h.kept.items ≤ max_viewers) × (length h.mark ≡ 32) };
+    ghost invariant = { λ h. (length h.kept.items ≤ max_viewers) × (length h.mark ≡ 32)
+        × IsSomePart (part_with h.inputs h.kept.items) };
 }
 
 /// Returns the number of numbered offers of a boot: 0 for any boot other than the kept one.
@@ -102,6 +104,7 @@ impl Host {
     ghost use Rattle.share_law.specs.Parts.{new_part, part_ask_came, part_drop_below, part_packet};
     ghost use Rattle.share_law.specs.Parts.{part_floor_packet};
     ghost use Rattle.share_law.specs.Calls.{IsPartClocked, IsPartTake, IsPartTakeOf};
+    ghost use Rattle.share_law.specs.HostCalls.{IsSomePart};
     ghost use Rattle.share_core.specs.Host.{AreNumbered};
 
     /// Creates the host of a scene with this mark, for 1 to `MAX_VIEWERS` viewers, numbered from 0.
@@ -149,7 +152,9 @@ impl Host {
     /// Returns the floor, the number from which on there are packets of inputs. It is 1 at first,
     /// and at most the number of the next input.
     pub fn floor(&self) -> u32
-        ensures { result ≡ self.now.part.floor }
+        ensures value { result ≡ self.now.part.floor }
+        // Of every host: some host of the law, with its whole list, has its part.
+        ensures part { IsSomePart self.now.part }
     {
         self.inputs.floor()
     }

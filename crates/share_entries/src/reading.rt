@@ -3,14 +3,13 @@
 ghost use Rattle.std.specs.Prelude.{◌≡◌, ◌++◌, IfSome, IsTrue};
 ghost use Rattle.std.specs.Option.{option_map};
 ghost use Rattle.x3d_values.specs.Ranges.{is_input_time};
-ghost use Rattle.share_wire.specs.Fields.{vector};
 ghost use Rattle.share_entries.specs.Entry.{time_codec, offer_fields, offer_codec, entry_codec, source_at, stamp_codec};
 
 use crate::entry::{Entry, Source};
 use crate::fields::OfferFields;
 use byte_codec::{byte_of, flag_of, i64_of, u32_of};
-use share_wire::Offer;
-use x3d_values::{Vec3, is_input_time};
+use share_wire::{Offer, vector_of};
+use x3d_values::is_input_time;
 
 #[tactic(auto, unfolding(crate::specs::Entry::time_codec))]
 fn time_of(bytes: &[u8]) -> Option<(i64, &[u8])>
@@ -40,21 +39,6 @@ fn stamp_of(bytes: &[u8]) -> Option<((i64, u8), &[u8])>
         return None;
     };
     Some(((time, kind), rest))
-}
-
-fn vector_of(bytes: &[u8]) -> Option<(Vec3, &[u8])>
-    ensures { option_map (λ r. (r.0, r.1.now)) result ≡ vector.read bytes.now }
-{
-    let Some((x, rest)) = i64_of(bytes) else {
-        return None;
-    };
-    let Some((y, rest)) = i64_of(rest) else {
-        return None;
-    };
-    let Some((z, rest)) = i64_of(rest) else {
-        return None;
-    };
-    Some((Vec3 { x, y, z }, rest))
 }
 
 #[tactic(auto, unfolding(crate::specs::Entry::offer_fields))]

@@ -1,7 +1,7 @@
 //! The log of a world in one file.
 //!
-//! `create` makes a log in an empty file. `open` finds the entries of a file that is a log, or the
-//! first fault, and cuts what a crash left after them. A `FileLog` appends to it, as `Log`.
+//! `create` makes a log in a file that has none. `open` finds the entries of a file that is a log,
+//! or the first fault, and cuts what a crash left after them. A `FileLog` appends to it, as `Log`.
 #![tactic(auto)]
 
 mod append;

@@ -29,7 +29,11 @@ pub struct Opened<D: Disk> {
 }
 
 /// Reads the bytes from here on.
-fn read_tail<D: Disk>(alloc: Global, disk: &mut D, at: usize) -> Result<Vec<u8>, OpenFault>
+pub(crate) fn read_tail<D: Disk>(
+    alloc: Global,
+    disk: &mut D,
+    at: usize,
+) -> Result<Vec<u8>, OpenFault>
     requires { IsTrue (D.is_usable disk.old) }
     ensures usable { OnOk result (IsTrue (D.is_usable disk.new)) }
     ensures tail { IfOk result (λ v. IsTrue (D.is_clean disk.new)

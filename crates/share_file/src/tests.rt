@@ -3,7 +3,7 @@
 use crate::{Expected, FileLog, OpenFault, Restarted, append_and_restart, create, open};
 use share_entries::{Entry, Head, HeadFault, Source};
 use share_store::{AppendFault, Log, ReadFault};
-use sqlite_disk::{Disk, Fuse, Memory};
+use sqlite_disk::{Crash, Disk, Fuse, Memory};
 use std::alloc::Global;
 use std::test::Fail;
 
@@ -193,5 +193,87 @@ fn nothing_is_answered_after_a_fault(rt: HostRuntime) -> Result<(), Fail> {
     assert!(rt; log.append(&more) == Err(AppendFault::InDoubt));
     assert!(rt; !log.takes_appends());
     assert!(rt; log.read_on(&mut Vec::new(alloc)) == Err(ReadFault::Device));
+    Ok(())
+}
+
+/// The head, and a shut gate after it.
+static MADE: [u8; 68] = [
+    1, 0, 64, 88, 51, 68, 76, 1, 2, 0, 0, 7, 7, 7, 7, 7, 7, 7, 7, 7, 7, 7, 7, 7, 7, 7, 7, 7, 7, 7,
+    7, 7, 7, 7, 7, 7, 7, 7, 7, 7, 7, 7, 7, 9, 9, 9, 9, 9, 9, 9, 9, 9, 9, 9, 9, 9, 9, 9, 9, 11, 81,
+    158, 172, 16, 164, 191, 99, 0,
+];
+
+/// Reports whether a log is made in a file with these bytes. A file that is refused is left
+/// unchanged.
+fn is_made(alloc: Global, bytes: &[u8]) -> Result<bool, Fail> {
+    let disk = disk_of(alloc, bytes)?;
+    if !disk.may_be_used() {
+        return Err(Fail::from("a sync has failed"));
+    }
+    match create(alloc, disk, &HEAD) {
+        Ok(log) => Ok(log.into_disk().bytes() == MADE.as_slice()),
+        Err((fault, disk)) => {
+            if fault != OpenFault::NotEmpty || disk.bytes() != bytes {
+                return Err(Fail::from("not made, or changed"));
+            }
+            Ok(false)
+        }
+    }
+}
+
+/// Returns a file in which the making of a log was cut off, or one that is much like it.
+fn begun(alloc: Global, gate: u8, size: usize) -> Result<Vec<u8>, Fail> {
+    let mut file = Vec::new(alloc);
+    for byte in &MADE {
+        if file.len() < size {
+            file.push(*byte)?;
+        }
+    }
+    if !file.is_empty() {
+        file[0] = gate;
+    }
+    Ok(file)
+}
+
+#[test]
+fn a_log_is_made_where_its_making_was_cut_off(rt: HostRuntime) -> Result<(), Fail> {
+    let alloc = rt.alloc();
+    for size in 0..69 {
+        assert!(rt; is_made(alloc, &begun(alloc, 0, size)?)?);
+        assert!(rt; is_made(alloc, &begun(alloc, b'x', size)?)? == (size < 2));
+        assert!(rt; is_made(alloc, &begun(alloc, 1, size)?)? == (size < 2));
+    }
+    assert!(rt; is_made(alloc, &[0; 68])?);
+    assert!(rt; !is_made(alloc, &[0; 69])?);
+    assert!(rt; !is_made(alloc, &FILE)?);
+    Ok(())
+}
+
+/// Makes a log over a disk that stops after this number of calls and forgets what was not synced,
+/// and then makes it again. Returns whether it is there then.
+fn made_again(alloc: Global, calls: u8) -> Result<bool, Fail> {
+    let disk = Fuse::new(Memory::new(alloc), calls as u64);
+    if !disk.may_be_used() {
+        return Err(Fail::from("a new file isn't usable"));
+    }
+    let mut disk = match create(alloc, disk, &HEAD) {
+        Ok(log) => log.into_disk(),
+        Err((_fault, disk)) => disk,
+    };
+    disk.crash();
+    if !disk.may_be_used() {
+        return Err(Fail::from("a sync has failed"));
+    }
+    match create(alloc, disk, &HEAD) {
+        Ok(log) => Ok(log.into_disk().inner().bytes() == MADE.as_slice()),
+        Err((_fault, disk)) => Ok(disk.inner().bytes() == MADE.as_slice()),
+    }
+}
+
+#[test]
+fn a_making_that_stops_at_any_call_is_made_again(rt: HostRuntime) -> Result<(), Fail> {
+    for calls in 0..12 {
+        assert!(rt; made_again(rt.alloc(), calls)?);
+    }
     Ok(())
 }

@@ -6,3 +6,5 @@ pub mod Resuming
 pub mod Sent
 pub mod Turning
 pub mod Places
+pub mod Dropping
+pub mod Resting

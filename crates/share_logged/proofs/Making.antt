@@ -36,7 +36,7 @@ pub logged-inputs : (es : List EntryView) → length (inputs_of (logged es)) ≡
 logged-inputs es = inputs-length (logged es) ∙ logged_from-length 1 es
 
 -- the list with one more entry
-list-push : (es : List EntryView) (e : EntryView) → inputs_of (logged (es ++ e ∷ [])) ≡ numbered (inputs_of (logged es)) e.time (entry_at 0 e).input.cause
+pub list-push : (es : List EntryView) (e : EntryView) → inputs_of (logged (es ++ e ∷ [])) ≡ numbered (inputs_of (logged es)) e.time (entry_at 0 e).input.cause
 list-push es e =
     let place : 1 + length es ≡ length (inputs_of (logged es)) + 1 = omega (arith, logged-inputs es) in
     ap inputs_of (logged_from-push 1 es e)

@@ -1,9 +1,10 @@
 -- A host over a log, as its contracts see it.
 use Rattle.std.specs.Prelude.{ℕ, List}
 use Rattle.share_law.specs.Parts.{HostPart}
+use Rattle.share_turns.specs.declared.attendance.Attendance.{Attendance}
 
--- the mark of its scene, its part, and what it has heard of its viewers
+-- the mark of its scene, its part, and which viewers it counts
 pub record LoggedView : Type 0 where
   pub mark : List ℕ
   pub part : HostPart
-  pub heard : List ℕ
+  pub attendance : Attendance

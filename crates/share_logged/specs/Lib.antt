@@ -6,3 +6,4 @@ pub mod Hosting
 pub mod Turn
 pub mod Notes
 pub mod Shown
+pub mod Resting

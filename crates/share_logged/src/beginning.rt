@@ -5,7 +5,7 @@ ghost use Rattle.share_entries.specs.declared.entry.Source.TheVariants as source
 ghost use Rattle.share_entries.specs.declared.entry.Source.TheVariants.{Clock};
 ghost use Rattle.x3d_values.specs.Ranges.{max_time, max_viewers};
 ghost use Rattle.share_law.specs.Parts.{part_of};
-ghost use Rattle.share_turns.specs.Heard.{nobody};
+ghost use Rattle.share_turns.specs.Attendance.{none_heard};
 ghost use Rattle.laws_hosts.specs.Log.{host_of};
 ghost use Rattle.share_logged.specs.Logged.{logged};
 ghost use Rattle.share_logged.specs.Making.{IsLogOf};
@@ -18,7 +18,7 @@ use crate::hosting::LoggedHost;
 use share_core::Host;
 use share_entries::{Entry, Source};
 use share_law::{HostFault, HostReply, NumberFault};
-use share_turns::Heard;
+use share_turns::Attendance;
 use share_wire::{Body, Message, Offer};
 use std::alloc::Global;
 
@@ -108,7 +108,7 @@ pub fn resume(
     ensures host { IfOk result (λ h. h ≡ record {
       mark = mark;
       part = part_of (host_of viewers (logged entries.now) 1);
-      heard = nobody;
+      attendance = none_heard;
     }) }
     ensures log { OnOk result (IsLogOf viewers entries.now) }
     ensures why { IfErr result (λ fault. WhyNot viewers entries.now fault) }
@@ -122,7 +122,8 @@ pub fn resume(
     }
     Ok(LoggedHost {
         host,
-        heard: Heard::nobody(),
+        attendance: Attendance::new(),
         last,
+        rested: 0,
     })
 }

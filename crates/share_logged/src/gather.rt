@@ -154,6 +154,7 @@ pub(crate) fn gather<P: Port>(
     ensures from { pos 0 ≤ℤ pending.new.last }
     ensures failures { P.failure_count port.new
         ≡ failures_after result (P.failure_count port.old) }
+    ensures time { P.rested port.new ≡ P.rested port.old }
 {
     let mark = host.mark();
     let viewers = host.viewers();

@@ -1,19 +1,21 @@
 //! A host over a log.
 
 ghost use Rattle.std.specs.Prelude.{◌≡◌};
-ghost use Rattle.share_turns.specs.Heard.{lowest};
+ghost use Rattle.share_turns.specs.Runs.{hosting, is_over};
 
 use share_core::Host;
-use share_turns::Heard;
+use share_turns::{Attendance, HostPlan, is_over};
 use std::marker::Model;
 
-/// A host whose inputs are the entries of a log, and what it has heard of its viewers.
+/// A host whose inputs are the entries of a log, and which viewers it counts.
 #[derive(Drop)]
 pub struct LoggedHost {
     pub(crate) host: Host,
-    pub(crate) heard: Heard,
+    pub(crate) attendance: Attendance,
     /// The time of the last input in microseconds, or 0.
     pub(crate) last: i64,
+    /// The milliseconds that its port's rests took since the host began.
+    pub(crate) rested: u64,
 }
 
 impl Model for LoggedHost {
@@ -22,12 +24,16 @@ impl Model for LoggedHost {
 
     ghost Value = { LoggedView };
 
-    ghost view = { λ h. record { mark = h.host.mark; part = h.host.part; heard = h.heard } };
+    ghost view = { λ h. record { mark = h.host.mark; part = h.host.part; attendance = h.attendance } };
 
-    ghost invariant = { λ h. (h.last ≡ h.host.part.last) × (pos 0 ≤ℤ h.last) };
+    ghost invariant = { λ h. (h.last ≡ h.host.part.last) × (pos 0 ≤ℤ h.last)
+        × (h.rested ≡ h.attendance.time) };
 }
 
 impl LoggedHost {
+    ghost use Rattle.std.specs.Prelude.{◌≡◌};
+    ghost use Rattle.share_turns.specs.Runs.{hosting, is_over};
+
     /// Returns the number of entries, which are the inputs of the world: at most 2^20.
     pub fn len(&self) -> u32
         ensures { result ≡ self.now.part.count }
@@ -35,11 +41,24 @@ impl LoggedHost {
         self.host.len()
     }
 
-    /// Returns the lowest number that a viewer asked from: all viewers heard of have asked past the
-    /// inputs below it. Returns `None` if no viewer was heard of since the host began.
-    pub fn lowest(&self) -> Option<u32>
-        ensures { result ≡ lowest self.now.heard }
+    /// Returns the time of the last input in microseconds, or 0.
+    pub fn last(&self) -> i64
+        ensures { result ≡ self.now.part.last }
     {
-        self.heard.lowest()
+        self.last
+    }
+
+    /// Returns how many milliseconds the rests of its port took since the host began.
+    pub fn rested(&self) -> u64
+        ensures { result ≡ self.now.attendance.time }
+    {
+        self.rested
+    }
+
+    /// Reports whether the host is done, like `is_over` of share_turns.
+    pub fn is_over(&self, plan: &HostPlan) -> bool
+        ensures { result ≡ is_over plan.now (hosting self.now.part self.now.attendance) }
+    {
+        is_over(&self.host, &self.attendance, plan)
     }
 }

@@ -31,7 +31,7 @@ fn turn(
     let mut handle = log.handle(0);
     let mut answer = None;
     if handle.takes_appends() {
-        answer = Some(logged_turn(hosting, Some(5), &mut handle, port));
+        answer = Some(logged_turn(hosting, Some(5), None, &mut handle, port));
     }
     let MemoryHandle { log: _, number: _ } = handle;
     answer
@@ -84,7 +84,8 @@ fn stores_and_then_answers(rt: HostRuntime) -> Result<(), Fail> {
         return Err(Fail::from("a turn ended"));
     };
     assert_eq!(rt; after.len(), 2);
-    assert!(rt; after.lowest() == Some(1));
+    assert_eq!(rt; after.last(), 6);
+    assert_eq!(rt; after.rested(), 0);
     assert_eq!(rt; sent(&port), 4);
     let entries = log.entries();
     assert_eq!(rt; entries.len(), 2);

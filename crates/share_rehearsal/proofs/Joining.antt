@@ -17,7 +17,7 @@ use Rattle.share_law.specs.declared.step.Step.TheVariants.{ViewerJoin}
 use Rattle.share_law.specs.Joins.{GatheringsAreOfShots, IsPartOf}
 use Rattle.share_law.specs.Machine.{Machine}
 use Rattle.share_law.specs.Network as law
-use Rattle.share_law.specs.Network.{Network, Seat, in_new_boot, joined_by, join_result, joins_shot, step, viewer_joins, viewer_step, with_gathering, with_seat}
+use Rattle.share_law.specs.Network.{Network, Seat, in_new_boot, joined_by, join_result, joins_shot, viewer_joins, viewer_step, with_gathering, with_seat}
 use Rattle.share_law.specs.Pieces.{Gathering, shot_with, whole_of}
 use Rattle.share_law.specs.Reached.{IsRunning}
 use Rattle.share_law.specs.Viewer.{Shot, ViewerState, begun, empty_window}

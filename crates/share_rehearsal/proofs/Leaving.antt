@@ -1,5 +1,5 @@
 -- What a rehearsal leaves, by the law of the network that it stands for.
-use Rattle.std.proofs.Common.{◌≡◌, ℕ, ◌+◌, ◌-◌, ◌≤◌, List, length, drop, refl, ap, sym, ◌∙◌, subst}
+use Rattle.std.proofs.Common.{◌≡◌, ℕ, ◌-◌, List, refl, ap, sym, ◌∙◌}
 use Rattle.std.specs.Prelude.{slice_get, Option, Some, None}
 use Rattle.std.specs.Option.{option_map}
 use Rattle.std.proofs.lemmas.Option.{same_Some, none-some}
@@ -11,7 +11,6 @@ use Rattle.cascade_core.specs.Texts.{scene_text, trace_text}
 use Rattle.share_law.specs.Agreement.{Agreement, TwoViewersAgree}
 use Rattle.share_law.specs.Cascade.{InEveryScene}
 use Rattle.share_law.specs.Floors.{FloorStands}
-use Rattle.share_law.specs.Host.{last_time}
 use Rattle.share_law.specs.Lists.{ListGrows, WindowsAreAhead}
 use Rattle.share_law.specs.Network.{Network, Seat}
 use Rattle.share_law.specs.Reached.{IsRunning}
@@ -70,9 +69,8 @@ times_rise law mark scene routes viewers steps answers left r = (law mark scene 
 
 pub host_holds : InEveryScene FloorStands → OfRehearsals HostHolds
 host_holds law mark scene routes viewers steps answers left r =
-    let stands = law mark scene routes r.net r.reached in
-    let Holds : HostView → Type 0 = λ h.
-    (1 ≤ h.part.floor) × (h.part.floor ≤ length r.net.host.list + 1)
-    × (h.part.rest ≡ drop (h.part.floor - 1) r.net.host.list)
-    × (h.part.count ≡ length r.net.host.list) × (h.part.last ≡ last_time r.net.host.list) in
-    subst Holds (sym r.stand.host) (stands.from_one, stands.at_most, refl, refl, refl)
+    let stands = law mark scene routes r.net r.reached in (
+      r.net.host,
+      refl,
+      record { same = sym (ap (λ (h : HostView). h.part) r.stand.host); from_one = stands.from_one; at_most = stands.at_most },
+    )

@@ -1,6 +1,6 @@
 -- What holds for the nodes that a rehearsal leaves, and for its log.
-use Rattle.std.specs.Prelude.{◌≡◌, ◌↔◌, ℕ, ◌+◌, ◌-◌, ◌≤◌, pos, true, List, [], ◌∷◌, ◌++◌, length}
-use Rattle.std.specs.Prelude.{take, drop, slice_get, codes, Option, None, Some, Ok}
+use Rattle.std.specs.Prelude.{◌≡◌, ◌↔◌, ℕ, ◌≤◌, pos, true, List, [], ◌∷◌, ◌++◌, length}
+use Rattle.std.specs.Prelude.{take, slice_get, codes, Option, None, Some, Ok}
 use Rattle.x3d_values.specs.Stamp.{StampedView}
 use Rattle.scene_core.specs.declared.scene.Route.{Route}
 use Rattle.scene_core.specs.Scene.{SceneView}
@@ -10,7 +10,8 @@ use Rattle.cascade_core.specs.Texts.{scene_text, trace_text}
 use Rattle.share_law.specs.declared.step.Step.{Step}
 use Rattle.share_law.specs.declared.step.Step.TheVariants.{ViewerJoin}
 use Rattle.share_law.specs.Cascade.{cascade}
-use Rattle.share_law.specs.Host.{last_time}
+use Rattle.share_law.specs.Host.{HostState}
+use Rattle.share_law.specs.HostCalls as hosts
 use Rattle.share_law.specs.Joins.{IsPartOf}
 use Rattle.share_law.specs.Lists.{IsAhead, Rises}
 use Rattle.share_law.specs.Pieces.{Gathering, all_there, joined}
@@ -68,12 +69,11 @@ WindowsHold scene routes list left =
 abbrev pub TimesRise : SceneView → List Route → List StampedView → Seen → Type 0
 TimesRise scene routes list left = Rises (pos 0) list
 
--- the host holds the inputs from its floor on, and knows their number and the time of the last
+-- the host holds the part of a host with all these inputs: those from its floor on, their number,
+-- and the time of the last; the floor is from 1 to the next input
 abbrev pub HostHolds : SceneView → List Route → List StampedView → Seen → Type 0
 HostHolds scene routes list left =
-    (1 ≤ left.host.part.floor) × (left.host.part.floor ≤ length list + 1)
-    × (left.host.part.rest ≡ drop (left.host.part.floor - 1) list)
-    × (left.host.part.count ≡ length list) × (left.host.part.last ≡ last_time list)
+    (h : HostState) × (h.list ≡ list) × hosts.IsPartOf h left.host.part
 
 -- ---- late joiners
 

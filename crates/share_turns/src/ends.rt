@@ -1,7 +1,7 @@
 //! From which number on a host keeps its inputs, and when it is done.
 
 ghost use Rattle.std.specs.Prelude.{◌≡◌, ◌<◌, ◌+◌, ◌^◌};
-ghost use Rattle.share_turns.specs.Ends.{floor_for, is_done, is_past, is_served, lacks};
+ghost use Rattle.share_turns.specs.Ends.{floor_for, is_done, lacks};
 
 /// Returns the floor of a host that keeps the last `keep` of the inputs below `lowest`: those that
 /// every viewer it heard of has asked past. The floor is never below `floor`, the previous one. It
@@ -11,27 +11,6 @@ pub fn floor_for(keep: u32, lowest: u32, floor: u32, count: u32) -> u32
     ensures { result ≡ floor_for keep lowest floor count }
 {
     lowest.min(count + 1).saturating_sub(keep).max(floor)
-}
-
-fn is_past(until: u32, lowest: Option<u32>) -> bool
-    ensures { result ≡ is_past until lowest }
-{
-    match lowest {
-        Some(lowest) => until < lowest,
-        None => false,
-    }
-}
-
-/// Reports whether a host that has numbered `count` inputs is done: `until` inputs are numbered,
-/// and every viewer it heard of, at least one, has asked past them. Without `until` it is never
-/// done.
-pub fn is_served(until: Option<u32>, lowest: Option<u32>, count: u32) -> bool
-    ensures { result ≡ is_served until lowest count }
-{
-    match until {
-        Some(until) => until <= count && is_past(until, lowest),
-        None => false,
-    }
 }
 
 /// Reports whether a viewer that the host counts lacks input `until`. `lowest` is the lowest number

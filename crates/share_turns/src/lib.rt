@@ -29,7 +29,7 @@ mod view;
 mod viewer;
 
 pub use attendance::{Attendance, GRACE_MILLIS, SILENT_MILLIS};
-pub use ends::{floor_for, is_done, is_served};
+pub use ends::{floor_for, is_done};
 pub use fake::FakePort;
 pub use fault::{SeriesFault, TurnFault};
 pub use gather::join_run;

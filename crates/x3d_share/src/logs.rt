@@ -5,11 +5,12 @@ use crate::defaults::VIEWERS;
 use crate::end::End;
 use crate::ends::{tell_host_end, tell_log, tell_port};
 use crate::files::{LogDisk, disk_at, drawn_run};
+use crate::peers::host_plan;
 use app_commands::{PatientPort, Peer, SharedJob, TellingPort, Watch, bound, shared_job};
 use app_logs::{
-    AppendFault, Begun, Expected, Head, Log, LogFault, LogPlan, LoggedFault,
+    AppendFault, Begun, Expected, Head, Log, LogFault, LogPlan, LoggedFault, Beat,
     RunFault as LogRunFault, append_fault_of, go_on, is_viewer_count, log_run, make_log, recalled,
-    times_after,
+    recalled_info, times_after,
 };
 use app_program::{RunFault, ShareFault, read_whole, write_whole};
 use app_words::{HostOrder, LogUse, Order};
@@ -84,14 +85,18 @@ fn begun_in(
     }
 }
 
-/// Returns when a host is done.
-fn log_plan(asked: &HostOrder) -> LogPlan {
+/// Returns what a host over a log does, which goes on after an input at time `last`.
+fn log_plan(asked: &HostOrder, last: i64) -> LogPlan {
     let turns = match asked.turns {
         Some(turns) => u64::from(turns),
         None => u64::MAX,
     };
     LogPlan {
-        until: asked.until,
+        host: host_plan(asked),
+        beat: Beat {
+            every: asked.every,
+            base: last,
+        },
         turns,
     }
 }
@@ -122,7 +127,8 @@ fn run_at(
     if !log.takes_appends() {
         return Err(End::InDoubt);
     }
-    let done = log_run(hosting, &clocks, &log_plan(asked), &mut log, &mut port);
+    let plan = log_plan(asked, last);
+    let done = log_run(hosting, &clocks, &plan, &mut log, &mut port);
     let numbered = log.len().saturating_sub(before);
     tell_host_end(
         rt,
@@ -161,13 +167,29 @@ pub fn host_over_log(
     done
 }
 
-/// Reads the file of a log, and prints its inputs, or the first of them, as the steps of a job.
-pub fn recall(rt: &HostRuntime, until: Option<u32>) -> Result<(), End> {
+/// Returns the inputs of a log, or the first of them, as the steps of a job; or with `info` what
+/// the log has.
+fn text_of(
+    alloc: Global,
+    bytes: &[u8],
+    until: Option<u32>,
+    info: bool,
+) -> Result<Vec<u8>, LogFault> {
+    if info {
+        recalled_info(alloc, bytes, until)
+    } else {
+        recalled(alloc, bytes, until)
+    }
+}
+
+/// Reads the file of a log, and prints its inputs, or the first of them, as the steps of a job; or
+/// with `info` what the log has.
+pub fn recall(rt: &HostRuntime, until: Option<u32>, info: bool) -> Result<(), End> {
     let bytes = match read_whole(rt.alloc(), &mut rt.reader()) {
         Ok(bytes) => bytes,
         Err(fault) => return Err(End::from(RunFault::from(fault))),
     };
-    let text = recalled(rt.alloc(), bytes.as_slice(), until)?;
+    let text = text_of(rt.alloc(), bytes.as_slice(), until, info)?;
     match write_whole(&mut io::writer(rt), text.as_slice()) {
         Ok(()) => Ok(()),
         Err(fault) => Err(End::from(RunFault::from(fault))),

@@ -107,7 +107,7 @@ fn obey(rt: &HostRuntime, words: &[&str], order: Order) -> Result<(), End>
         Order::Agree { viewers, turns } => agree(rt, &order, viewers, turns)?,
         Order::Host(asked) => host_as(rt, words, &order, &asked)?,
         Order::View(asked) => view(rt, &order, &asked)?,
-        Order::Recall { until } => recall(rt, until)?,
+        Order::Recall { until, info } => recall(rt, until, info)?,
         Order::Part { list } => part(rt, list)?,
     }
     Ok(())

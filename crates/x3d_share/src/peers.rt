@@ -103,7 +103,7 @@ pub fn agree<R: AllocGlobal + Input + Print + Net>(
 }
 
 /// Returns which inputs a host keeps, and when it is done.
-fn host_plan(asked: &HostOrder) -> HostPlan {
+pub fn host_plan(asked: &HostOrder) -> HostPlan {
     HostPlan {
         keep: asked.keep,
         until: asked.until,

@@ -51,8 +51,8 @@ static VECTORS: [Vector; 6] = [
     },
     Vector {
         key: &[0xaa; 131],
-        first: b"This is a test using a larger than block-size key and a larger than ",
-        second: b"block-size data. The key needs to be hashed before being used by the HMAC algorithm.",
+        first: b"This is a test using a larger than block-size key and a larger than block-size ",
+        second: b"data. The key needs to be hashed before being used by the HMAC algorithm.",
         digest: "9b09ffa71b942fcb27635fbcd5b0e944bfdc63644f0713938a7f51535c3a35e2",
     },
 ];

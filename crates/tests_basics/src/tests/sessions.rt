@@ -212,6 +212,7 @@ fn each_fault_is_the_first(rt: HostRuntime) -> Result<(), Fail> {
     assert!(rt; fault_in(&HELLO[..5]) == Some(DatagramFault::BadPacket));
     assert!(rt; fault_in(&HELLO[..127]) == Some(DatagramFault::BadBody));
     assert!(rt; fault_in(&CLOCK[..21]) == Some(DatagramFault::BadBody));
+    assert_eq!(rt; DatagramFault::BadBody.name(), "BadBody");
     Ok(())
 }
 

@@ -14,8 +14,7 @@ use x3d_values::{FieldType, Items, Position, Value, Vec3};
 
 const MARK: [u8; 32] = *b"abcdefghijklmnopqrstuvwxyzABCDEF";
 
-/// The body of the snapshot of an empty world: boot 1, nothing applied, time 0, no buttons of 16
-/// viewers, no events.
+/// The body of the snapshot of an empty world of 16 viewers: boot 1, time 0, no buttons, no events.
 const EMPTY: &[u8] = b"\x00\x00\x00\x01\x00\x00\x00\x00\x00\x00\x00\x00\x00\x00\x00\x00\
     \x00\x00\x00\x00\x00\x00\x00\x00\x00\x00";
 

@@ -11,4 +11,5 @@ returns-in-Ok-clause-found c =
       subst (λ (m : List ℕ). contents_of (record { mark = m; viewers = None }) (memory_bytes c.args.file) ≡ Ok found) c.requires.mark (c.in-Ok.ensures.found refl),
       refl,
       refl,
+      refl,
     )

@@ -12,5 +12,8 @@ returns-in_default-turns_or_none-clause-none c = λ o h. c.in_default-turns_or_n
 pub returns-in_default-keep_in-clause-none : goal.returns-in_default-keep_in-clause-none
 returns-in_default-keep_in-clause-none c = λ o h. c.in_default-keep_in.ensures.none o.keep h.keep
 
+pub returns-in_default-every_in-clause-none : goal.returns-in_default-every_in-clause-none
+returns-in_default-every_in-clause-none c = λ o h. c.in_default-every_in.ensures.none o.every h.every
+
 pub returns-in_default-until_in-clause-none : goal.returns-in_default-until_in-clause-none
 returns-in_default-until_in-clause-none c = λ o h. c.in_default-until_in.ensures.none o.until h.until

@@ -1,4 +1,3 @@
-use Rattle.std.proofs.Common.{refl}
 use Rattle.cascade_core.specs.Apply.{tick_node}
 use Rattle.cascade_core.proofs.Shown.{ticked-fields}
 use Rattle.cascade_core.proofs.TaskLists.{ticked-ready}
@@ -6,12 +5,9 @@ use Rattle.cascade_core.proofs.clock.tick_node.Goals as goal
 
 pub send_replies-requires : goal.send_replies-requires
 send_replies-requires g c = record {
-  rest = record {
-    empty = c.requires.rest.empty;
-    none = refl;
-    boxes = rw (c.tick.ensures.world, ticked-fields c.args.course.now.live.world c.args.node c.args.input.now.time) c.requires.rest.boxes;
-    has_scripts = record { sound = c.requires.rest.has_scripts.sound; counted = c.requires.rest.has_scripts.counted };
-  };
+  empty = c.requires.rest.empty;
+  boxes = rw (c.tick.ensures.world, ticked-fields c.args.course.now.live.world c.args.node c.args.input.now.time) c.requires.rest.boxes;
+  has_scripts = record { sound = c.requires.rest.has_scripts.sound; counted = c.requires.rest.has_scripts.counted };
   ready =
       rw c.tick.ensures.replies
       (ticked-ready c.args.routed.now.scene c.args.course.now.live.world c.args.node c.args.input.now.time c.requires.clock);

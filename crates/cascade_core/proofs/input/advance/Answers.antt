@@ -53,26 +53,26 @@ returns-clause-work g c =
 
 pub begin-requires-clause-counted : goal.begin-requires-clause-counted
 begin-requires-clause-counted g c =
-    has_scripts-counted (wiring_at c.args.routed.now) (seen c.args.course.now) c.requires.rest.has_scripts
+    has_scripts-counted (wiring_at c.args.routed.now) (seen c.args.course.now) c.requires.has_scripts
 
 pub happen-requires : goal.happen-requires
 happen-requires g c = record {
   rest = record {
     empty = c.clear.ensures.items;
-    none = refl;
-    boxes = c.requires.rest.boxes ∙ ap (λ (d : CourseView). rows_of c.args.routed.now.scene d.live.world.fields) (sym c.begin.ensures.course);
+    none = c.clear-2.ensures;
+    boxes = c.requires.boxes ∙ ap (λ (d : CourseView). rows_of c.args.routed.now.scene d.live.world.fields) (sym c.begin.ensures.course);
     has_scripts =
         has_scripts_then
-        (begun-scripts (wiring_at c.args.routed.now) (seen c.args.course.now) (seen c.begin.new.self) (begin c.args.course.now.live.world c.args.input.now) c.begin.ensures.course c.requires.rest.has_scripts)
-        c.requires.rest.has_scripts;
+        (begun-scripts (wiring_at c.args.routed.now) (seen c.args.course.now) (seen c.begin.new.self) (begin c.args.course.now.live.world c.args.input.now) c.begin.ensures.course c.requires.has_scripts)
+        c.requires.has_scripts;
   };
 }
 
 pub returns-in_err-happen-clause-scripts : goal.returns-in_err-happen-clause-scripts
-returns-in_err-happen-clause-scripts g c = scripts_then (begun-scripts (wiring_at c.args.routed.now) (seen c.args.course.now) (seen c.begin.new.self) (begin c.args.course.now.live.world c.args.input.now) c.begin.ensures.course c.requires.rest.has_scripts) c.happen.ensures.scripts
+returns-in_err-happen-clause-scripts g c = scripts_then (begun-scripts (wiring_at c.args.routed.now) (seen c.args.course.now) (seen c.begin.new.self) (begin c.args.course.now.live.world c.args.input.now) c.begin.ensures.course c.requires.has_scripts) c.happen.ensures.scripts
 
 pub returns-in_err-settle-clause-scripts : goal.returns-in_err-settle-clause-scripts
-returns-in_err-settle-clause-scripts g c = scripts_then (scripts_then (begun-scripts (wiring_at c.args.routed.now) (seen c.args.course.now) (seen c.begin.new.self) (begin c.args.course.now.live.world c.args.input.now) c.begin.ensures.course c.requires.rest.has_scripts) c.happen.ensures.scripts) c.settle.ensures.scripts
+returns-in_err-settle-clause-scripts g c = scripts_then (scripts_then (begun-scripts (wiring_at c.args.routed.now) (seen c.args.course.now) (seen c.begin.new.self) (begin c.args.course.now.live.world c.args.input.now) c.begin.ensures.course c.requires.has_scripts) c.happen.ensures.scripts) c.settle.ensures.scripts
 
 pub returns-clause-world : goal.returns-clause-world
 returns-clause-world g c =
@@ -84,4 +84,4 @@ pub returns-clause-rest : goal.returns-clause-rest
 returns-clause-rest g c = c.in_ok-settle.ensures.rest
 
 pub returns-clause-scripts : goal.returns-clause-scripts
-returns-clause-scripts g c = scripts_then (scripts_then (begun-scripts (wiring_at c.args.routed.now) (seen c.args.course.now) (seen c.begin.new.self) (begin c.args.course.now.live.world c.args.input.now) c.begin.ensures.course c.requires.rest.has_scripts) c.happen.ensures.scripts) c.settle.ensures.scripts
+returns-clause-scripts g c = scripts_then (scripts_then (begun-scripts (wiring_at c.args.routed.now) (seen c.args.course.now) (seen c.begin.new.self) (begin c.args.course.now.live.world c.args.input.now) c.begin.ensures.course c.requires.has_scripts) c.happen.ensures.scripts) c.settle.ensures.scripts

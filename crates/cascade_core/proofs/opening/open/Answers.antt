@@ -30,7 +30,7 @@ returns-clause-world g c =
 pub send_and_settle-requires-clause-rest : goal.send_and_settle-requires-clause-rest
 send_and_settle-requires-clause-rest g c = record {
   empty = c.requires.rest.empty;
-  none = refl;
+  none = c.requires.rest.none;
   boxes = c.requires.rest.boxes;
   has_scripts =
       opening-has_scripts (wiring_at c.args.routed.now) c.args.scripts c.new-2.result c.args.live c.in-Ok.settling c.len.result c.requires.rest.has_scripts.sound

@@ -1,9 +1,7 @@
 use Rattle.std.proofs.Common.{◌∙◌, ap, sym}
-use Rattle.std.proofs.lemmas.Result.{on_ok_weaker}
 use Rattle.scene_core.specs.Scene.{shapes_of}
 use Rattle.cascade_core.specs.Sound.{are_sent}
 use Rattle.cascade_core.proofs.Openings.{replies_ready}
-use Rattle.cascade_core.proofs.Resting.{rest_said}
 use Rattle.cascade_core.proofs.opening.send_one.Goals as goal
 
 pub send_replies-requires-clause-ready : goal.send_replies-requires-clause-ready
@@ -13,6 +11,3 @@ send_replies-requires-clause-ready g c =
 
 pub returns-clause-course : goal.returns-clause-course
 returns-clause-course g c = rw (sym c.sending.view_is) c.send_replies.ensures.course
-
-pub returns-clause-rest : goal.returns-clause-rest
-returns-clause-rest g c = on_ok_weaker c.send_replies.result (λ rest. rest_said rest) c.send_replies.ensures.rest

@@ -1,5 +1,5 @@
 use Rattle.std.proofs.Common.{◌∙◌, sym}
-use Rattle.cascade_core.proofs.Resting.{rest_said, scripts_then}
+use Rattle.cascade_core.proofs.Resting.{scripts_then}
 use Rattle.cascade_core.proofs.Steps.{fold_ended, fold_next}
 use Rattle.cascade_core.proofs.pointer.point_listed.Goals as goal
 
@@ -16,6 +16,3 @@ returns-clause-course g c =
 
 pub returns-in_err-point_node-clause-scripts : goal.returns-in_err-point_node-clause-scripts
 returns-in_err-point_node-clause-scripts g c = scripts_then c.loop-sensor.invariant.scripts c.point_node.ensures.scripts
-
-pub returns-clause-rest : goal.returns-clause-rest
-returns-clause-rest g c = rest_said c.loop-sensor.invariant.rest

@@ -10,8 +10,8 @@ use Rattle.cascade_core.proofs.pointer.point_node.Goals as goal
 
 pub returns-then-passes-clause-course : goal.returns-then-passes-clause-course
 returns-then-passes-clause-course g c =
-    passed-course c.args.routed.now.scene (wiring_at c.args.routed.now) c.args.aim.now.pointer c.args.aim.now.before (insides_seen c.args.aim.now.inside) (seen c.args.course.now) c.args.concerned
-    (c.passes.ensures c.args.routed.now.scene c.if-passes.true)
+    passed-course c.args.routed.now.scene (wiring_at c.args.routed.now) c.args.aim.now.pointer c.args.aim.now.before (insides_seen c.args.aim.now.inside) c.args.course.now.live.world (seen c.args.course.now) c.args.concerned
+    (c.passes.ensures c.args.routed.now.scene c.if-passes.true) refl
 
 pub send_replies-requires : goal.send_replies-requires
 send_replies-requires g c =
@@ -20,12 +20,9 @@ send_replies-requires g c =
     let x = c.args.concerned in
     let at = pointer_at c.args.aim.now.pointer c.args.aim.now.before (insides_seen c.args.aim.now.inside) x.tracked x.sensor in
     record {
-      rest = record {
-        empty = c.requires.rest.empty;
-        none = refl;
-        boxes = rw c.meet.ensures.world (c.requires.rest.boxes ∙ met-rows scene w x.sensor at);
-        has_scripts = record { sound = c.requires.rest.has_scripts.sound; counted = c.requires.rest.has_scripts.counted };
-      };
+      empty = c.requires.rest.empty;
+      boxes = rw c.meet.ensures.world (c.requires.rest.boxes ∙ met-rows scene w x.sensor at);
+      has_scripts = record { sound = c.requires.rest.has_scripts.sound; counted = c.requires.rest.has_scripts.counted };
       ready = rw c.meet.ensures.replies (met-ready scene w x.sensor at);
     }
 

@@ -2,7 +2,7 @@ use Rattle.std.proofs.Common.{◌∙◌, ◌<◌, sym, subst, arith}
 use Rattle.cascade_core.specs.Course.{CourseView, wiring_at, seen}
 use Rattle.cascade_core.proofs.SettleLemmas.{due-below, due_left, due_left-most, one-due, one-fewer, settle-end, settle-step}
 use Rattle.cascade_core.proofs.SoundLemmas.{has_scripts-counted}
-use Rattle.cascade_core.proofs.Resting.{rest_said, scripts_then}
+use Rattle.cascade_core.proofs.Resting.{scripts_then}
 use Rattle.cascade_core.proofs.settle.settle.Goals as goal
 
 pub settle_one-requires-clause-there : goal.settle_one-requires-clause-there
@@ -37,9 +37,6 @@ pub returns-clause-course : goal.returns-clause-course
 returns-clause-course g c =
     sym (settle-end (wiring_at c.args.routed.now) c.args.course.now.settling.count (seen c.loop-k.course) (sym c.in_default.ensures))
     ∙ c.loop-k.invariant.done
-
-pub returns-clause-rest : goal.returns-clause-rest
-returns-clause-rest g c = rest_said c.loop-k.invariant.rest
 
 pub returns-in_err-settle_one-clause-scripts : goal.returns-in_err-settle_one-clause-scripts
 returns-in_err-settle_one-clause-scripts g c = scripts_then c.loop-k.invariant.scripts c.settle_one.ensures.scripts

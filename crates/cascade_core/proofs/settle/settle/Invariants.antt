@@ -8,7 +8,7 @@ use Rattle.cascade_core.proofs.settle.settle.Given as goal
 -- the course now, after the scripts that are left have settled, is what the definition gives for all
 abbrev pub invariant-loop-k : goal.invariant-loop-k
 invariant-loop-k g l = record {
-  rest : IsAtRest l.routed l.tasks.items l.replies.items l.boxes (seen l.course);
+  rest : IsAtRest l.routed l.buffers (seen l.course);
   scripts : HasSameScripts (seen l.fn.course) (seen l.course);
   done :
       settle_up_to (wiring_at l.routed) l.fn.course.settling.count (seen l.course)

@@ -1,4 +1,4 @@
-use Rattle.std.proofs.Common.{◌∙◌, ap, refl}
+use Rattle.std.proofs.Common.{◌∙◌, ap}
 use Rattle.script_slots.specs.Settling.{DueScriptsView}
 use Rattle.script_host.specs.Behaviour.{Settle}
 use Rattle.cascade_core.specs.Course.{wiring_at, seen}
@@ -12,13 +12,9 @@ send_replies-requires-clause-ready g c =
     rw (c.node.ensures, c.settle.ensures.replies, c.ports.ensures)
     (act-ready (wiring_at c.args.routed.now) c.args.course.now.scripts c.requires.rest.has_scripts.sound c.args.k Settle)
 
-pub send_replies-requires-clause-rest : goal.send_replies-requires-clause-rest
-send_replies-requires-clause-rest g c = record {
-  empty = c.requires.rest.empty;
-  none = refl;
-  boxes = c.requires.rest.boxes;
-  has_scripts = has_scripts_still (wiring_at c.args.routed.now) (seen c.args.course.now) _ c.settle.ensures.kinds (ap (λ (s : DueScriptsView). s.count) c.in_ok-settle.ensures.ok) c.requires.rest.has_scripts;
-}
+pub send_replies-requires-clause-has_scripts : goal.send_replies-requires-clause-has_scripts
+send_replies-requires-clause-has_scripts g c =
+    has_scripts_still (wiring_at c.args.routed.now) (seen c.args.course.now) _ c.settle.ensures.kinds (ap (λ (s : DueScriptsView). s.count) c.in_ok-settle.ensures.ok) c.requires.rest.has_scripts
 
 pub returns-clause-course : goal.returns-clause-course
 unfolding settle_one

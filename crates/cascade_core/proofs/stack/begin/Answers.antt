@@ -30,8 +30,8 @@ returns-then-sends-clause-done g c =
     let new : has_sent c.args.course.now.live.sent c.args.source ≡ false = is_first _ _ c.in-Ok.ensures.first c.if-sends.true in
     c.in_ok-follow.ensures.done
     ∙ (rw (moves _ _ _ _ c.in-Ok.ensures.live new)
-    (sym (finish-push (wiring_at c.args.routed.now) (recorded (seen c.args.course.now) c.args.source c.args.value) c.args.tasks.now.items (Follow c.args.source c.args.value 0))
-    ∙ begin-done (wiring_at c.args.routed.now) (kinds_of c.args.course.now.scripts) c.requires.working.has_scripts.sound (seen c.args.course.now) c.args.source c.args.value c.args.tasks.now.items c.requires.task refl new))
+    (sym (finish-push (wiring_at c.args.routed.now) (recorded (seen c.args.course.now) c.args.source c.args.value) c.args.buffers.now.tasks.items (Follow c.args.source c.args.value 0))
+    ∙ begin-done (wiring_at c.args.routed.now) (kinds_of c.args.course.now.scripts) c.requires.working.has_scripts.sound (seen c.args.course.now) c.args.source c.args.value c.args.buffers.now.tasks.items c.requires.task refl new))
 
 pub returns-then-sends-clause-fewer : goal.returns-then-sends-clause-fewer
 returns-then-sends-clause-fewer g c =
@@ -39,8 +39,8 @@ returns-then-sends-clause-fewer g c =
     omega (
       arith,
       rw (moves _ _ _ _ c.in-Ok.ensures.live new) at c.in_ok-follow.ensures.fewer,
-      work-push (wiring_at c.args.routed.now) (recorded (seen c.args.course.now) c.args.source c.args.value) c.args.tasks.now.items (Follow c.args.source c.args.value 0),
-      begin-fewer (wiring_at c.args.routed.now) (seen c.args.course.now) c.args.source c.args.value c.args.tasks.now.items c.requires.task new,
+      work-push (wiring_at c.args.routed.now) (recorded (seen c.args.course.now) c.args.source c.args.value) c.args.buffers.now.tasks.items (Follow c.args.source c.args.value 0),
+      begin-fewer (wiring_at c.args.routed.now) (seen c.args.course.now) c.args.source c.args.value c.args.buffers.now.tasks.items c.requires.task new,
     )
 
 -- ---- it has sent before
@@ -49,7 +49,7 @@ pub returns-clause-done : goal.returns-clause-done
 returns-clause-done g c =
     let before : has_sent c.args.course.now.live.sent c.args.source ≡ true = was_sent _ _ c.in-Ok.ensures.first c.if-sends.false in
     rw (stands _ _ _ _ c.in-Ok.ensures.live before)
-    (ap (λ (t : CourseView). finish (wiring_at c.args.routed.now) t c.args.tasks.now.items)
+    (ap (λ (t : CourseView). finish (wiring_at c.args.routed.now) t c.args.buffers.now.tasks.items)
     (sym (send_full-sent (wiring_at c.args.routed.now) (seen c.args.course.now) c.args.source c.args.value before)))
 
 pub returns-clause-fewer : goal.returns-clause-fewer

@@ -36,7 +36,7 @@ loop-task-preserved g c = record {
 
 pub returns-clause-course : goal.returns-clause-course
 returns-clause-course g c =
-    let none : c.loop-task.tasks.items ≡ [] = grind (arith, common_steps) in
+    let none : c.loop-task.buffers.tasks.items ≡ [] = grind (arith, common_steps) in
     sym (finish-none (wiring_at c.args.routed.now) (seen c.loop-task.course)) ∙ (rw none at c.loop-task.invariant.done)
 
 pub returns-clause-rest : goal.returns-clause-rest

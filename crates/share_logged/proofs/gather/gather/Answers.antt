@@ -16,6 +16,7 @@ loop-datagram-init g c =
       gathered = gathered_begun c.args.host.now.mark c.args.clock told c.args.host.now.part c.begin.new.host.part c.args.heard.now c.begin.new.pending.entries
           c.begin.new.pending.notes.items c.in_ok-begin.ensures.step none;
       mark = c.begin.ensures.mark;
+      time = refl;
       failures = refl;
       numbered = subst (AllNumbered c.begin.new.host.part) (sym none) tt;
       last = c.begin.ensures.last;
@@ -36,6 +37,7 @@ loop-datagram-preserved g c =
           c.in-Some.from (take c.in-Some.count c.receive.new.into) c.decode-read.result c.args.host.now.part l.host.part c.take_read.new.host.part c.args.heard.now l.heard c.hear.new.heard l._datagram
           l.pending.entries c.take_read.new.pending.entries l.pending.notes.items c.take_read.new.pending.notes.items l.invariant.gathered c.decode-read.ensures.exact got.1 hearing noted tt;
       mark = t.mark ∙ l.invariant.mark;
+      time = c.receive.ensures.time ∙ l.invariant.time;
       failures = c.in_ok-from.ensures.failures ∙ l.invariant.failures;
       numbered = t.numbered;
       last = t.last;

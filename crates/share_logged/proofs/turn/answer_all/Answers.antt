@@ -12,7 +12,7 @@ abbrev no_note : Note
 no_note = record { to = 0; sender = None; reply = Asked 0 0 }
 
 pub loop-note-init : goal.loop-note-init
-loop-note-init g c = (sent_none (g.P.Port.told c.args.port.now), refl)
+loop-note-init g c = (sent_none (g.P.Port.told c.args.port.now), refl, refl)
 
 pub loop-note-preserved : goal.loop-note-preserved
 loop-note-preserved g c =
@@ -22,6 +22,7 @@ loop-note-preserved g c =
       sent_more c.args.host.now.mark c.args.host.now.part c.args.notes.now l.note-index note (g.P.Port.told c.args.port.now) (g.P.Port.told l.port) (g.P.Port.told c.answer_one.new.port)
           c.loop-note-test.true is l.invariant.0 c.in_ok-answer_one.ensures.sent,
       c.in_ok-answer_one.ensures.failures ∙ l.invariant.1,
+      c.answer_one.ensures.time ∙ l.invariant.2,
     )
 
 pub answer_one-requires : goal.answer_one-requires
@@ -44,3 +45,9 @@ returns-clause-sent g c =
     let l = c.loop-note in
     let all = ap (sent_for_all c.args.host.now.mark c.args.host.now.part) (take_all l.note-index c.args.notes.now (search rules)) in
     subst (IsSentInTurn true (g.P.Port.told c.args.port.now) (g.P.Port.told l.port)) all l.invariant.0
+
+pub returns-in_err-answer_one-clause-time : goal.returns-in_err-answer_one-clause-time
+returns-in_err-answer_one-clause-time g c = c.answer_one.ensures.time ∙ c.loop-note.invariant.2
+
+pub returns-clause-time : goal.returns-clause-time
+returns-clause-time g c = c.loop-note.invariant.2

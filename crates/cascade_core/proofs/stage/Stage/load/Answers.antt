@@ -1,4 +1,3 @@
-use Rattle.std.proofs.Common.{refl}
 use Rattle.cascade_core.specs.Course.{wiring_at}
 use Rattle.cascade_core.proofs.Openings.{live_untold}
 use Rattle.cascade_core.proofs.Resting.{has_scripts_begun}
@@ -7,7 +6,7 @@ use Rattle.cascade_core.proofs.stage.Stage.load.Goals as goal
 pub open-requires-clause-rest : goal.open-requires-clause-rest
 open-requires-clause-rest g c = record {
   empty = c.in-Ok-parts_of.ensures.tasks;
-  none = refl;
+  none = c.in-Ok-parts_of.ensures.replies;
   boxes = c.in-Ok-parts_of.ensures.boxes;
   has_scripts = has_scripts_begun (wiring_at c.in-Ok.routed) c.in-Ok-parts_of.parts.live c.args.scripts (c.in-Ok.ensures.sound c.args.scripts c.requires.fits);
 }

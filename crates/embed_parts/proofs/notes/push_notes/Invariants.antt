@@ -1,0 +1,7 @@
+use Rattle.std.proofs.Common.{◌≡◌, ◌++◌, take}
+use Rattle.std.specs.List.{flat_map}
+use Rattle.embed_parts.specs.LeftOut.{note_pair}
+use Rattle.embed_parts.proofs.notes.push_notes.Given as goal
+
+abbrev pub invariant-loop-note : goal.invariant-loop-note
+invariant-loop-note l = l.out.items ≡ l.fn.out.items ++ flat_map note_pair (take l.note-index l.notes)

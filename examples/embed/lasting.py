@@ -1,0 +1,135 @@
+"""A host that may be killed at any moment: what it numbers is committed to a SQLite file before anyone
+hears of it, and a host that begins again takes the same calls in the same order, so it is the host that
+it was. Two viewers go on beside it. This kills it (SIGKILL) again and again, and compares the viewers
+with the world of the file's entries."""
+
+import os
+import pickle
+import random
+import signal
+import sqlite3
+import subprocess
+import sys
+import tempfile
+
+from x3d import Aim, Fault, Host, Viewer, World, datagram
+
+SCENE = """#X3D V3.0 utf8
+DEF Motor TimeSensor { cycleInterval 2 loop TRUE }
+DEF Slide PositionInterpolator { key [ 0, 1 ] keyValue [ 0 0 0, 1 0 0 ] }
+DEF Door Transform {
+  children [
+    DEF Knob TouchSensor {}
+    Shape { geometry Box { size 1 2 0.1 } }
+  ]
+}
+ROUTE Motor.fraction_changed TO Slide.set_fraction
+ROUTE Slide.value_changed TO Door.translation
+"""
+VIEWERS, TURNS, TICK, SECOND = 2, 200, 50_000, 1_000_000
+AIM = Aim((0, 0, 10_000_000), (0, 0, -1_000_000))
+
+
+class LastingHost:
+    """A host whose calls that number an input are the rows of a table."""
+
+    def __init__(self, file, scene, viewers):
+        self.log = sqlite3.connect(file)
+        self.log.executescript("PRAGMA locking_mode = EXCLUSIVE; PRAGMA synchronous = FULL;")
+        self.log.execute("CREATE TABLE IF NOT EXISTS entries (number INTEGER PRIMARY KEY, time, datagram)")
+        self.host = Host(scene, viewers)
+        for number, time, packet in self.log.execute("SELECT * FROM entries ORDER BY number"):
+            made = self.host.clock(time) if packet is None else self.host.take(packet).number
+            if made != number:
+                raise ValueError(f"entry {number} is not of this host")
+
+    def turn(self, time, arrived):
+        """Numbers a clock, takes datagrams, each with the viewer that it is from, and commits what was
+        numbered. Then it returns what to send. After an error the host is ahead of the file: begin
+        again with a new one."""
+        rows, replies = [(self.host.clock(time), time, None)], []
+        for who, packet in arrived:
+            try:
+                replies.append((who, self.host.take_from(who, packet)))
+            except Fault:  # refused: nothing has changed
+                continue
+            if replies[-1][1].kind == "Numbered":
+                rows.append((replies[-1][1].number, None, packet))
+        with self.log:  # all of it, or nothing
+            self.log.executemany("INSERT INTO entries VALUES (?, ?, ?)", rows)
+        return [(who, packet) for who, reply in replies for packet in (*self.host.packets(reply), self.host.ack(who))]
+
+
+def serve(file):
+    """A process with a host: it reads turns, and writes what is to be sent."""
+    host = LastingHost(file, SCENE, VIEWERS)
+    while True:
+        time, arrived = pickle.load(sys.stdin.buffer)
+        sys.stdout.buffer.write(pickle.dumps(host.turn(time, arrived)))
+        sys.stdout.buffer.flush()
+
+
+def started(file):
+    words = [sys.executable, __file__, "serve", file]
+    return subprocess.Popen(words, stdin=subprocess.PIPE, stdout=subprocess.PIPE)
+
+
+def exchanged(process, time, arrived, dies):
+    """What the host answers, or nothing if it is killed meanwhile."""
+    process.stdin.write(pickle.dumps((time, arrived)))
+    process.stdin.flush()
+    if dies:
+        os.kill(process.pid, signal.SIGKILL)
+    try:
+        return pickle.load(process.stdout)
+    except EOFError:
+        return []
+
+
+def replayed(file):
+    """The scene of the file's entries, and how many there are."""
+    host = LastingHost(file, SCENE, VIEWERS)
+    with World(SCENE) as world:
+        for number in range(1, len(host.host) + 1):
+            told = datagram(host.host.packet(number))
+            if told.aim is None:
+                world.clock(number, told.time)
+            else:
+                world.point(number, told.time, told.who, told.down, told.aim)
+        return world.scene(), len(host.host)
+
+
+def main(file):
+    dice, killed, time = random.Random(1), 0, SECOND
+    viewers = [Viewer(SCENE, who, 1) for who in range(VIEWERS)]
+    process = started(file)
+    for turn in range(TURNS):
+        time += TICK
+        for who, viewer in enumerate(viewers):
+            if turn % 7 == who and viewer.waiting() < 64:
+                viewer.offer(turn % 2 == 0, AIM)
+        arrived = [(who, packet) for who, viewer in enumerate(viewers) for packet in (*viewer.resend(), viewer.ask())]
+        dies = dice.random() < 0.1 and turn < TURNS - 3
+        for who, packet in exchanged(process, time, arrived, dies):
+            viewers[who].take(packet)
+        if dies:
+            process.communicate()
+            process, killed = started(file), killed + 1
+    for _ in range(2 + TURNS // 32):  # at most 64 inputs an ask
+        time += TICK
+        for who, packet in exchanged(process, time, [(who, viewer.ask()) for who, viewer in enumerate(viewers)], False):
+            viewers[who].take(packet)
+    process.kill()
+    process.communicate()
+    scene, count = replayed(file)
+    for viewer in viewers:
+        assert viewer.applied() == count and viewer.scene() == scene, "a viewer has another world"
+        assert viewer.waiting() == 0, "an offer was lost"
+    print(f"killed {killed} times: {count} inputs, and each viewer has them")
+
+
+if sys.argv[1:2] == ["serve"]:
+    serve(sys.argv[2])
+else:
+    with tempfile.TemporaryDirectory() as folder:
+        main(os.path.join(folder, "world.sqlite"))
