@@ -129,8 +129,8 @@ impl Body2 {
 }
 
 impl Message2 {
-    /// Returns the message of version 1, in the scene with this mark. `None` for a Hello, a Welcome,
-    /// and a body with a number beyond version 1's ranges.
+    /// Returns the message of version 1, in the scene with this mark. `None` for a Hello, a
+    /// Welcome, and a body with a number beyond version 1's ranges.
     pub fn as_message(&self, mark: &[u8; 32]) -> Option<Message>
         ensures { result ≡ spec.as_message mark.now self.now }
     {
@@ -154,8 +154,8 @@ impl Message2 {
     }
 }
 
-/// Returns what a peer of this session, in the scene with this mark, hears of a message: the message
-/// of version 1, or `None` if the message is of another session or beyond version 1's ranges.
+/// Returns what a peer of this session, in the scene with this mark, hears of a message: the
+/// message of version 1, or `None` if it is of another session or beyond version 1's ranges.
 pub fn heard(session: &Session, mark: &[u8; 32], message: &Message2) -> Option<Message>
     ensures { result ≡ spec.heard session.now mark.now message.now }
 {

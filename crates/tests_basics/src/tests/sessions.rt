@@ -185,26 +185,33 @@ static CLOCK_CHANGES: [Change; 3] = [
     },
 ];
 
+fn fault_in(bytes: &[u8]) -> Option<DatagramFault> {
+    match decode(bytes) {
+        Ok(_message) => None,
+        Err(fault) => Some(fault),
+    }
+}
+
 fn fault_of(bytes: &mut [u8], change: &Change) -> Option<DatagramFault> {
     if let Some(place) = bytes.get_mut(change.place) {
         *place = change.byte;
     }
-    decode(bytes).err()
+    fault_in(bytes)
 }
 
 #[test]
 fn each_fault_is_the_first(rt: HostRuntime) -> Result<(), Fail> {
     for change in HELLO_CHANGES.iter() {
         let mut bytes = HELLO;
-        assert_eq!(rt; fault_of(bytes.as_mut_slice(), change), change.fault);
+        assert!(rt; fault_of(bytes.as_mut_slice(), change) == change.fault);
     }
     for change in CLOCK_CHANGES.iter() {
         let mut bytes = CLOCK;
-        assert_eq!(rt; fault_of(bytes.as_mut_slice(), change), change.fault);
+        assert!(rt; fault_of(bytes.as_mut_slice(), change) == change.fault);
     }
-    assert_eq!(rt; decode(&HELLO[..5]).err(), Some(DatagramFault::BadPacket));
-    assert_eq!(rt; decode(&HELLO[..127]).err(), Some(DatagramFault::BadBody));
-    assert_eq!(rt; decode(&CLOCK[..21]).err(), Some(DatagramFault::BadBody));
+    assert!(rt; fault_in(&HELLO[..5]) == Some(DatagramFault::BadPacket));
+    assert!(rt; fault_in(&HELLO[..127]) == Some(DatagramFault::BadBody));
+    assert!(rt; fault_in(&CLOCK[..21]) == Some(DatagramFault::BadBody));
     assert_eq!(rt; DatagramFault::BadBody.name(), "BadBody");
     Ok(())
 }
