@@ -1,5 +1,5 @@
 -- The lines of a log, followed by a scene, are a job of the log's inputs.
-use Rattle.std.proofs.Common.{◌≡◌, ◌⊎◌, inl, inr, ℕ, zero, suc, ◌+◌, ◌*◌, ◌/◌, ◌%◌, ◌^◌, ◌<◌, ◌≤◌, ◌<ℤ◌, ◌≤ℤ◌, ℤ, pos, negsuc, ◌+ℤ◌, Bool, true, false, List, [], ◌∷◌, ◌++◌, length, map, take, drop, codes}
+use Rattle.std.proofs.Common.{◌≡◌, ◌⊎◌, inl, inr, ℕ, zero, suc, ◌+◌, ◌*◌, ◌/◌, ◌%◌, ◌^◌, ◌<◌, ◌<ℤ◌, ◌≤ℤ◌, ℤ, pos, negsuc, ◌+ℤ◌, Bool, true, false, List, [], ◌∷◌, ◌++◌, length, map, take, drop, codes}
 use Rattle.std.proofs.Common.{decimal, refl, sym, ap, subst, ◌∙◌, arith, append_assoc, append-nil, length-append, zero-add}
 use Rattle.std.specs.Prelude.{⊤, ◌&&◌, int_le, Option, Some, None, Result, Ok, Err, if◌then◌else◌, slice_get}
 use Rattle.std.specs.Fmt.{digits}
@@ -16,7 +16,6 @@ use Rattle.x3d_numerals.proofs.Written.{numeral_of}
 use Rattle.x3d_values.specs.Pointing.{PointerView, is_ray}
 use Rattle.x3d_values.specs.Ranges.{coordinate_fits, coordinates_fit, is_input_time, is_viewer, max_inputs, max_time}
 use Rattle.x3d_values.specs.Stamp.{StampedView}
-use Rattle.x3d_values.specs.declared.stamped.Cause.TheVariants as cause
 use Rattle.x3d_values.specs.declared.vector.Vec3.{Vec3}
 use Rattle.share_rules.specs.Lines.{behind_line, is_lf}
 use Rattle.share_rules.specs.declared.offers.Standing.{Standing}
@@ -30,12 +29,12 @@ use Rattle.share_law.specs.declared.fault.NumberFault.{NumberFault}
 use Rattle.share_law.specs.declared.kept.SeatCount.{SeatCount}
 use Rattle.share_law.specs.declared.reply.HostReply.{HostReply}
 use Rattle.share_law.specs.declared.reply.HostReply.TheVariants.{Numbered}
-use Rattle.share_law.specs.Host.{HostState, clocked, last_from, last_time, number_fault, numbered, offer_answered, offer_came, offer_numbered, reply_of}
+use Rattle.share_law.specs.Host.{HostState, clocked, last_from, last_time, number_fault, offer_answered, offer_came, offer_numbered, reply_of}
 use Rattle.laws_hosts.specs.Log.{host_of, inputs_of}
 use Rattle.share_logged.specs.Logged.{entry_at, logged, logged_from}
 use Rattle.share_logged.specs.Making.{AreMade, IsLogOf, MakesOf}
 use Rattle.share_logged.proofs.Making.{list-push, logged-inputs, makes-next}
-use Rattle.app_jobs.specs.Job.{AreSteps, IsClock, IsJob, IsJobStep, IsPointed, behind_lines, job_lines}
+use Rattle.app_jobs.specs.Job.{AreSteps, IsClock, IsJobStep, IsPointed, behind_lines, job_lines}
 use Rattle.app_jobs.specs.Points.{AreNumerals, IsNumber, IsPoint}
 use Rattle.app_jobs.proofs.JobOnly.{only}
 use Rattle.app_jobs.proofs.LineLemmas.{cut}

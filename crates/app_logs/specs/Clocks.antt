@@ -1,7 +1,7 @@
 -- Which clocks of a job are left after the entries of a log, and the clocks that a host makes once
 -- these are over (our choice).
-use Rattle.std.specs.Prelude.{◌+◌, ◌-◌, ◌*◌, ◌^◌, ◌&&◌, ◌||◌, ℕ, ℤ, pos, ◌+ℤ◌, int_lt, int_le, nat_lt, nat_le, min, not, Bool, List, length, map, slice_get}
-use Rattle.std.specs.Prelude.{Option, Some, None, is_some, if◌then◌else◌}
+use Rattle.std.specs.Prelude.{◌+◌, ◌-◌, ◌*◌, ◌^◌, ◌&&◌, ℕ, ℤ, pos, ◌+ℤ◌, int_lt, int_le, nat_lt, nat_le, min, Bool, List, length, map, slice_get}
+use Rattle.std.specs.Prelude.{Option, Some, None, if◌then◌else◌}
 use Rattle.std.specs.List.{filter}
 use Rattle.std.specs.Option.{option_map_or}
 use Rattle.x3d_values.specs.Ranges.{max_time}
