@@ -53,10 +53,11 @@ enum x3d_status {
   X3D_NOT_NEXT = 21,       /* the input's number is not the next one */
   X3D_TIME_NOT_LATER = 22, /* the input's time is not above that of the last one */
   X3D_NO_SUCH_NODE = 23,   /* there is no node with that number */
-  X3D_NO_SUCH_FIELD = 24,  /* the node has no field with that number or name, or it has no value */
+  X3D_NO_SUCH_FIELD = 24,  /* the node has no field with that number or name */
   X3D_NO_PACKET = 25,      /* there is no such datagram: no such input, offer or piece */
   X3D_NO_SUCH_SCRIPT = 26, /* there is no script with that number */
   X3D_KIND_DIFFERS = 27,   /* x3d_world_replace_script: the script is of another kind */
+  X3D_NO_VALUE = 28,       /* the field holds no value: it only sends or takes events */
   X3D_SHORT = 30,          /* the snapshot has fewer than 85 bytes */
   X3D_BAD_MAGIC = 31,      /* not a snapshot */
   X3D_BAD_VERSION = 32,    /* a snapshot's version is not 1 or 2; a datagram's version is not 1 */
@@ -130,6 +131,20 @@ enum x3d_type {
   X3D_MFCOLOR = 16,
   X3D_MFNODE = 17,
   X3D_SFROTATION = 18
+};
+
+/* How a field may be used. A field of the first two kinds holds no value. */
+enum x3d_access {
+  X3D_INPUT_ONLY = 0,     /* takes events */
+  X3D_OUTPUT_ONLY = 1,    /* sends events */
+  X3D_INPUT_OUTPUT = 2,   /* holds a value, which events set, and sends it on */
+  X3D_INITIALIZE_ONLY = 3 /* holds the value that the scene gives */
+};
+
+/* The type of a field's values (an x3d_type), and its access (an x3d_access). */
+struct x3d_field {
+  uint8_t value_type;
+  uint8_t access;
 };
 
 /* A field that was set. Its value is of type `value_type` (an x3d_type), and the numbers of the
@@ -368,7 +383,7 @@ uint8_t x3d_world_make_label(struct x3d_world *world, uint32_t node);
  * there is no such node or field. */
 uint8_t x3d_world_make_field_name(struct x3d_world *world, uint32_t node, uint16_t field);
 /* Makes the text of the current value of a field, such as `0 1.5 0`. The text of a node is empty.
- * May return: X3D_NO_SUCH_FIELD if there is no such field, or it holds no value. */
+ * May return: X3D_NO_SUCH_FIELD, or X3D_NO_VALUE if the field holds no value. */
 uint8_t x3d_world_make_value(struct x3d_world *world, uint32_t node, uint16_t field);
 /* Makes the snapshot of the world, with `boot` as the boot number stored in it. */
 uint8_t x3d_world_make_snapshot(struct x3d_world *world, uint32_t boot);
@@ -391,6 +406,17 @@ uint8_t x3d_world_field_count(const struct x3d_world *world, uint32_t node, uint
  * X3D_NO_SUCH_FIELD if there is no such node or field. */
 uint8_t x3d_world_field_named(const struct x3d_world *world, uint32_t node, const uint8_t *name,
                               size_t length, uint16_t *field);
+/* Writes the type and the access of a field of a node. May return: X3D_NO_SUCH_FIELD if there is no
+ * such node or field. */
+uint8_t x3d_world_field_type(const struct x3d_world *world, uint32_t node, uint16_t field,
+                             struct x3d_field *told);
+/* Writes the number of the node with this DEF name, if one node alone has it. May return:
+ * X3D_NO_SUCH_NODE if there is none. */
+uint8_t x3d_world_node_named(const struct x3d_world *world, const uint8_t *name, size_t length,
+                             uint32_t *node);
+/* Writes the time of the last input in microseconds, or 0 before the first. May return:
+ * X3D_SPOILED. */
+uint8_t x3d_world_time(const struct x3d_world *world, int64_t *time);
 /* Lists the roots of the scene by their numbers. */
 uint8_t x3d_world_list_roots(struct x3d_world *world);
 /* Lists the nodes in the field `children` of a node, none if it has no such field. May return:
@@ -435,6 +461,8 @@ uint8_t x3d_world_load(struct x3d_world *world, uint32_t boot, const uint8_t *by
 
 /* Writes the number of scripts that the scene runs. They are numbered from 0. */
 uint8_t x3d_world_script_count(const struct x3d_world *world, size_t *count);
+/* Lists two numbers for each script, in their order: its node, and its kind (an x3d_kind). */
+uint8_t x3d_world_list_scripts(struct x3d_world *world);
 /* Replaces the object that runs the k-th script by a new one of kind `kind` (an x3d_kind). It takes
  * over the script's state. The world is unchanged whatever is returned. May return: X3D_RANGE for
  * an unknown kind, X3D_SPOILED, X3D_NO_SUCH_SCRIPT, X3D_KIND_DIFFERS, or X3D_MEMORY. */
@@ -577,6 +605,11 @@ uint8_t x3d_viewer_node_count(const struct x3d_viewer *viewer, size_t *count);
 uint8_t x3d_viewer_field_count(const struct x3d_viewer *viewer, uint32_t node, uint32_t *count);
 uint8_t x3d_viewer_field_named(const struct x3d_viewer *viewer, uint32_t node, const uint8_t *name,
                                size_t length, uint16_t *field);
+uint8_t x3d_viewer_field_type(const struct x3d_viewer *viewer, uint32_t node, uint16_t field,
+                              struct x3d_field *told);
+uint8_t x3d_viewer_node_named(const struct x3d_viewer *viewer, const uint8_t *name, size_t length,
+                              uint32_t *node);
+uint8_t x3d_viewer_time(const struct x3d_viewer *viewer, int64_t *time);
 uint8_t x3d_viewer_list_roots(struct x3d_viewer *viewer);
 uint8_t x3d_viewer_list_children(struct x3d_viewer *viewer, uint32_t node);
 uint8_t x3d_viewer_list_value(struct x3d_viewer *viewer, uint32_t node, uint16_t field);
@@ -585,6 +618,9 @@ uint8_t x3d_viewer_copy_numbers(const struct x3d_viewer *viewer, int64_t *out, s
 uint8_t x3d_viewer_list_changed(struct x3d_viewer *viewer, uint32_t since);
 uint8_t x3d_viewer_copy_changed(const struct x3d_viewer *viewer, struct x3d_change *out,
                                 size_t room, size_t *wanted);
+uint8_t x3d_viewer_script_count(const struct x3d_viewer *viewer, size_t *count);
+uint8_t x3d_viewer_list_scripts(struct x3d_viewer *viewer);
+uint8_t x3d_viewer_replace_script(struct x3d_viewer *viewer, size_t k, uint8_t kind);
 uint8_t x3d_viewer_meet(struct x3d_viewer *viewer, const struct x3d_aim *aim, struct x3d_met *met);
 
 #ifdef __cplusplus

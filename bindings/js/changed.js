@@ -6,6 +6,11 @@ const TYPES = (
   "MFBool MFInt32 MFFloat MFTime MFString MFVec2f MFVec3f MFColor MFNode SFRotation"
 ).split(" ");
 
+/** The name of a type. */
+export function typeOf(number) {
+  return TYPES[number] ?? `Type${number}`;
+}
+
 /** The number of bytes of a struct x3d_change. */
 export const CHANGE_SIZE = 16;
 
@@ -14,12 +19,11 @@ export function changedOf(bytes, numbers) {
   const data = new DataView(bytes.buffer, bytes.byteOffset, bytes.byteLength);
   return Array.from({ length: bytes.length / CHANGE_SIZE }, (_, k) => {
     const at = CHANGE_SIZE * k;
-    const number = data.getUint8(at + 6);
     const first = data.getUint32(at + 8, true);
     return {
       node: data.getUint32(at, true),
       field: data.getUint16(at + 4, true),
-      type: TYPES[number] ?? `Type${number}`,
+      type: typeOf(data.getUint8(at + 6)),
       numbers: numbers.subarray(first, first + data.getUint32(at + 12, true)),
     };
   });

@@ -7,6 +7,7 @@ export const MEMORY = 5;
 export const CLOSED = 10;
 export const RANGE = 11;
 export const ROOM = 12;
+export const NO_SUCH_NODE = 23;
 export const NO_PACKET = 25;
 
 const REASONS = {
@@ -22,6 +23,7 @@ const REASONS = {
   25: "NoPacket",
   26: "NoSuchScript",
   27: "KindDiffers",
+  28: "NoValue",
   30: "Short",
   31: "BadMagic",
   32: "BadVersion",

@@ -55,6 +55,18 @@ export interface Changed {
   numbers: BigInt64Array;
 }
 
+/** The type of a field's values, such as `SFVec3f`, and its access. */
+export interface FieldType {
+  type: string;
+  access: "inputOnly" | "outputOnly" | "inputOutput" | "initializeOnly";
+}
+
+/** A script that the scene runs: its node and its kind. */
+export interface Script {
+  node: number;
+  kind: "counter" | "gate" | "adder" | "batch" | "mover" | "meter";
+}
+
 /** What a datagram says:
  * - `Input`, of the host: its number and time; with a pointer also who pointed, and `aim`;
  * - `Offer`, of viewer `who`: its number in its boot, and `aim`;
@@ -168,6 +180,19 @@ declare abstract class Readable extends Held {
   fieldName(node: number, field: number): string;
   /** The number of the field with this name: a field of the node's type, or one that a Script declares. */
   fieldNamed(node: number, name: string): number;
+  /** The type and the access of a field of a node. A field that is `inputOnly` or `outputOnly` holds no value. */
+  fieldType(node: number, field: number): FieldType;
+  /** The number of the node with this DEF name, if one node alone has it, or null. */
+  nodeNamed(name: string): number | null;
+  /** The time of the last input in microseconds, or 0 before the first. */
+  time(): bigint;
+  /** The number of scripts that the scene runs. */
+  scriptCount(): number;
+  /** The node and the kind of each script, in the order of their numbers. */
+  scripts(): Script[];
+  /** Replaces a script, numbered from 0, with a new one of its kind, which goes on in its state. Faults: `Range`,
+   * `NoSuchScript`, `KindDiffers`, `Memory`. */
+  replaceScript(script: number, kind: Script["kind"]): void;
   /** The text of the current value of a field, such as `0 1.5 0`; that of a node is empty. */
   value(node: number, field: number): string;
   /** The numbers of that value: truths as 1 and 0, integers, millionths and microseconds unchanged, vectors and colors
@@ -208,11 +233,6 @@ export class World extends Readable {
   snapshot(boot: number): Uint8Array;
   /** Replaces the world, even a spoiled one, with that of a snapshot of this scene, of a boot below `boot`. */
   load(boot: number, snapshot: Uint8Array): Saved;
-  /** The number of scripts that the scene runs. */
-  scriptCount(): number;
-  /** Replaces a script, numbered from 0, with a new one of its kind, which goes on in its state. Faults: `Range`,
-   * `NoSuchScript`, `KindDiffers`, `Memory`. */
-  replaceScript(script: number, kind: "counter" | "gate" | "adder" | "batch" | "mover" | "meter"): void;
 }
 
 /** The host of a scene for 1 to 64 viewers, numbered from 0: it numbers what happens, and gives it to the viewers. It

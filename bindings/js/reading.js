@@ -1,12 +1,14 @@
 // What an object of the library holds, and what is read of a world.
-import { CHANGE_SIZE, changedOf } from "./changed.js";
+import { CHANGE_SIZE, changedOf, typeOf } from "./changed.js";
 import { changesOf } from "./changes.js";
-import { CLOSED, DONE, Fault, RANGE, Refusal, SCENE } from "./faults.js";
+import { CLOSED, DONE, Fault, NO_SUCH_NODE, RANGE, Refusal, SCENE } from "./faults.js";
 import { Library } from "./library.js";
 import { fits, signed } from "./numbers.js";
 
 const HANDLE = 8;
 const LINE = 64;
+const ACCESSES = ["inputOnly", "outputOnly", "inputOutput", "initializeOnly"];
+const KINDS = ["counter", "gate", "adder", "batch", "mover", "meter"];
 const encoder = new TextEncoder();
 const decoder = new TextDecoder("utf-8", { fatal: true, ignoreBOM: true });
 
@@ -188,6 +190,43 @@ export class Readable extends Held {
       this._call("field_named", fits(node, 32), ...text, this._library.out);
       return this._library.told() & 0xffff;
     });
+  }
+
+  fieldType(node, field) {
+    this._call("field_type", fits(node, 32), fits(field, 16), this._library.out);
+    const told = this._library.told();
+    return { type: typeOf(told & 0xff), access: ACCESSES[(told >> 8) & 0xff] };
+  }
+
+  nodeNamed(name) {
+    return this._library.lend(encoder.encode(name), (...text) => {
+      const status = this._status("node_named", ...text, this._library.out);
+      if (status === NO_SUCH_NODE) return null;
+      if (status !== DONE) throw new Fault(status);
+      return this._library.told();
+    });
+  }
+
+  time() {
+    this._call("time", this._library.out);
+    return BigInt.asIntN(64, this._library.toldWide());
+  }
+
+  scriptCount() {
+    this._call("script_count", this._library.out);
+    return Number(this._library.toldWide());
+  }
+
+  scripts() {
+    const numbers = this._listed("list_scripts");
+    const each = Array.from({ length: numbers.length / 2 }, (_, k) => numbers.slice(2 * k, 2 * k + 2));
+    return each.map(([node, kind]) => ({ node, kind: KINDS[kind] }));
+  }
+
+  replaceScript(script, kind) {
+    const number = KINDS.indexOf(kind);
+    if (number < 0) throw new Fault(RANGE);
+    this._call("replace_script", BigInt(fits(script, 32)), number);
   }
 
   value(node, field) {

@@ -1,10 +1,7 @@
 // A world.
-import { Fault, RANGE } from "./faults.js";
 import { fits, signed, truth } from "./numbers.js";
 import { Part } from "./part.js";
 import { Readable } from "./reading.js";
-
-const KINDS = ["counter", "gate", "adder", "batch", "mover", "meter"];
 
 export class World extends Readable {
   constructor(library, scene) {
@@ -40,16 +37,5 @@ export class World extends Readable {
       this._call("load", fits(boot, 32), ...bytes, this._library.out);
       return { boot: this._library.told(0), applied: this._library.told(1) };
     });
-  }
-
-  scriptCount() {
-    this._call("script_count", this._library.out);
-    return Number(this._library.toldWide());
-  }
-
-  replaceScript(script, kind) {
-    const number = KINDS.indexOf(kind);
-    if (number < 0) throw new Fault(RANGE);
-    this._call("replace_script", BigInt(fits(script, 32)), number);
   }
 }

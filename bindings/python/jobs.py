@@ -16,7 +16,7 @@ def picture(world):
             try:
                 found[node, field] = world.value(node, field)
             except Fault as fault:
-                if fault.name != "NoSuchField":
+                if fault.name != "NoValue":
                     raise
     return found
 

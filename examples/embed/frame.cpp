@@ -101,7 +101,7 @@ public:
   // The numbers of a field, or nothing if it holds no value.
   std::vector<int64_t> numbers(uint32_t node, uint16_t field) {
     auto status = x3d_world_list_value(&world_, node, field);
-    if (status == X3D_NO_SUCH_FIELD) return {};
+    if (status == X3D_NO_VALUE) return {};
     check(status);
     std::vector<int64_t> out(1);
     size_t count = 0;

@@ -30,7 +30,7 @@ fn walked(world: &mut World) -> Result<Picture, Fault> {
         {
             match world.numbers(node, field) {
                 Ok(numbers) => picture.insert((node, field), numbers),
-                Err(Fault::NoSuchField) => None, // it only sends or receives
+                Err(Fault::NoValue) => None, // it only sends or receives
                 Err(fault) => return Err(fault),
             };
         }

@@ -2,7 +2,7 @@
 import assert from "node:assert/strict";
 import { before, test } from "node:test";
 import { changesOf } from "../changes.js";
-import { Refusal, World } from "../index.js";
+import { Part, Refusal, World } from "../index.js";
 import { AIM, DOOR, fresh, nodeOf, refused } from "./common.js";
 
 const COUNT = `#X3D V3.0 utf8
@@ -82,6 +82,32 @@ test("nodes stand as in the text", () => {
   assert.deepEqual(world.numbers(Number(box), size), BigInt64Array.of(1_000_000n, 2_000_000n, 100_000n));
   refused("NoSuchNode", () => world.label(world.nodeCount()));
   refused("NoSuchField", () => world.value(Number(box), 65535));
+});
+
+test("types, names, scripts and time", () => {
+  const world = new World(library, COUNT);
+  const [door, count] = [world.nodeNamed("Door"), world.nodeNamed("Count")];
+  assert.equal(world.nodeNamed("N0"), null);
+  assert.deepEqual(world.scripts(), [{ node: count, kind: "counter" }]);
+  const translation = world.fieldNamed(door, "translation");
+  assert.deepEqual(world.fieldType(door, translation), { type: "SFVec3f", access: "inputOutput" });
+  refused("NoValue", () => world.value(count, world.fieldNamed(count, "tick")));
+  assert.equal(world.time(), 0n);
+  world.clock(1, 12);
+  assert.equal(world.time(), 12n);
+});
+
+test("a part is opened, and a refusal names the instance", () => {
+  const part = new Part(library, "#X3D V3.0 utf8\nDEF Door Transform {}\nTeapot {}\n");
+  assert.deepEqual(part.leftOut(), [{ line: 3, kind: "Node", words: "node Teapot left out" }]);
+  const worlds = [new World(library, part), new World(library, part.text())];
+  assert.deepEqual(worlds[0].snapshot(1), worlds[1].snapshot(1));
+  assert.notEqual(worlds[0].nodeNamed("Door"), null);
+  const lamps = "PROTO Lamp [ inputOutput SFFloat power 1 ]\n{ PointLight { intensity IS power } }\nLamp { power TRUE }\n";
+  assert.throws(() => new World(library, `#X3D V3.0 utf8\n${lamps}`), {
+    message: "refused WrongType line 3, in the instance on line 4",
+    instance: 4,
+  });
 });
 
 test("fields are found by their names", () => {

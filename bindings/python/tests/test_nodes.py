@@ -52,6 +52,40 @@ class Nodes(unittest.TestCase):
             call(*passed)
         self.assertEqual(told.exception.name, name)
 
+    def test_what_is_asked_of_a_viewer_is_as_of_a_world(self):
+        scene = DOOR + """DEF Count Script {
+  url "x3dshare:counter"
+  inputOnly SFBool tick
+  initializeOnly SFInt32 start 5
+  initializeOnly SFInt32 step 2
+  outputOnly SFInt32 count
+}
+"""
+        world, viewer = World(scene), Viewer(scene, 0, 1)
+        host = Host(scene, 1)
+        for asked in (world, viewer):
+            count = asked.node_named("Count")
+            self.assertEqual(asked.scripts(), [(count, "counter")])
+            asked.replace_script(0, "counter")
+            self.refused("KindDiffers", asked.replace_script, 0, "meter")
+            self.refused("Range", asked.replace_script, 0, "clock")
+            self.assertIsNone(asked.node_named("Nobody"))
+            self.assertEqual(asked.time(), 0)
+        for node in range(world.node_count()):
+            for field in range(world.field_count(node)):
+                told = world.field_type(node, field)
+                self.assertEqual(viewer.field_type(node, field), told)
+                holds = told.access in ("inputOutput", "initializeOnly") and told.type != "SFRotation"
+                if not holds:
+                    self.refused("NoValue", viewer.value, node, field)
+                else:
+                    self.assertEqual(viewer.value(node, field), world.value(node, field))
+        host.clock(12)
+        for packet in host.packets(host.take(viewer.ask())):
+            viewer.take(packet)
+        world.clock(1, 12)
+        self.assertEqual((viewer.time(), world.time()), (12, 12))
+
     def test_two_viewers_end_equal(self):
         with Host(DOOR, 2) as host, Viewer(DOOR, 0, 1) as one, Viewer(DOOR, 1, 1) as other:
             carrier = Carrier(host, lossy=True)

@@ -57,6 +57,28 @@ class Worlds(unittest.TestCase):
             call(*passed)
         self.assertEqual(told.exception.name, name)
 
+    def test_types_names_scripts_and_time(self):
+        world = World(COUNT)
+        door, count = world.node_named("Door"), world.node_named("Count")
+        self.assertIsNone(world.node_named("N0"))
+        self.assertEqual(world.scripts(), [(count, "counter")])
+        world.replace_script(0, "counter")
+        self.refused("KindDiffers", world.replace_script, 0, "gate")
+        self.refused("NoSuchScript", world.replace_script, 1, "counter")
+        translation = world.field_named(door, "translation")
+        self.assertEqual(world.field_type(door, translation), ("SFVec3f", "inputOutput"))
+        tick = world.field_named(count, "tick")
+        self.assertEqual(world.field_type(count, tick), ("SFBool", "inputOnly"))
+        start = world.field_named(count, "start")
+        self.assertEqual(world.field_type(count, start), ("SFInt32", "initializeOnly"))
+        self.refused("NoValue", world.value, count, tick)
+        self.refused("NoSuchField", world.value, count, 99)
+        self.refused("NoSuchField", world.field_type, count, 99)
+        self.refused("NoSuchField", world.numbers, 7, 0)
+        self.assertEqual(world.time(), 0)
+        world.clock(1, 12)
+        self.assertEqual(world.time(), 12)
+
     def test_a_click_opens_the_door(self):
         with clicked() as world:
             self.assertEqual(world.clock(4, 11_000_002), (7, 2, 0))
@@ -131,7 +153,7 @@ class Worlds(unittest.TestCase):
                 try:
                     found[n, field] = world.value(n, field)
                 except Fault as fault:
-                    self.assertEqual(fault.name, "NoSuchField")
+                    self.assertEqual(fault.name, "NoValue")
         return found
 
     def test_each_field_that_differs_is_listed(self):

@@ -24,7 +24,7 @@ system's libx3d.so.0.
 from ._faults import Fault, Refusal
 from ._library import version
 from ._nodes import Datagram, Host, Reply, Taken, Viewer, datagram
-from ._reading import Aim, Change, Changed, Meeting
+from ._reading import Aim, Change, Changed, FieldType, Meeting, Script
 from ._part import LeftOut, Part
 from ._world import Saved, Work, World
 
@@ -34,6 +34,7 @@ __all__ = [
     "Changed",
     "Datagram",
     "Fault",
+    "FieldType",
     "Host",
     "LeftOut",
     "Meeting",
@@ -41,6 +42,7 @@ __all__ = [
     "Refusal",
     "Reply",
     "Saved",
+    "Script",
     "Taken",
     "Viewer",
     "Work",

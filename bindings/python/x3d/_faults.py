@@ -36,6 +36,7 @@ class Fault(Exception):
         25: "NoPacket",
         26: "NoSuchScript",
         27: "KindDiffers",
+        28: "NoValue",
         30: "Short",
         31: "BadMagic",
         32: "BadVersion",

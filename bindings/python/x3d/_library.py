@@ -45,6 +45,10 @@ class RawChange(Structure):
     ]
 
 
+class RawField(Structure):
+    _fields_ = [("value_type", c_uint8), ("access", c_uint8)]
+
+
 class RawDatagram(Structure):
     _fields_ = [
         ("tag", c_uint8),
@@ -84,6 +88,9 @@ CALLS = {
     "x3d_world_node_count": [_WORLD, _SIZE],
     "x3d_world_field_count": [_WORLD, c_uint32, _COUNT],
     "x3d_world_field_named": [_WORLD, c_uint32, c_char_p, c_size_t, POINTER(c_uint16)],
+    "x3d_world_field_type": [_WORLD, c_uint32, c_uint16, POINTER(RawField)],
+    "x3d_world_node_named": [_WORLD, c_char_p, c_size_t, _COUNT],
+    "x3d_world_time": [_WORLD, POINTER(c_int64)],
     "x3d_world_list_roots": [_WORLD],
     "x3d_world_list_children": [_WORLD, c_uint32],
     "x3d_world_list_value": [_WORLD, c_uint32, c_uint16],
@@ -92,6 +99,7 @@ CALLS = {
     "x3d_world_copy_changed": [_WORLD, POINTER(RawChange), c_size_t, _SIZE],
     "x3d_world_load": [_WORLD, c_uint32, c_char_p, c_size_t, POINTER(RawSaved)],
     "x3d_world_script_count": [_WORLD, _SIZE],
+    "x3d_world_list_scripts": [_WORLD],
     "x3d_world_replace_script": [_WORLD, c_size_t, c_uint8],
     "x3d_host_open": [_HOST, c_char_p, c_size_t, c_uint8],
     "x3d_host_close": [_HOST],
@@ -135,12 +143,18 @@ CALLS = {
     "x3d_viewer_node_count": [_VIEWER, _SIZE],
     "x3d_viewer_field_count": [_VIEWER, c_uint32, _COUNT],
     "x3d_viewer_field_named": [_VIEWER, c_uint32, c_char_p, c_size_t, POINTER(c_uint16)],
+    "x3d_viewer_field_type": [_VIEWER, c_uint32, c_uint16, POINTER(RawField)],
+    "x3d_viewer_node_named": [_VIEWER, c_char_p, c_size_t, _COUNT],
+    "x3d_viewer_time": [_VIEWER, POINTER(c_int64)],
     "x3d_viewer_list_roots": [_VIEWER],
     "x3d_viewer_list_children": [_VIEWER, c_uint32],
     "x3d_viewer_list_value": [_VIEWER, c_uint32, c_uint16],
     "x3d_viewer_copy_numbers": [_VIEWER, POINTER(c_int64), c_size_t, _SIZE],
     "x3d_viewer_list_changed": [_VIEWER, c_uint32],
     "x3d_viewer_copy_changed": [_VIEWER, POINTER(RawChange), c_size_t, _SIZE],
+    "x3d_viewer_script_count": [_VIEWER, _SIZE],
+    "x3d_viewer_list_scripts": [_VIEWER],
+    "x3d_viewer_replace_script": [_VIEWER, c_size_t, c_uint8],
     "x3d_part_open": [_PART, c_char_p, c_size_t, c_char_p, c_size_t, _SIZE],
     "x3d_part_close": [_PART],
     "x3d_part_copy_text": [_PART, c_char_p, c_size_t, _SIZE],

@@ -4,10 +4,11 @@ import ctypes
 from typing import Any, Callable, Dict, Iterator, List, NamedTuple, Optional, Tuple
 
 from ._faults import Fault, Refusal
-from ._library import Handle, RawAim, RawChange, RawMet, calls_of, text_instance
+from ._library import Handle, RawAim, RawChange, RawField, RawMet, calls_of, text_instance
 
 DONE = 0
 _MEMORY = 5
+_NO_SUCH_NODE = 23
 
 
 class Aim(NamedTuple):
@@ -29,6 +30,25 @@ _TYPES = (
     "SFBool SFInt32 SFFloat SFTime SFString SFVec2f SFVec3f SFColor SFNode "
     "MFBool MFInt32 MFFloat MFTime MFString MFVec2f MFVec3f MFColor MFNode SFRotation"
 ).split()
+
+
+_ACCESSES = ("inputOnly", "outputOnly", "inputOutput", "initializeOnly")
+_KINDS = ("counter", "gate", "adder", "batch", "mover", "meter")
+
+
+class FieldType(NamedTuple):
+    """The type of a field's values, as `SFVec3f`, and its access, as `inputOutput`. A field that is
+    `inputOnly` or `outputOnly` holds no value."""
+
+    type: str
+    access: str
+
+
+class Script(NamedTuple):
+    """The node of a script that runs, and its kind, as `counter`."""
+
+    node: int
+    kind: str
 
 
 class Changed(NamedTuple):
@@ -262,6 +282,40 @@ class Readable(Held):
         text, field = name.encode(errors="surrogatepass"), ctypes.c_uint16()
         self._call("field_named", fits(node, 32), text, len(text), field)
         return field.value
+
+    def field_type(self, node: int, field: int) -> FieldType:
+        """The type and the access of a field of a node."""
+        told = RawField()
+        self._call("field_type", fits(node, 32), fits(field, 16), told)
+        return FieldType(_type(told.value_type), _ACCESSES[told.access])
+
+    def node_named(self, name: str) -> Optional[int]:
+        """The number of the node with this DEF name, if one node alone has it."""
+        text = name.encode(errors="surrogatepass")
+        status = self._status("node_named", text, len(text), self._told)
+        if status == _NO_SUCH_NODE:
+            return None
+        self._good(status)
+        return self._told.value
+
+    def time(self) -> int:
+        """The time of the last input in microseconds, or 0 before the first."""
+        time = ctypes.c_int64()
+        self._call("time", time)
+        return time.value
+
+    def scripts(self) -> List[Script]:
+        """The scripts that the scene runs; their places in this list are their numbers."""
+        self._call("list_scripts")
+        numbers = self._numbers()
+        return [Script(node, _KINDS[kind]) for node, kind in zip(numbers[::2], numbers[1::2])]
+
+    def replace_script(self, script: int, kind: str) -> None:
+        """Puts a new box of a kind, as `counter`, in the place of a script, which goes on in its
+        state. Faults: `Range`, `NoSuchScript`, `KindDiffers`, `Memory`."""
+        if kind not in _KINDS:
+            raise Fault(11)
+        self._call("replace_script", fits(script, 64), _KINDS.index(kind))
 
     def value(self, node: int, field: int) -> str:
         """The text of the value that a field has now, as `0 1.5 0`; nodes have none."""

@@ -1,6 +1,6 @@
 //! The fields that inputs set, with their current values.
 
-use crate::raw::RawChange;
+use crate::raw::{RawChange, RawField};
 
 /// The type of a value.
 #[derive(Clone, Copy, Debug, PartialEq, Eq)]
@@ -27,6 +27,40 @@ pub enum ValueType {
     SFRotation,
     /// A type of a later library.
     Other(u8),
+}
+
+/// How a field may be used. A field of the first two kinds holds no value.
+#[derive(Clone, Copy, Debug, PartialEq, Eq)]
+#[non_exhaustive]
+pub enum Access {
+    InputOnly,
+    OutputOnly,
+    InputOutput,
+    InitializeOnly,
+    /// An access of a later library.
+    Other(u8),
+}
+
+/// The type of a field's values, and its access.
+#[derive(Clone, Copy, Debug, PartialEq, Eq)]
+pub struct FieldType {
+    pub value_type: ValueType,
+    pub access: Access,
+}
+
+impl FieldType {
+    pub(crate) fn of(raw: &RawField) -> FieldType {
+        FieldType {
+            value_type: type_of(raw.value_type),
+            access: match raw.access {
+                0 => Access::InputOnly,
+                1 => Access::OutputOnly,
+                2 => Access::InputOutput,
+                3 => Access::InitializeOnly,
+                other => Access::Other(other),
+            },
+        }
+    }
 }
 
 const TYPES: [ValueType; 19] = [

@@ -63,8 +63,10 @@ pub enum Fault {
     TimeNotLater,
     /// There is no node of that number.
     NoSuchNode,
-    /// The node has no field of that number or name, or it holds no value.
+    /// The node has no field of that number or name.
     NoSuchField,
+    /// The field holds no value: it only sends or takes events.
+    NoValue,
     /// A snapshot of fewer than 85 bytes.
     Short,
     /// No snapshot.
@@ -134,6 +136,7 @@ impl Fault {
             22 => Fault::TimeNotLater,
             23 => Fault::NoSuchNode,
             24 => Fault::NoSuchField,
+            28 => Fault::NoValue,
             30 => Fault::Short,
             31 => Fault::BadMagic,
             32 => Fault::BadVersion,
@@ -176,9 +179,8 @@ impl fmt::Display for Fault {
             Fault::NotNext => "the input's number is not the next one",
             Fault::TimeNotLater => "the input's time is not later than that of the last one",
             Fault::NoSuchNode => "there is no node of that number",
-            Fault::NoSuchField => {
-                "the node has no field of that number or name, or it holds no value"
-            }
+            Fault::NoSuchField => "the node has no field of that number or name",
+            Fault::NoValue => "the field holds no value",
             Fault::Short => "the snapshot is not whole",
             Fault::BadMagic => "this is not a snapshot",
             Fault::BadVersion => "the version is none that is read",

@@ -49,7 +49,7 @@ mod reading;
 mod viewer;
 mod world;
 
-pub use changed::{Changed, ChangedFields, ValueType};
+pub use changed::{Access, Changed, ChangedFields, FieldType, ValueType};
 pub use changes::{Change, Changes};
 pub use datagram::{Datagram, Pointing};
 pub use fault::{Fault, Refusal};

@@ -87,6 +87,13 @@ pub struct RawChange {
 
 #[repr(C)]
 #[derive(Default)]
+pub struct RawField {
+    pub value_type: u8,
+    pub access: u8,
+}
+
+#[repr(C)]
+#[derive(Default)]
 pub struct RawDatagram {
     pub tag: u8,
     pub who: u8,
@@ -178,6 +185,20 @@ unsafe extern "C" {
         length: usize,
         field: *mut u16,
     ) -> u8;
+    pub fn x3d_world_field_type(
+        world: *mut RawWorld,
+        node: u32,
+        field: u16,
+        told: *mut RawField,
+    ) -> u8;
+    pub fn x3d_world_node_named(
+        world: *mut RawWorld,
+        name: *const u8,
+        length: usize,
+        node: *mut u32,
+    ) -> u8;
+    pub fn x3d_world_time(world: *mut RawWorld, time: *mut i64) -> u8;
+    pub fn x3d_world_list_scripts(world: *mut RawWorld) -> u8;
     pub fn x3d_world_list_roots(world: *mut RawWorld) -> u8;
     pub fn x3d_world_list_children(world: *mut RawWorld, node: u32) -> u8;
     pub fn x3d_world_list_value(world: *mut RawWorld, node: u32, field: u16) -> u8;
@@ -337,6 +358,20 @@ unsafe extern "C" {
         length: usize,
         field: *mut u16,
     ) -> u8;
+    pub fn x3d_viewer_field_type(
+        viewer: *mut RawViewer,
+        node: u32,
+        field: u16,
+        told: *mut RawField,
+    ) -> u8;
+    pub fn x3d_viewer_node_named(
+        viewer: *mut RawViewer,
+        name: *const u8,
+        length: usize,
+        node: *mut u32,
+    ) -> u8;
+    pub fn x3d_viewer_time(viewer: *mut RawViewer, time: *mut i64) -> u8;
+    pub fn x3d_viewer_list_scripts(viewer: *mut RawViewer) -> u8;
     pub fn x3d_viewer_list_roots(viewer: *mut RawViewer) -> u8;
     pub fn x3d_viewer_list_children(viewer: *mut RawViewer, node: u32) -> u8;
     pub fn x3d_viewer_list_value(viewer: *mut RawViewer, node: u32, field: u16) -> u8;
@@ -353,6 +388,8 @@ unsafe extern "C" {
         room: usize,
         wanted: *mut usize,
     ) -> u8;
+    pub fn x3d_viewer_script_count(viewer: *mut RawViewer, count: *mut usize) -> u8;
+    pub fn x3d_viewer_replace_script(viewer: *mut RawViewer, k: usize, kind: u8) -> u8;
     pub fn x3d_viewer_meet(viewer: *mut RawViewer, aim: *const RawAim, met: *mut RawMet) -> u8;
     pub fn x3d_version() -> *const c_char;
     pub fn x3d_abi() -> u32;

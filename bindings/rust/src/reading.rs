@@ -1,6 +1,7 @@
 //! What is read of a world, of a World and of a Viewer alike.
 
 use crate::raw::RawAim;
+use crate::world::Kind;
 
 /// What a viewer points with.
 #[derive(Clone, Copy, Debug, PartialEq, Eq)]
@@ -58,6 +59,21 @@ pub(crate) fn copied<T: Clone + Default>(
     out.truncate(wanted);
 }
 
+const KINDS: [Kind; 6] = [
+    Kind::Counter,
+    Kind::Gate,
+    Kind::Adder,
+    Kind::Batch,
+    Kind::Mover,
+    Kind::Meter,
+];
+
+/// The scripts that these numbers list: the node and the kind of each.
+pub(crate) fn scripts_of(numbers: &[u32]) -> Vec<(u32, Kind)> {
+    let script = |pair: &[u32]| Some((pair[0], *KINDS.get(pair[1] as usize)?));
+    numbers.chunks_exact(2).filter_map(script).collect()
+}
+
 /// The methods that read, by the calls of one of the two.
 macro_rules! readable {
     (
@@ -67,9 +83,11 @@ macro_rules! readable {
         $copy_text:ident,
         $field_count:ident,
         $field_named:ident,
+        $field_type:ident,
         $list_changed:ident,
         $list_children:ident,
         $list_roots:ident,
+        $list_scripts:ident,
         $list_value:ident,
         $make_changes:ident,
         $make_field_name:ident,
@@ -79,7 +97,11 @@ macro_rules! readable {
         $make_type:ident,
         $make_value:ident,
         $meet:ident,
-        $node_count:ident
+        $node_count:ident,
+        $node_named:ident,
+        $replace_script:ident,
+        $script_count:ident,
+        $time:ident
     ) => {
         impl $object {
             /// What a ray would hit; the world stays as it is.
@@ -197,6 +219,48 @@ macro_rules! readable {
                 };
                 Fault::told(status)?;
                 Ok(field)
+            }
+
+            /// The type and the access of a field of a node.
+            pub fn field_type(&mut self, node: u32, field: u16) -> Result<FieldType, Fault> {
+                let mut told = RawField::default();
+                Fault::told(unsafe { raw::$field_type(&mut self.handle, node, field, &mut told) })?;
+                Ok(FieldType::of(&told))
+            }
+
+            /// The number of the node with this DEF name, if one node alone has it.
+            pub fn node_named(&mut self, name: &str) -> Option<u32> {
+                let mut node = 0;
+                let status = unsafe {
+                    raw::$node_named(&mut self.handle, name.as_ptr(), name.len(), &mut node)
+                };
+                (status == 0).then_some(node)
+            }
+
+            /// The time of the last input in microseconds, or 0 before the first.
+            pub fn time(&mut self) -> Result<i64, Fault> {
+                let mut time = 0;
+                Fault::told(unsafe { raw::$time(&mut self.handle, &mut time) })?;
+                Ok(time)
+            }
+
+            /// How many scripts the scene runs, which are numbered from 0.
+            pub fn script_count(&mut self) -> usize {
+                let mut count = 0;
+                unsafe { raw::$script_count(&mut self.handle, &mut count) };
+                count
+            }
+
+            /// The node and the kind of each script, in the order of their numbers.
+            pub fn scripts(&mut self) -> Result<Vec<(u32, Kind)>, Fault> {
+                Fault::told(unsafe { raw::$list_scripts(&mut self.handle) })?;
+                Ok(scripts_of(&self.nodes()))
+            }
+
+            /// Puts a new box of a kind in the place of the k-th script, which goes on in its
+            /// state: nothing else changes.
+            pub fn replace_script(&mut self, k: usize, kind: Kind) -> Result<(), Fault> {
+                Fault::told(unsafe { raw::$replace_script(&mut self.handle, k, kind as u8) })
             }
 
             /// The text of the value that a field has now, as `0 1.5 0`; nodes have none.

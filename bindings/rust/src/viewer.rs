@@ -1,11 +1,12 @@
 //! A viewer of a shared world.
 
-use crate::changed::ChangedFields;
+use crate::changed::{ChangedFields, FieldType};
 use crate::changes::Changes;
 use crate::fault::{Fault, Refusal};
 use crate::packet::{Packet, packet};
-use crate::raw::{self, RawMet, RawTaken, RawViewer};
-use crate::reading::{Aim, Meeting, copied, readable};
+use crate::raw::{self, RawField, RawMet, RawTaken, RawViewer};
+use crate::reading::{Aim, Meeting, copied, readable, scripts_of};
+use crate::world::Kind;
 use std::ptr;
 
 /// What a viewer made of a datagram.
@@ -262,9 +263,11 @@ readable!(
     x3d_viewer_copy_text,
     x3d_viewer_field_count,
     x3d_viewer_field_named,
+    x3d_viewer_field_type,
     x3d_viewer_list_changed,
     x3d_viewer_list_children,
     x3d_viewer_list_roots,
+    x3d_viewer_list_scripts,
     x3d_viewer_list_value,
     x3d_viewer_make_changes,
     x3d_viewer_make_field_name,
@@ -274,5 +277,9 @@ readable!(
     x3d_viewer_make_type,
     x3d_viewer_make_value,
     x3d_viewer_meet,
-    x3d_viewer_node_count
+    x3d_viewer_node_count,
+    x3d_viewer_node_named,
+    x3d_viewer_replace_script,
+    x3d_viewer_script_count,
+    x3d_viewer_time
 );

@@ -1,11 +1,11 @@
 //! A world.
 
-use crate::changed::ChangedFields;
+use crate::changed::{ChangedFields, FieldType};
 use crate::changes::Changes;
 use crate::fault::{Fault, Refusal};
 use crate::part::Part;
-use crate::raw::{self, RawMet, RawSaved, RawWork, RawWorld};
-use crate::reading::{Aim, Meeting, copied, readable};
+use crate::raw::{self, RawField, RawMet, RawSaved, RawWork, RawWorld};
+use crate::reading::{Aim, Meeting, copied, readable, scripts_of};
 use std::ptr;
 
 /// What an input gave rise to.
@@ -99,19 +99,6 @@ impl World {
         Err(Refusal::of(&part.text(), status, &line[..wanted]))
     }
 
-    /// How many scripts the scene runs, which are numbered from 0.
-    pub fn script_count(&mut self) -> usize {
-        let mut count = 0;
-        unsafe { raw::x3d_world_script_count(&mut self.handle, &mut count) };
-        count
-    }
-
-    /// Puts a new box of a kind in the place of the k-th script, which goes on in its state: the
-    /// world stays as it is.
-    pub fn replace_script(&mut self, k: usize, kind: Kind) -> Result<(), Fault> {
-        Fault::told(unsafe { raw::x3d_world_replace_script(&mut self.handle, k, kind as u8) })
-    }
-
     /// How many inputs were applied: the next one has the number behind it.
     pub fn applied(&mut self) -> u32 {
         let mut count = 0;
@@ -199,9 +186,11 @@ readable!(
     x3d_world_copy_text,
     x3d_world_field_count,
     x3d_world_field_named,
+    x3d_world_field_type,
     x3d_world_list_changed,
     x3d_world_list_children,
     x3d_world_list_roots,
+    x3d_world_list_scripts,
     x3d_world_list_value,
     x3d_world_make_changes,
     x3d_world_make_field_name,
@@ -211,5 +200,9 @@ readable!(
     x3d_world_make_type,
     x3d_world_make_value,
     x3d_world_meet,
-    x3d_world_node_count
+    x3d_world_node_count,
+    x3d_world_node_named,
+    x3d_world_replace_script,
+    x3d_world_script_count,
+    x3d_world_time
 );

@@ -1,5 +1,5 @@
 use std::thread;
-use x3d::{Aim, Fault, ValueType, World};
+use x3d::{Access, Aim, Fault, Kind, ValueType, World};
 
 const DOOR: &[u8] = b"#X3D V3.0 utf8
 DEF Motor TimeSensor { cycleInterval 2 }
@@ -239,4 +239,27 @@ fn what_is_refused_changes_nothing() {
     world.clock(1, 5).unwrap();
     assert_eq!(world.clock(2, 5), Err(Fault::TimeNotLater));
     assert_eq!(world.applied(), 1);
+}
+
+#[test]
+fn types_names_scripts_and_time() -> Result<(), Box<dyn std::error::Error>> {
+    let mut world = World::open(COUNT)?;
+    let door = world.node_named("Door").expect("a door");
+    let count = world.node_named("Count").expect("a script");
+    assert_eq!(world.node_named("N0"), None);
+    assert_eq!(world.scripts()?, [(count, Kind::Counter)]);
+    let translation = world.field_named(door, "translation")?;
+    let told = world.field_type(door, translation)?;
+    assert_eq!(
+        (told.value_type, told.access),
+        (ValueType::SFVec3f, Access::InputOutput)
+    );
+    let tick = world.field_named(count, "tick")?;
+    assert_eq!(world.field_type(count, tick)?.access, Access::InputOnly);
+    assert_eq!(world.value(count, tick), Err(Fault::NoValue));
+    assert_eq!(world.field_type(count, 99), Err(Fault::NoSuchField));
+    assert_eq!(world.time()?, 0);
+    world.clock(1, 12)?;
+    assert_eq!(world.time()?, 12);
+    Ok(())
 }

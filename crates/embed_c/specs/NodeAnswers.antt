@@ -5,13 +5,14 @@ use Rattle.app_jobs.specs.declared.fault.JobFault.{JobFault}
 use Rattle.app_program.specs.Refusal.{refusal_text, status}
 use Rattle.app_program.specs.declared.refusal.Failure.TheVariants.{Job}
 use Rattle.embed_world.specs.Hosts.{keeping}
-use Rattle.embed_world.specs.Viewers.{IsStarted, Meets, forgetting}
+use Rattle.embed_world.specs.Viewers.{IsStarted, Meets, Replaces, forgetting}
+use Rattle.x3d_values.specs.declared.script.Kind.{Kind}
 use Rattle.embed_world.specs.declared.host.EmbeddedHost.{EmbeddedHost}
 use Rattle.embed_world.specs.declared.viewer.EmbeddedViewer.{EmbeddedViewer}
 use Rattle.embed_world.specs.Looks.{meeting_in}
 use Rattle.share_core.specs.Viewer.{stage_in}
 use Rattle.x3d_values.specs.Pointing.{RayView}
-use Rattle.embed_world.specs.Status.{CallsOut, IsCopied, out_of_range}
+use Rattle.embed_world.specs.Status.{Calls, CallsOut, IsCopied, out_of_range, status_of_place}
 use Rattle.embed_c.specs.Answers.{status_of_meet, told}
 use Rattle.embed_c.specs.declared.lists.Met.{Met}
 
@@ -78,3 +79,13 @@ ViewerMeets None before status after old new =
 ViewerMeets (Some ray) before status after old new =
     CallsOut (λ (v : EmbeddedViewer). Meets (meeting_in (stage_in v.viewer) ray) v) status_of_meet
     told before status after old new
+
+-- ---- scripts
+
+-- script k of the viewer of a handle is replaced by a box of a kind; a kind that does not exist is
+-- out of range
+abbrev pub ViewerReplaces : (k : ℕ) → Option Kind → Option EmbeddedViewer → ℕ
+    → Option EmbeddedViewer → Type 0
+ViewerReplaces k None before status after = (status ≡ out_of_range) × (after ≡ before)
+ViewerReplaces k (Some kind) before status after =
+    Calls (λ (v : EmbeddedViewer). Replaces v k kind) status_of_place before status after

@@ -14,7 +14,7 @@ use std::alloc::Global;
 use x3d_values::Kind;
 
 /// Returns the kind with this number: 0 Counter, 1 Gate, 2 Adder, 3 Batch, 4 Mover, 5 Meter.
-fn kind_of(number: u8) -> Option<Kind>
+pub(crate) fn kind_of(number: u8) -> Option<Kind>
     ensures { result ≡ kind_of number }
 {
     if number == 0 {

@@ -6,34 +6,12 @@ use Rattle.embed_changes.specs.Numbers.{numbers_of}
 use Rattle.embed_changes.specs.Outputs.{outputs_after}
 use Rattle.embed_changes.specs.Values.{value_now}
 use Rattle.embed_changes.specs.declared.changes.Change.{Change}
+use Rattle.embed_scene.specs.Fields.{type_number}
 use Rattle.scene_core.specs.Scene.{SceneView}
 use Rattle.scene_core.specs.declared.scene.End.{End}
 use Rattle.x3d_values.specs.Values.{type_of}
-use Rattle.x3d_values.specs.declared.field_type.FieldType.{FieldType}
-use Rattle.x3d_values.specs.declared.field_type.FieldType.TheVariants.{SFBool, SFInt32, SFFloat, SFTime, SFString, SFVec2f, SFVec3f, SFColor, SFNode, MFBool, MFInt32, MFFloat, MFTime, MFString, MFVec2f, MFVec3f, MFColor, MFNode, SFRotation}
 use Rattle.x3d_values.specs.declared.fields.Fields.{Fields}
 use Rattle.x3d_values.specs.declared.value.Value.{Value}
-
-abbrev pub type_number : FieldType → ℕ
-type_number SFBool = 0
-type_number SFInt32 = 1
-type_number SFFloat = 2
-type_number SFTime = 3
-type_number SFString = 4
-type_number SFVec2f = 5
-type_number SFVec3f = 6
-type_number SFColor = 7
-type_number SFNode = 8
-type_number MFBool = 9
-type_number MFInt32 = 10
-type_number MFFloat = 11
-type_number MFTime = 12
-type_number MFString = 13
-type_number MFVec2f = 14
-type_number MFVec3f = 15
-type_number MFColor = 16
-type_number MFNode = 17
-type_number SFRotation = 18
 
 -- a field with this value, whose numbers are `count` from the place `first` on
 abbrev pub change_of : End → Value → (first count : ℕ) → Change

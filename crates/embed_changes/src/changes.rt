@@ -2,17 +2,18 @@
 
 ghost use Rattle.std.specs.Prelude.{◌≡◌, ◌++◌, ◌-◌, ◌≤◌, ◌∷◌, [], IfOk, OnOk, length};
 ghost use Rattle.std.specs.List.{fold};
-ghost use Rattle.embed_changes.specs.Changes.{change_of, changes_after, listed, type_number, with_value};
+ghost use Rattle.embed_changes.specs.Changes.{change_of, changes_after, listed, with_value};
 ghost use Rattle.embed_changes.specs.Numbers.{numbers_of};
 
 use crate::numbers::push_numbers;
 use crate::outputs::note_after;
 use crate::value::value_now;
 use cascade_trace::{SentBits, Trace};
+use embed_scene::type_number;
 use scene_core::{End, Scene};
 use std::alloc::{AllocError, Global};
 use std::marker::Model;
-use x3d_values::{FieldType, Fields, Value};
+use x3d_values::{Fields, Value};
 
 /// A field that was set: its type, and where the numbers of its current value are in the list of
 /// all numbers.
@@ -27,33 +28,6 @@ pub struct Change {
 }
 
 const _: () = prove!(size_of::<Change>() == 16);
-
-/// Returns the number of a type.
-fn type_number(field_type: FieldType) -> u8
-    ensures { result ≡ type_number field_type }
-{
-    match field_type {
-        FieldType::SFBool => 0,
-        FieldType::SFInt32 => 1,
-        FieldType::SFFloat => 2,
-        FieldType::SFTime => 3,
-        FieldType::SFString => 4,
-        FieldType::SFVec2f => 5,
-        FieldType::SFVec3f => 6,
-        FieldType::SFColor => 7,
-        FieldType::SFNode => 8,
-        FieldType::MFBool => 9,
-        FieldType::MFInt32 => 10,
-        FieldType::MFFloat => 11,
-        FieldType::MFTime => 12,
-        FieldType::MFString => 13,
-        FieldType::MFVec2f => 14,
-        FieldType::MFVec3f => 15,
-        FieldType::MFColor => 16,
-        FieldType::MFNode => 17,
-        FieldType::SFRotation => 18,
-    }
-}
 
 /// Returns a length as C has it. Fails if it is above 2^32 - 1.
 fn length_of(count: usize) -> Result<u32, AllocError>

@@ -16,6 +16,7 @@ use Rattle.cascade_world.specs.declared.world.WorldData.{WorldData}
 use Rattle.embed_changes.specs.Changes.{Listing, changes_after}
 use Rattle.embed_changes.specs.Numbers.{node_numbers, numbers_of}
 use Rattle.embed_changes.specs.Values.{value_now}
+use Rattle.embed_scene.specs.Scripts.{scripts_in}
 use Rattle.embed_world.specs.Lines.{change_text, from_on}
 use Rattle.embed_world.specs.Meeting.{hit_by}
 use Rattle.x3d_values.specs.Names.{node_type_name}
@@ -81,11 +82,16 @@ field_in scene node field =
     then Ok (field_name scene (record { node = node; field = field }))
     else Err look.NoSuchField
 
+-- why a field has no value: there is no such field, or it only sends or takes events
+abbrev pub value_fault : SceneView → ℕ → ℕ → LookFault
+value_fault scene node field =
+    if nat_lt field (length (rows_at scene node)) then look.NoValue else look.NoSuchField
+
 -- the text of a field's value
 abbrev pub value_in : StageView → ℕ → ℕ → Result (List ℕ) LookFault
 value_in stage node field =
     of_world (world_in stage.held)
-    (λ w. or_fault look.NoSuchField
+    (λ w. or_fault (value_fault stage.scene node field)
     (option_map value_text (value_now stage.scene w.fields node field)))
 
 -- ---- numbers
@@ -104,8 +110,12 @@ children_in scene node =
 abbrev pub numbers_in : StageView → ℕ → ℕ → Result (List ℤ) LookFault
 numbers_in stage node field =
     of_world (world_in stage.held)
-    (λ w. or_fault look.NoSuchField
+    (λ w. or_fault (value_fault stage.scene node field)
     (option_map numbers_of (value_now stage.scene w.fields node field)))
+
+-- the node and the kind of each script
+abbrev pub scripts_listed : SceneView → Result (List ℤ) LookFault
+scripts_listed scene = Ok (scripts_in scene)
 
 -- the fields that inputs after a number set, each once, and the numbers of their current values
 abbrev pub changed_in : StageView → (since : ℕ) → Result Listing LookFault

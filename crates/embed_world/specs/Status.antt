@@ -21,6 +21,10 @@ closed = 10
 abbrev pub out_of_range : ℕ
 out_of_range = 11
 
+-- there is no such node
+abbrev pub no_such_node : ℕ
+no_such_node = 23
+
 -- the node has no such field
 abbrev pub no_such_field : ℕ
 no_such_field = 24
@@ -44,6 +48,7 @@ status_of_look (Ok _) = 0
 status_of_look (Err look.Spoiled) = 20
 status_of_look (Err look.NoSuchNode) = 23
 status_of_look (Err look.NoSuchField) = 24
+status_of_look (Err look.NoValue) = 28
 status_of_look (Err look.Memory) = 5
 
 abbrev pub status_of_place : Result (Unit {0}) PlaceFault → ℕ

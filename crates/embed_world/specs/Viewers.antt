@@ -1,11 +1,16 @@
 -- What the calls on an embedded viewer answer, and the viewer that they leave.
-use Rattle.std.specs.Prelude.{◌≡◌, ℕ, ℤ, List, [], Option, None, Result, IfOk, OnErr, unwrap_or}
+use Rattle.std.specs.Prelude.{◌≡◌, ◌⊎◌, ℕ, ℤ, List, [], Option, None, Result, IfErr, IfOk, IsSomeAnd, OnErr, OnOk, slice_get, unwrap_or}
 use Rattle.std.specs.Option.{option_map}
 use Rattle.std.specs.Result.{result_map_both}
 use Rattle.sha2.specs.Sha256.{sha256}
 use Rattle.cascade_core.specs.Apply.{opening}
 use Rattle.cascade_core.specs.Course.{Scripted}
 use Rattle.cascade_core.specs.Held.{StageView}
+use Rattle.cascade_core.specs.Installing.{RefusesBox}
+use Rattle.cascade_core.specs.Scripts.{kinds_in, scripts_in}
+use Rattle.cascade_core.specs.declared.fault.PlaceFault.{PlaceFault}
+use Rattle.cascade_core.specs.declared.fault.PlaceFault.TheVariants as place
+use Rattle.x3d_values.specs.declared.script.Kind.{Kind}
 use Rattle.x3d_lists.specs.Answers.{Gives}
 use Rattle.x3d_values.specs.declared.pointing.Point.{Point}
 use Rattle.app_jobs.specs.declared.fault.JobFault.{JobFault}
@@ -24,7 +29,7 @@ use Rattle.share_law.specs.declared.reply.Gathered.{Gathered}
 use Rattle.share_law.specs.declared.reply.Taken.{Taken}
 use Rattle.share_core.specs.Pieces.{count_of, piece_of}
 use Rattle.share_core.specs.Rewinds.{IsJoined, IsRewound}
-use Rattle.share_core.specs.Viewer.{ViewerView, machine_of, stage_in, with_gathering, with_state}
+use Rattle.share_core.specs.Viewer.{ViewerView, held_in, machine_of, stage_in, with_gathering, with_state}
 use Rattle.snapshot_core.specs.declared.fault.SaveFault.{SaveFault}
 use Rattle.snapshot_core.specs.declared.fault.SaveFault.TheVariants as save
 use Rattle.snapshot_core.specs.declared.fault.SnapFault.{SnapFault}
@@ -167,3 +172,13 @@ Saves old result new =
     (snapshot_in (stage_in old.viewer) old.viewer.mark old.viewer.state.boot)
     × OnErr result (new.text.items ≡ [])
     × (new ≡ record old { text = new.text })
+
+-- a box of this kind replaced script k, or was refused, and the viewer is unchanged
+abbrev pub Replaces : EmbeddedViewer → (k : ℕ) → Kind → Result (Unit {0}) PlaceFault
+    → EmbeddedViewer → Type 0
+Replaces old k kind result new =
+    (new ≡ old)
+    × OnOk result (IsSomeAnd (slice_get (kinds_in old.viewer.scene) k) (λ own. kind ≡ own))
+    × IfErr result (λ fault. (fault ≡ place.Memory)
+    ⊎ RefusesBox fault (held_in old.viewer.state.view)
+    (slice_get (scripts_in old.viewer.scene) k) kind)

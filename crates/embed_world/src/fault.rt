@@ -14,8 +14,10 @@ pub enum LookFault {
     Spoiled,
     #[error("there is no node of that number")]
     NoSuchNode,
-    #[error("the node has no field of that number, or it holds no value")]
+    #[error("the node has no field of that number")]
     NoSuchField,
+    #[error("the field holds no value")]
+    NoValue,
     #[error("memory was refused")]
     Memory,
 }

@@ -4,7 +4,7 @@
 //! |---|---|
 //! | `world`, `opening`, `input`, `scripts`, `shots` | a world: made, moved on, saved, loaded |
 //! | `host`, `viewer`, `pieces`, `datagram` | a host and a viewer, and what they send |
-//! | `texts`, `lists`, `viewer_texts`, `viewer_lists` | reads of them, as texts and numbers |
+//! | `texts`, `lists`, `viewer_texts`, `viewer_lists`, `asks` | reads of them, as texts and numbers |
 //! | `changed` | the fields that were set after an input |
 //! | `lines`, `meet`, `named` | what a read looks up |
 //! | `status`, `peer_status`, `tell`, `buffers`, `aim` | how C sees an answer, and what it passes |
@@ -12,6 +12,7 @@
 #![tactic(auto)]
 
 mod aim;
+mod asks;
 mod buffers;
 mod changed;
 mod datagram;
@@ -36,15 +37,19 @@ mod viewer_texts;
 mod world;
 
 pub use aim::Aim;
+pub use asks::{tell_field_type, tell_node, tell_time};
 pub use buffers::{copy_changes, copy_numbers, copy_text, hand_out};
 pub use changed::write_changed;
 pub use datagram::{DatagramAs, read_datagram};
 pub use embed_changes::Change;
+pub use embed_scene::FieldAs;
 pub use fault::LookFault;
 pub use host::EmbeddedHost;
 pub use input::{pointer_of, stamped};
 pub use lines::{push_changes, push_lines};
-pub use lists::{ListEntry, write_children, write_numbers, write_roots, write_sensors};
+pub use lists::{
+    ListEntry, write_children, write_numbers, write_roots, write_scripts, write_sensors,
+};
 pub use meet::{Meeting, met_by};
 pub use named::number_named;
 pub use peer_status::{NO_PACKET, status_of_floor, status_of_size};

@@ -10,8 +10,10 @@ use crate::meet::met_by;
 use crate::world::EmbeddedWorld;
 use cascade_core::Stage;
 use embed_changes::{push_nodes, push_numbers, value_now};
+use embed_scene::push_scripts;
 use scene_core::Scene;
 use script_boxes::StockScript;
+use std::alloc::Global;
 use x3d_values::Ray;
 
 /// Where a ray enters a box: at `n / m` of the way along its direction. `m` is above 0.
@@ -50,6 +52,29 @@ pub fn write_children(scene: &Scene, node: u32, out: &mut Vec<i64>) -> Result<()
     Ok(())
 }
 
+/// Returns why a field has no value: there is no such field, or it only sends or takes events.
+pub(crate) fn value_fault(scene: &Scene, node: u32, field: u16) -> LookFault
+    ensures { result ≡ spec.value_fault scene.now node field }
+{
+    if u32::from(field) < scene.field_count(node) {
+        return LookFault::NoValue;
+    }
+    LookFault::NoSuchField
+}
+
+/// Writes the node and the kind of each script to an empty list.
+pub fn write_scripts(alloc: Global, scene: &Scene, out: &mut Vec<i64>) -> Result<(), LookFault>
+    requires empty { out.old.items ≡ [] }
+    ensures is { Gives Memory (λ _. out.new.items) result (spec.scripts_listed scene.now) }
+    ensures err { OnErr result (out.new.items ≡ []) }
+{
+    let Ok(()) = push_scripts(alloc, scene, out) else {
+        out.clear();
+        return Err(LookFault::Memory);
+    };
+    Ok(())
+}
+
 /// Writes the numbers of a field's current value to an empty list.
 pub fn write_numbers(
     stage: &Stage<StockScript>,
@@ -65,7 +90,7 @@ pub fn write_numbers(
         return Err(LookFault::Spoiled);
     };
     let Some(value) = value_now(stage.scene(), world.fields.as_slice(), node, field) else {
-        return Err(LookFault::NoSuchField);
+        return Err(value_fault(stage.scene(), node, field));
     };
     let Ok(()) = push_numbers(value, out) else {
         out.clear();
@@ -123,12 +148,22 @@ impl EmbeddedWorld {
 
     /// Lists the numbers of a field's current value: truths as 1 and 0, integers, millionths and
     /// microseconds unchanged, vectors and colors part by part, nodes as their numbers. A text has
-    /// none. Fails with `Spoiled`, `NoSuchField` or `Memory`.
+    /// none. Fails with `Spoiled`, `NoSuchField`, `NoValue` or `Memory`.
     pub fn list_value(&mut self, node: u32, field: u16) -> Result<(), LookFault>
         ensures { Lists (spec.numbers_in self.old.stage node field) self.old result self.new }
     {
         self.numbers.clear();
         write_numbers(&self.stage, node, field, &mut self.numbers)
+    }
+
+    /// Lists the node and the kind of each script that the scene runs, in the order of their
+    /// numbers. Fails with `Memory`.
+    pub fn list_scripts(&mut self) -> Result<(), LookFault>
+        ensures { Lists (spec.scripts_listed self.old.stage.scene) self.old result self.new }
+    {
+        self.numbers.clear();
+        let alloc = self.stage.allocator();
+        write_scripts(alloc, self.stage.scene(), &mut self.numbers)
     }
 
     /// Returns where a ray would enter the box that it hits first, if it hits one, and lists the

@@ -29,13 +29,15 @@ const NOT_NEXT: u8 = 21;
 
 pub const TIME_NOT_LATER: u8 = 22;
 
-const NO_SUCH_NODE: u8 = 23;
+pub const NO_SUCH_NODE: u8 = 23;
 
 pub const NO_SUCH_FIELD: u8 = 24;
 
 const NO_SUCH_SCRIPT: u8 = 26;
 
 const KIND_DIFFERS: u8 = 27;
+
+const NO_VALUE: u8 = 28;
 
 const SHORT: u8 = 30;
 
@@ -74,6 +76,7 @@ pub fn status_of_look(answer: Result<(), LookFault>) -> u8
         Err(LookFault::Spoiled) => SPOILED,
         Err(LookFault::NoSuchNode) => NO_SUCH_NODE,
         Err(LookFault::NoSuchField) => NO_SUCH_FIELD,
+        Err(LookFault::NoValue) => NO_VALUE,
         Err(LookFault::Memory) => MEMORY,
     }
 }

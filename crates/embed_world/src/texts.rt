@@ -7,6 +7,7 @@ ghost use Rattle.embed_world.specs.declared.fault.LookFault.TheVariants.{Memory}
 
 use crate::fault::LookFault;
 use crate::lines::{push_changes, push_lines};
+use crate::lists::value_fault;
 use crate::world::EmbeddedWorld;
 use cascade_core::{Stage, TextFault};
 use embed_changes::value_now;
@@ -115,7 +116,7 @@ pub fn write_value(
         return Err(LookFault::Spoiled);
     };
     let Some(value) = value_now(stage.scene(), world.fields.as_slice(), node, field) else {
-        return Err(LookFault::NoSuchField);
+        return Err(value_fault(stage.scene(), node, field));
     };
     show_value(value, out)?;
     Ok(())
@@ -177,7 +178,7 @@ impl EmbeddedWorld {
     }
 
     /// Makes the text of a field's current value, such as `0 1.5 0`. A node has no text. Fails with
-    /// `Spoiled`, `NoSuchField` or `Memory`.
+    /// `Spoiled`, `NoSuchField`, `NoValue` or `Memory`.
     pub fn make_value(&mut self, node: u32, field: u16) -> Result<(), LookFault>
         ensures { Makes (spec.value_in self.old.stage node field) self.old result self.new }
     {

@@ -1,7 +1,9 @@
 //! The numbers of a viewer's world.
 
 use crate::fault::LookFault;
-use crate::lists::{ListEntry, write_children, write_numbers, write_roots, write_sensors};
+use crate::lists::{
+    ListEntry, write_children, write_numbers, write_roots, write_scripts, write_sensors,
+};
 use crate::viewer::EmbeddedViewer;
 use x3d_values::Ray;
 
@@ -35,6 +37,15 @@ impl EmbeddedViewer {
     {
         self.numbers.clear();
         write_numbers(self.viewer.stage(), node, field, &mut self.numbers)
+    }
+
+    /// Lists the node and the kind of each script that the scene runs. Fails with `Memory`.
+    pub fn list_scripts(&mut self) -> Result<(), LookFault>
+        ensures { Lists (look.scripts_listed self.old.viewer.scene) self.old result self.new }
+    {
+        self.numbers.clear();
+        let alloc = self.viewer.stage().allocator();
+        write_scripts(alloc, self.viewer.stage().scene(), &mut self.numbers)
     }
 
     /// Returns where a ray would enter the box that it hits first, if it hits one, and lists the
