@@ -131,6 +131,7 @@ fn hosts(alloc: Global, bytes: &[u8], port: &mut Between<'_>) -> bool {
         viewers: Some(2),
         turns: Some(TURNS),
         keep: None,
+        every: None,
         until: None,
         verbose: false,
     });
