@@ -11,8 +11,8 @@ ghost use Rattle.app_words.specs.Commands.{part_app};
 
 use crate::options::{
     AT, BOOT, EXACTLY, FlagOption, GIVE, GIVE_TURNS, HOST_TURNS, HOST_UNTIL, HOST_VIEWERS, JOIN,
-    KEEP, LIST, LOG, NEW_LOG, NumberOption, PORT, RECALL_UNTIL, TURNS, TextOption, VERBOSE,
-    VIEW_UNTIL, VIEWERS, WHO, flag_arg, number_arg, text_arg,
+    KEEP, KEEP_NAMES, LIST, LOG, NEW_LOG, NumberOption, PORT, RECALL_UNTIL, TURNS, TextOption,
+    VERBOSE, VIEW_UNTIL, VIEWERS, WHO, flag_arg, number_arg, text_arg,
 };
 use clap::Command;
 use std::alloc::{AllocError, Global};
@@ -177,14 +177,16 @@ Nodes, fields and statements that the core doesn't have are left out, with all t
 so is what `check` refuses. The rest, which `check` calls good, is printed. A line for each thing
 that was left out is printed on standard error, and a last line with their number.
 With --list these lines alone are printed, on standard output.
+With --keep-names FILE the part is refused if no node in it has the name of a line of FILE after
+DEF. A second line has that name, and what it went with.
 
 Example:
   x3d_share part < room.wrl > room.x3dv
 
 Status:
   0  the part is printed
-  1  the text is refused, or its part passes a limit
-  2  the words are refused
+  1  the text is refused, or its part passes a limit or lacks a name
+  2  the words are refused, or the file of names can't be read
   4  a device failed
   5  memory ran out";
 
@@ -270,7 +272,7 @@ static COMMANDS: [CommandWords; 9] = [
         about: "Print the part of a text that is a scene, and what is left out on standard error",
         after_help: PART_HELP,
         options: &[],
-        texts: &[],
+        texts: &[KEEP_NAMES],
         flags: &[LIST],
     },
 ];
