@@ -1,2 +1,4 @@
 pub mod Mended
+pub mod Names
 pub mod Parting
+pub mod Texts

@@ -5,7 +5,7 @@ use Rattle.classic_part.specs.declared.knowing.Refusal.{Refusal}
 use Rattle.app_jobs.specs.declared.fault.JobFault.{JobFault}
 use Rattle.app_jobs.specs.declared.fault.JobFault.TheVariants.{Memory}
 use Rattle.app_part.specs.Mends.{mend}
-use Rattle.app_part.specs.Parts.{Mending, begun, more, IsNoTry, IsTurnedDown}
+use Rattle.app_part.specs.Parts.{Mending, begun, more, IsNoTry, IsTurnedDown, no_part}
 use Rattle.app_part.specs.Whole.{IsOneMore, IsLast, IsStuck, IsUnmended}
 use Rattle.app_part.specs.declared.part.Mends.{Mends}
 
@@ -28,14 +28,15 @@ mended_more d old new seen fault same before (inr turned) one =
     (subst (λ f. Mending d (old.refused ++ one.refusal ∷ []) f) (sym one.faults)
     (more before down one.found))
 
-pub stuck : (d : Document) (old new : Mends) (seen : List Refusal) (fault answer : JobFault)
+pub stuck : (d : Document) (old : Mends) (seen : List Refusal) (fault answer : JobFault)
     → seen ≡ old.refused → Mending d old.refused old.faults
     → IsNoTry fault ⊎ IsTurnedDown d seen fault
-    → (answer ≡ Memory) ⊎ IsLast old new fault answer → IsUnmended d answer
-stuck d old new seen fault answer same before why (inl is) = inl is
-stuck d old new seen fault answer same before (inl (inl is)) (inr last) = inl (last.is ∙ is)
-stuck d old new seen fault answer same before (inl (inr is)) (inr last) = inr (inl (last.is ∙ is))
-stuck d old new seen fault answer same before (inr turned) (inr last) =
+    → (answer ≡ Memory) ⊎ ((answer ≡ no_part) ⊎ IsLast old fault answer) → IsUnmended d answer
+stuck d old seen fault answer same before why (inl is) = inl is
+stuck d old seen fault answer same before why (inr (inl is)) = inr (inl is)
+stuck d old seen fault answer same before (inl (inl is)) (inr (inr last)) = inl (last.is ∙ is)
+stuck d old seen fault answer same before (inl (inr is)) (inr (inr last)) = inr (inl (last.is ∙ is))
+stuck d old seen fault answer same before (inr turned) (inr (inr last)) =
     let down : IsTurnedDown d old.refused fault = subst (λ r. IsTurnedDown d r fault) same turned in
     inr (inr (subst (λ f. IsStuck d f) (sym last.is) (record {
       refused = old.refused;
@@ -43,6 +44,7 @@ stuck d old new seen fault answer same before (inr turned) (inr last) =
       mending = before;
       turned_down = down;
       none = last.none;
+      limit = last.limit;
     })))
 
 -- at first nothing is refused

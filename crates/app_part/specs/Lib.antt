@@ -1,3 +1,5 @@
+pub mod Kept
+pub mod Laws
 pub mod Listing
 pub mod Mends
 pub mod Order

@@ -1,7 +1,10 @@
 -- Which parts of a fault's line are left out (our choice): the part that the fault is of; if that
 -- was left out before, another that begins on the line.
-use Rattle.std.specs.Prelude.{ℕ, List, [], ◌∷◌, Option, Some, None, if◌then◌else◌}
+use Rattle.std.specs.Prelude.{ℕ, Bool, false, not, List, [], ◌∷◌, Option, Some, None, ◌&&◌, ◌==◌, length, if◌then◌else◌}
 use Rattle.std.specs.List.{list_any}
+use denote.Enum.Bare.{sameb}
+use Rattle.classic_text.specs.contracts.fault.ReadFaultKind as reads
+use Rattle.classic_text.specs.declared.fault.ReadFaultKind.TheVariants.{Unsupported}
 use Rattle.classic_part.specs.declared.knowing.Level.{Level}
 use Rattle.classic_part.specs.declared.knowing.Level.TheVariants as level
 use Rattle.classic_part.specs.declared.knowing.Refusal.{Refusal}
@@ -80,3 +83,13 @@ first_left line refused (l ∷ ls) =
 -- what to refuse besides these for a fault, if anything is left to refuse
 abbrev pub mend : List Refusal → JobFault → Option Refusal
 mend refused fault = first_left (job_fault_line fault) refused (levels_of fault)
+
+-- ---- which faults a part is refused for
+
+abbrev pub is_unsupported : JobFault → Bool
+is_unsupported (job.Read fault) = sameb reads.the_type fault.kind Unsupported
+is_unsupported _ = false
+
+-- a limit, memory, a device, or a fault of the characters or the grammar of a text
+abbrev pub is_limit : JobFault → Bool
+is_limit fault = length (levels_of fault) == 0 && not (is_unsupported fault)

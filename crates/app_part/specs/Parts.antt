@@ -14,9 +14,10 @@ use Rattle.app_program.specs.Opening.{opened_document}
 use Rattle.app_program.specs.declared.open.OpenedScene.{OpenedScene}
 use Rattle.app_part.specs.Mends.{mend}
 
--- the fault of a document whose rounds or tries have no end
-abbrev pub endless : JobFault
-endless = Expand (record { kind = TooLarge; line = 0 })
+-- the fault of a text of which no part was found: its rounds or tries have no end, nothing is left
+-- to leave out for a fault, or the text of the part is another when it is read and written again
+abbrev pub no_part : JobFault
+no_part = Expand (record { kind = TooLarge; line = 0 })
 
 -- what stays of a document without what is refused, with the notes on what goes
 pub record IsPart (document : Document) (refused : List Refusal) (left : List Note)
@@ -49,9 +50,9 @@ pub record IsTurnedDown (document : Document) (refused : List Refusal) (fault : 
   pub settled : IsPart document refused left part
   pub bad : IsBad part fault
 
--- memory ran out, or the rounds have no end
+-- memory ran out, or no part was found
 abbrev pub IsNoTry : JobFault → Type 0
-IsNoTry fault = (fault ≡ Memory) ⊎ (fault ≡ endless)
+IsNoTry fault = (fault ≡ Memory) ⊎ (fault ≡ no_part)
 
 -- What is refused of a document, and the faults for which: nothing, or one thing more for the fault
 -- of the part without the others.

@@ -4,10 +4,16 @@
 //! |---|---|
 //! | `mends` | which parts of a line are left out for a fault |
 //! | `tries`, `part` | parts without those, again and again until one is a scene |
+//! | `checks` | whether the text of a part is a scene |
+//! | `laws` | laws of parts |
 //! | `order`, `words`, `told`, `list` | the lines on what was left out |
+//! | `kept` | names of nodes that have to stay |
 //! | `streams` | from a reader to both texts |
 #![tactic(auto)]
 
+mod checks;
+mod kept;
+mod laws;
 mod list;
 mod mends;
 mod order;
@@ -17,7 +23,9 @@ mod told;
 mod tries;
 mod words;
 
+pub use kept::first_lost;
+pub use laws::{parts_are_their_parts, refusals_are_limits, scenes_are_their_parts};
 pub use list::told_text;
 pub use order::ordered;
 pub use part::{ScenePart, part_of_text};
-pub use streams::{PartTexts, read_part};
+pub use streams::{KeptTexts, PartTexts, read_part, read_part_keeping};

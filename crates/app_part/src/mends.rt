@@ -8,6 +8,7 @@ ghost use Rattle.app_part.specs.Mends as spec;
 
 use app_jobs::JobFault;
 use classic_part::{Level, Refusal};
+use classic_text::ReadFaultKind;
 use proto_flat::ExpandFaultKind;
 use route_core::RouteFaultKind;
 use scene_core::SceneFaultKind;
@@ -161,4 +162,21 @@ pub(crate) fn mend(refused: &[Refusal], fault: &JobFault) -> Option<Refusal>
     ensures { result ≡ spec.mend refused.now fault.now }
 {
     first_left(levels_of(fault), refused, line_of(fault))
+}
+
+fn is_unsupported(fault: &JobFault) -> bool
+    ensures { result ≡ spec.is_unsupported fault.now }
+{
+    match fault {
+        JobFault::Read(fault) => fault.kind == ReadFaultKind::Unsupported,
+        _ => false,
+    }
+}
+
+/// Reports whether a part is refused for such a fault: a limit, memory, a device, or a fault of the
+/// characters or the grammar of a text.
+pub(crate) fn is_limit(fault: &JobFault) -> bool
+    ensures { result ≡ spec.is_limit fault.now }
+{
+    levels_of(fault).len() == 0 && !is_unsupported(fault)
 }

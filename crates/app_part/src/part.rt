@@ -1,18 +1,21 @@
 //! The part of a text that is a scene.
 
-ghost use Rattle.std.specs.Prelude.{◌≡◌, ◌⊎◌, IfOk, IfErr};
+ghost use Rattle.std.specs.Prelude.{◌≡◌, ◌⊎◌, Err, IfOk, IfErr};
 ghost use Rattle.app_jobs.specs.declared.fault.JobFault.TheVariants.{Memory};
+ghost use Rattle.app_program.specs.Opening.{opened};
 ghost use Rattle.app_part.specs.Parts as spec;
 ghost use Rattle.app_part.specs.Whole as whole;
 
+use crate::checks::{answer, checked};
 use crate::mends::mend;
-use crate::tries::{Made, endless, tried};
+use crate::tries::{Made, no_part, text_of, tried};
 use app_jobs::JobFault;
 use app_program::open_scene;
 use classic_lenient::{Lenient, Unread, read_lenient};
 use classic_part::{Note, Refusal};
+use classic_text::read;
 use classic_tree::Document;
-use std::alloc::{AllocError, Global};
+use std::alloc::Global;
 use x3d_values::Items;
 
 /// How often a fault's part is left out.
@@ -35,14 +38,15 @@ pub(crate) struct Mends {
     pub faults: Items<JobFault>,
 }
 
-/// Refuses one thing more for a fault. Fails with that fault if nothing is left to refuse.
+/// Refuses one thing more for a fault. Fails with that fault if nothing is left to refuse, and it
+/// is a limit.
 fn refuse_more(mends: &mut Mends, fault: JobFault) -> Result<(), JobFault>
     ensures more { IfOk result (λ _. whole.IsOneMore mends.old mends.new fault) }
     ensures refused { IfErr result (λ f. (f ≡ Memory)
-        ⊎ whole.IsLast mends.old mends.new fault f) }
+        ⊎ ((f ≡ spec.no_part) ⊎ whole.IsLast mends.old fault f)) }
 {
     let Some(refusal) = mend(mends.refused.as_slice(), &fault) else {
-        return Err(fault);
+        return Err(answer(fault));
     };
     mends.refused.push(refusal)?;
     mends.faults.push(fault)?;
@@ -62,7 +66,7 @@ fn mended(alloc: Global, document: &Document, mends: &mut Mends) -> Result<Made,
             Err(fault) => refuse_more(mends, fault)?,
         }
     }
-    Err(endless())
+    Err(no_part())
 }
 
 /// Returns the part of a text's document.
@@ -94,35 +98,70 @@ fn part_of_document(alloc: Global, lenient: Lenient) -> Result<ScenePart, JobFau
     }
 }
 
-/// Returns a part whose text is a scene.
-fn checked(alloc: Global, part: ScenePart) -> Result<ScenePart, JobFault>
-    ensures same { IfOk result (λ p. p ≡ part) }
-    ensures good { IfOk result (λ p. whole.IsScene p.text.items) }
-    ensures refused { IfErr result (λ f. (f ≡ Memory) ⊎ whole.IsNoScene part f) }
+/// Returns the part of a text that is no scene, for the fault `first`.
+fn lesser_part(alloc: Global, text: &[u8], first: JobFault) -> Result<ScenePart, JobFault>
+    ensures made { IfOk result (λ p. opened text.now ≡ Err first
+        → whole.IsLessPart text.now p) }
+    ensures refused { IfErr result (λ f. opened text.now ≡ Err first → whole.IsRefused text.now f) }
 {
-    match open_scene(alloc, part.text.as_slice()) {
+    match read_lenient(alloc, text) {
+        Ok(lenient) => part_of_document(alloc, lenient),
+        Err(fault) => Err(JobFault::from(fault)),
+    }
+}
+
+/// Returns the text of a document, of which nothing is left out.
+fn written_part(alloc: Global, text: &[u8]) -> Result<ScenePart, JobFault>
+    ensures made { IfOk result (whole.IsWhole text.now) }
+    ensures refused { IfErr result (λ f. (f ≡ Memory) ⊎ whole.IsUnread text.now f) }
+{
+    let document = read(alloc, text)?;
+    let written = text_of(alloc, &document);
+    drop(document);
+    Ok(ScenePart {
+        text: written?,
+        unread: Items::new(alloc),
+        left: Items::new(alloc),
+        faults: Items::new(alloc),
+    })
+}
+
+fn is_memory(fault: JobFault) -> bool
+    ensures { result ≡ whole.says_memory fault }
+{
+    matches!(fault, JobFault::Memory)
+}
+
+/// Returns the part of a text.
+fn draft(alloc: Global, text: &[u8]) -> Result<ScenePart, JobFault>
+    ensures made { IfOk result (whole.IsPartOfText text.now) }
+    ensures refused { IfErr result (whole.IsRefused text.now) }
+{
+    match open_scene(alloc, text) {
         Ok(opened) => {
             drop(opened);
-            Ok(part)
+            written_part(alloc, text)
         }
         Err(fault) => {
-            drop(part);
-            Err(fault)
+            if is_memory(fault) {
+                return Err(JobFault::Memory);
+            }
+            lesser_part(alloc, text, fault)
         }
     }
 }
 
-/// Returns the part of a text that is a scene, as `check` takes it, and what was left out of it.
+/// Returns the part of a text that is a scene, as `check` takes it, and what was left out of it. A
+/// scene is its own part.
 ///
 /// Fails with the first fault of the text if it is no document even without the statements that
-/// aren't read; with a fault of the part of which nothing is left to refuse, such as a limit; or
-/// with `Memory` if memory runs out.
+/// aren't read; with a limit that the part passes; with `TooLarge` on line 0 if no part is found;
+/// or with `Memory` if memory runs out.
 pub fn part_of_text(alloc: Global, text: &[u8]) -> Result<ScenePart, JobFault>
     ensures made { IfOk result (whole.IsPartOfText text.now) }
     ensures good { IfOk result (λ p. whole.IsScene p.text.items) }
     ensures refused { IfErr result (whole.IsRefused text.now) }
 {
-    let lenient = read_lenient(alloc, text)?;
-    let part = part_of_document(alloc, lenient)?;
+    let part = draft(alloc, text)?;
     checked(alloc, part)
 }

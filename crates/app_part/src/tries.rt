@@ -20,9 +20,9 @@ pub(crate) struct Made {
     pub left: Items<Note>,
 }
 
-/// Returns the fault of a document whose rounds or tries have no end.
-pub(crate) fn endless() -> JobFault
-    ensures { result ≡ spec.endless }
+/// Returns the fault of a text of which no part was found.
+pub(crate) fn no_part() -> JobFault
+    ensures { result ≡ spec.no_part }
 {
     JobFault::Expand(ExpandFault {
         kind: ExpandFaultKind::TooLarge,
@@ -39,16 +39,16 @@ fn settled(
 ) -> Result<Document, JobFault>
     requires { left.old ≡ [] }
     ensures made { IfOk result (spec.IsPart document.now refused.now left.new) }
-    ensures refused { IfErr result (λ f. (f ≡ Memory) ⊎ (f ≡ spec.endless)) }
+    ensures refused { IfErr result (λ f. (f ≡ Memory) ⊎ (f ≡ spec.no_part)) }
 {
     match part_of(alloc, document, refused, left)? {
         Some(round) => Ok(round.document),
-        None => Err(endless()),
+        None => Err(no_part()),
     }
 }
 
 /// Tells whether a document is a scene.
-fn judged(alloc: Global, document: Document) -> Result<(), JobFault>
+pub(crate) fn judged(alloc: Global, document: Document) -> Result<(), JobFault>
     ensures good { OnOk result (spec.IsGood document) }
     ensures bad { IfErr result (λ f. (f ≡ Memory) ⊎ spec.IsBad document f) }
 {
@@ -61,7 +61,8 @@ fn judged(alloc: Global, document: Document) -> Result<(), JobFault>
     }
 }
 
-fn text_of(alloc: Global, document: &Document) -> Result<Vec<u8>, AllocError>
+/// Returns the text of a document.
+pub(crate) fn text_of(alloc: Global, document: &Document) -> Result<Vec<u8>, AllocError>
     ensures { IfOk result (λ v. v.items ≡ document_text document.now) }
 {
     let mut text = Vec::new(alloc);

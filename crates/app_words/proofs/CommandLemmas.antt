@@ -12,8 +12,14 @@ pub one_more : {X Y : Type 0} (f : Y → X → Y) (a : Y) (xs : List X) (i : ℕ
 one_more f a xs i d now next small e step =
     step ∙ ap (λ y. f y (get_or xs i d)) e ∙ sym (fold_more f a xs i d small)
 
-pub all_commands : (ws : List CommandWords)
-    → map app_with ws ≡ run_app ∷ format_app ∷ check_app ∷ rehearse_app ∷ agree_app ∷ host_app ∷ view_app ∷ recall_app ∷ part_app ∷ []
-    → fold (λ a w. with_command a (app_with w)) bare_program ws ≡ program
-unfolding program logged_program shared_program local_program single_program
-all_commands ws e = sym (fold-map with_command app_with bare_program ws) ∙ ap (fold with_command bare_program) e
+pub first_commands : (ws : List CommandWords)
+    → map app_with ws ≡ run_app ∷ format_app ∷ check_app ∷ rehearse_app ∷ agree_app ∷ []
+    → fold (λ a w. with_command a (app_with w)) bare_program ws ≡ local_program
+unfolding local_program single_program
+first_commands ws e = sym (fold-map with_command app_with bare_program ws) ∙ ap (fold with_command bare_program) e
+
+pub other_commands : (ws : List CommandWords)
+    → map app_with ws ≡ host_app ∷ view_app ∷ recall_app ∷ part_app ∷ []
+    → fold (λ a w. with_command a (app_with w)) local_program ws ≡ program
+unfolding program logged_program shared_program
+other_commands ws e = sym (fold-map with_command app_with local_program ws) ∙ ap (fold with_command local_program) e

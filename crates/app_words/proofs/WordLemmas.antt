@@ -11,7 +11,7 @@ use Rattle.app_words.specs.Commands.{program, logged_program, shared_program, lo
 use Rattle.app_words.specs.Commands.{run_app, format_app, check_app, rehearse_app, agree_app, host_app}
 use Rattle.app_words.specs.Commands.{view_app, recall_app, part_app}
 use Rattle.app_words.specs.Request.{RequestsNothing}
-use Rattle.app_words.specs.Words.{Asks, Means, IsText, IsRefusal, AsksForText, AsksOnlyForText, log_file_named}
+use Rattle.app_words.specs.Words.{Asks, Means, IsText, IsRefusal, AsksForText, AsksOnlyForText, log_file_named, names_file_named}
 
 program_is_simple : is_simple_and_free program ≡ true
 unfolding program logged_program shared_program local_program single_program bare_program run_app format_app check_app rehearse_app agree_app host_app view_app recall_app part_app
@@ -99,6 +99,13 @@ pub file_named : (a : App) (words : List Text) (rows : Option (Text × List Row)
 file_named a words rows file e found named =
     let same : rows ≡ subcommand_of program words = rw e at (found (rw e program_is_plain)) in
     named ∙ ap log_file_named same
+
+pub names_named : (a : App) (words : List Text) (rows : Option (Text × List Row)) (file : Option Text) → a ≡ program
+    → (is_simple a ≡ true → rows ≡ subcommand_of a words) → file ≡ names_file_named rows
+    → file ≡ names_file_named (subcommand_of program words)
+names_named a words rows file e found named =
+    let same : rows ≡ subcommand_of program words = rw e at (found (rw e program_is_plain)) in
+    named ∙ ap names_file_named same
 
 pub file_refused : (a : App) (words : List Text) (k said : ErrorKind) (f : OrderFault) → a ≡ program → IsAnswered a words k → said ≡ k
     → (f ≡ fault.Memory) ⊎ ((f ≡ fault.Words) × (said ≢ kind.OutOfMemory))

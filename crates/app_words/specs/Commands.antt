@@ -7,7 +7,7 @@ use Rattle.app_words.specs.Options.{viewers_rule, turns_rule, port_rule, keep_ru
 use Rattle.app_words.specs.Options.{until_rule}
 use Rattle.app_words.specs.Options.{who_rule, boot_rule, exactly_rule, at_rule, give_rule}
 use Rattle.app_words.specs.Options.{give_turns_rule, host_viewers_rule, host_turns_rule}
-use Rattle.app_words.specs.Options.{log_rule, new_log_rule, text_rule}
+use Rattle.app_words.specs.Options.{log_rule, new_log_rule, keep_names_rule, text_rule}
 use Rattle.app_words.specs.Options.{join_rule, info_rule, list_rule, verbose_rule, number_rule, flag_rule}
 use Rattle.app_words.specs.declared.commands.CommandWords.{CommandWords}
 use Rattle.app_words.specs.declared.options.FlagOption.{FlagOption}
@@ -64,9 +64,9 @@ view_app = taking (codes "view")
 unfoldable pub recall_app : App
 recall_app = taking (codes "recall") (until_rule ∷ info_rule ∷ [])
 
--- `part --list`
+-- `part --keep-names FILE --list`
 unfoldable pub part_app : App
-part_app = taking (codes "part") (list_rule ∷ [])
+part_app = taking (codes "part") (keep_names_rule ∷ list_rule ∷ [])
 
 -- the program with the commands that take no options; then with `rehearse` and `agree`; then with
 -- `host` and `view`; with `recall`; then with all

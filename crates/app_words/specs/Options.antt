@@ -46,6 +46,10 @@ log_rule = option (codes "log")
 abbrev pub new_log_rule : Rule
 new_log_rule = option (codes "new-log")
 
+-- `--keep-names FILE`
+abbrev pub keep_names_rule : Rule
+keep_names_rule = option (codes "keep-names")
+
 -- `--port P`, from 1 to 65535, required
 abbrev pub port_rule : Rule
 port_rule = record (ranged (codes "port") 1 65535) { required = true }

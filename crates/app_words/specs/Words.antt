@@ -136,6 +136,13 @@ abbrev pub log_file_named : Option (Text × List Row) → Option Text
 log_file_named None = None
 log_file_named (Some p) = log_file_in p.1
 
+-- ---- the names that have to stay in a part
+
+-- the name of the file of `--keep-names`, among the options of the command that words name
+abbrev pub names_file_named : Option (Text × List Row) → Option Text
+names_file_named None = None
+names_file_named (Some p) = first_of (codes "keep-names") p.1
+
 -- ---- orders
 
 -- the matches of `host` ask for this

@@ -4,6 +4,7 @@ ghost use Rattle.std.specs.Prelude.{◌≡◌, ℕ, Option, IfSome, IfNone, IsSo
 ghost use Rattle.clap.specs.Words.{rows_of, found_of, subcommand_rows_of};
 ghost use Rattle.app_words.specs.Words.{Asks, AsksHost, AsksView, IsEnd, end_of};
 ghost use Rattle.app_words.specs.Words.{log_file_in, log_file_named, log_use_in, log_use_of};
+ghost use Rattle.app_words.specs.Words.{names_file_named};
 ghost use Rattle.app_words.specs.Words.{IsViewers, IsTurns, IsGiveTurns, IsPort, IsWho, IsBoot};
 ghost use Rattle.app_words.specs.Words.{MayHaveAt, MayHaveEvery, MayHaveGive, MayHaveKeep};
 ghost use Rattle.app_words.specs.Words.{MayHaveTurns, MayHaveViewers};
@@ -415,6 +416,16 @@ pub fn log_file_in<'a>(matches: &ArgMatches<'a>) -> Option<&'a str>
 {
     match matches.subcommand() {
         Some((_name, found)) => log_file_of(found),
+        None => None,
+    }
+}
+
+/// Returns the file of names that the options of the subcommand name, if they do.
+pub fn names_file_in<'a>(matches: &ArgMatches<'a>) -> Option<&'a str>
+    ensures { option_map (λ s. s.now) result ≡ names_file_named (subcommand_rows_of matches.now) }
+{
+    match matches.subcommand() {
+        Some((_name, found)) => text_in(found, "keep-names"),
         None => None,
     }
 }

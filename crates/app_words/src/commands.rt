@@ -11,8 +11,8 @@ ghost use Rattle.app_words.specs.Commands.{part_app};
 
 use crate::options::{
     AT, BOOT, EVERY, EXACTLY, FlagOption, GIVE, GIVE_TURNS, HOST_TURNS, HOST_UNTIL, HOST_VIEWERS,
-    INFO, JOIN, KEEP, LIST, LOG, NEW_LOG, NumberOption, PORT, RECALL_UNTIL, TURNS, TextOption,
-    VERBOSE, VIEW_UNTIL, VIEWERS, WHO, flag_arg, number_arg, text_arg,
+    INFO, JOIN, KEEP, KEEP_NAMES, LIST, LOG, NEW_LOG, NumberOption, PORT, RECALL_UNTIL, TURNS,
+    TextOption, VERBOSE, VIEW_UNTIL, VIEWERS, WHO, flag_arg, number_arg, text_arg,
 };
 use clap::Command;
 use std::alloc::{AllocError, Global};
@@ -183,14 +183,16 @@ Nodes, fields and statements that the core doesn't have are left out, with all t
 so is what `check` refuses. The rest, which `check` calls good, is printed. A line for each thing
 that was left out is printed on standard error, and a last line with their number.
 With --list these lines alone are printed, on standard output.
+With --keep-names FILE the part is refused if no node in it has the name of a line of FILE after
+DEF. A second line has that name, and what it went with.
 
 Example:
   x3d_share part < room.wrl > room.x3dv
 
 Status:
   0  the part is printed
-  1  the text is refused, or its part passes a limit
-  2  the words are refused
+  1  the text is refused, or its part passes a limit or lacks a name
+  2  the words are refused, or the file of names can't be read
   4  a device failed
   5  memory ran out";
 
@@ -204,7 +206,8 @@ struct CommandWords {
     flags: &'static [FlagOption],
 }
 
-static COMMANDS: [CommandWords; 9] = [
+/// The commands that run in one process, in the order of help.
+static LOCAL_COMMANDS: [CommandWords; 5] = [
     CommandWords {
         name: "run",
         about: "Run a job, and print its trace and then the scene",
@@ -245,6 +248,10 @@ static COMMANDS: [CommandWords; 9] = [
         texts: &[],
         flags: &[],
     },
+];
+
+/// The other commands, in the order of help.
+static OTHER_COMMANDS: [CommandWords; 4] = [
     CommandWords {
         name: "host",
         about: "Number the inputs of viewers, and send them to each, over UDP",
@@ -276,17 +283,24 @@ static COMMANDS: [CommandWords; 9] = [
         about: "Print the part of a text that is a scene, and what is left out on standard error",
         after_help: PART_HELP,
         options: &[],
-        texts: &[],
+        texts: &[KEEP_NAMES],
         flags: &[LIST],
     },
 ];
 
-/// Returns the commands in the order of help.
-fn commands() -> &'static [CommandWords]
-    ensures { map app_with result.now ≡ run_app ∷ format_app ∷ check_app ∷ rehearse_app ∷ agree_app
-        ∷ host_app ∷ view_app ∷ recall_app ∷ part_app ∷ [] }
+/// Returns the first commands.
+fn local_commands() -> &'static [CommandWords]
+    ensures { map app_with result.now
+        ≡ run_app ∷ format_app ∷ check_app ∷ rehearse_app ∷ agree_app ∷ [] }
 {
-    &COMMANDS
+    &LOCAL_COMMANDS
+}
+
+/// Returns the commands after these.
+fn other_commands() -> &'static [CommandWords]
+    ensures { map app_with result.now ≡ host_app ∷ view_app ∷ recall_app ∷ part_app ∷ [] }
+{
+    &OTHER_COMMANDS
 }
 
 /// Builds a command with its options.
@@ -338,13 +352,27 @@ fn with_command<'a>(
     program.subcommand(command(alloc, words)?)
 }
 
+/// Adds commands to the program, in turn.
+fn with_commands<'a>(
+    program: Command<'a>,
+    alloc: Global,
+    commands: &[CommandWords],
+) -> Result<Command<'a>, AllocError>
+    ensures { IfOk result (λ c. app_of c
+        ≡ fold (λ a w. with_command a (app_with w)) (app_of program.entry) commands.now) }
+{
+    let mut program = program;
+    for words in commands {
+        program = with_command(program, alloc, words)?;
+    }
+    Ok(program)
+}
+
 /// Builds the program with all its commands. Fails if memory is refused.
 pub fn program_command<'a>(alloc: Global) -> Result<Command<'a>, AllocError>
     ensures { IfOk result (λ c. app_of c ≡ program) }
 {
-    let mut program = bare_command(alloc)?;
-    for words in commands() {
-        program = with_command(program, alloc, words)?;
-    }
-    Ok(program)
+    let bare = bare_command(alloc)?;
+    let local = with_commands(bare, alloc, local_commands())?;
+    with_commands(local, alloc, other_commands())
 }

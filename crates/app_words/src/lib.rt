@@ -14,4 +14,4 @@ mod words;
 pub use hint::hint_of;
 pub use laws::{help_and_version_are_asked_for, words_mean_one_order};
 pub use order::{HostOrder, LogUse, Order, OrderFault, Request, ViewEnd, ViewOrder};
-pub use words::{log_file_of, request_of};
+pub use words::{log_file_of, names_file_of, request_of};

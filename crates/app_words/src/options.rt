@@ -116,6 +116,12 @@ pub const NEW_LOG: TextOption = TextOption {
     help: "Makes a log in FILE, which is missing or empty",
 };
 
+pub const KEEP_NAMES: TextOption = TextOption {
+    name: "keep-names",
+    value: "FILE",
+    help: "Refuses a part that lacks a node with a name of FILE, one a line",
+};
+
 pub const KEEP: NumberOption = NumberOption {
     name: "keep",
     low: 0,

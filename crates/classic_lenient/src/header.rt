@@ -34,7 +34,7 @@ fn relabelled(alloc: Global, text: &[u8], mark: usize) -> Result<Vec<u8>, AllocE
 }
 
 /// Returns a text, under a header of X3D 3.0 if it had that of VRML 97.
-pub(crate) fn as_x3d(alloc: Global, text: &[u8]) -> Result<Vec<u8>, AllocError>
+pub fn as_x3d(alloc: Global, text: &[u8]) -> Result<Vec<u8>, AllocError>
     ensures { IfOk result (λ v. v.items ≡ spec.as_x3d text.now) }
 {
     let mark = mark_len(text);

@@ -18,6 +18,7 @@ mod pieces;
 mod reading;
 mod scan;
 
+pub use header::as_x3d;
 pub use laws::texts_that_are_read_stay;
 pub use pieces::bytes_at;
 pub use reading::{Lenient, read_lenient};

@@ -17,6 +17,10 @@ pub enum End {
     Log(LogFault),
     /// The last inputs are in the log or not, and no viewer was sent them.
     InDoubt,
+    /// The file of names that have to stay can't be read.
+    NoNames,
+    /// A part lacks a name that has to stay; this is already printed.
+    NameLost,
 }
 
 impl From<Failure> for End {
@@ -82,5 +86,10 @@ pub fn refuse<R: Eprint>(rt: &R, end: &End) -> ExitCode {
             let _told = rt.eprintln("the log is in doubt: start the host again with --log");
             status
         }
+        End::NoNames => {
+            let _told = rt.eprintln("refused NoNames");
+            ExitCode::from(2)
+        }
+        End::NameLost => ExitCode::from(1),
     }
 }

@@ -22,7 +22,9 @@ use crate::stack::has_room;
 use app_program::{
     Failure, RunFault, StreamFault, check_text, format_text, read_whole, run_job, write_whole,
 };
-use app_words::{HostOrder, LogUse, Order, OrderFault, Request, hint_of, log_file_of, request_of};
+use app_words::{
+    HostOrder, LogUse, Order, OrderFault, Request, hint_of, log_file_of, names_file_of, request_of,
+};
 use std::alloc::{AllocError, Global};
 use std::io::{self, Eprint};
 use std::process::ExitCode;
@@ -108,7 +110,7 @@ fn obey(rt: &HostRuntime, words: &[&str], order: Order) -> Result<(), End>
         Order::Host(asked) => host_as(rt, words, &order, &asked)?,
         Order::View(asked) => view(rt, &order, &asked)?,
         Order::Recall { until, info } => recall(rt, until, info)?,
-        Order::Part { list } => part(rt, list)?,
+        Order::Part { list } => part(rt, list, names_file_of(rt.alloc(), words)?)?,
     }
     Ok(())
 }

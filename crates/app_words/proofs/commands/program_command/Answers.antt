@@ -1,18 +1,17 @@
-use Rattle.std.proofs.Common.{◌∙◌, ◌≤◌, ap, arith, length}
-use Rattle.std.proofs.lemmas.List.{take_all}
+use Rattle.std.proofs.Common.{◌≡◌, ◌∙◌, ap, subst}
 use Rattle.std.specs.List.{fold}
-use Rattle.app_words.specs.Commands.{app_with, with_command, bare_program}
-use Rattle.app_words.proofs.CommandLemmas.{one_more, all_commands}
+use Rattle.std.specs.Result.{IfOk}
+use Rattle.clap.specs.Words.{app_of}
+use Rattle.app_words.specs.Commands.{app_with, with_command}
+use Rattle.app_words.proofs.CommandLemmas.{first_commands, other_commands}
 use Rattle.app_words.proofs.commands.program_command.Goals as goal
-
-pub loop-words-preserved : goal.loop-words-preserved
-loop-words-preserved c =
-    one_more (λ a w. with_command a (app_with w)) _ _ _ _ _ _ c.loop-words-test.true c.loop-words.invariant
-    c.in_ok-program-2.ensures.app
 
 pub returns : goal.returns
 returns c =
-    let words = c.commands-words-items.result.now in
-    let past : length words ≤ c.loop-words.words-index = omega (arith, c.loop-words-test.false) in
-    c.loop-words.invariant ∙ ap (fold (λ a w. with_command a (app_with w)) bare_program) (take_all _ words past)
-    ∙ all_commands words c.commands-words-items.ensures
+    let first = c.local_commands.result.now in
+    let others = c.other_commands.result.now in
+    let local = c.in_ok-local.ensures ∙ ap (λ a. fold (λ b w. with_command b (app_with w)) a first) c.in_ok-bare.ensures.app
+    ∙ first_commands first c.local_commands.ensures in
+    let all = ap (λ a. fold (λ b w. with_command b (app_with w)) a others) local
+    ∙ other_commands others c.other_commands.ensures in
+    subst (λ a. IfOk c.with_commands-2.result (λ p. app_of p ≡ a)) all c.with_commands-2.ensures

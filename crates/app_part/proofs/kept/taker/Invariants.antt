@@ -1,0 +1,8 @@
+use Rattle.std.proofs.Common.{◌≡◌, drop, None}
+use Rattle.std.specs.Option.{option_map}
+use Rattle.app_part.specs.Kept.{taker}
+use Rattle.app_part.proofs.kept.taker.Given as goal
+
+abbrev pub invariant-loop-note : goal.invariant-loop-note
+invariant-loop-note l =
+    taker l.line None l.notes ≡ taker l.line (option_map (λ n. n.now) l.found) (drop l.note-index l.notes)

@@ -1,0 +1,106 @@
+-- Names of nodes that have to stay in a part (our choice).
+use Rattle.std.specs.Prelude.{◌≡◌, ℕ, Bool, false, not, ◌&&◌, ◌++◌, List, [], ◌∷◌, Option, Some, None, Ok, Err, map, codes, is_none, nat_le, if◌then◌else◌}
+use Rattle.std.specs.Str.{bytes_eq}
+use Rattle.std.specs.Str.Lines.{lines}
+use Rattle.classic_lex.specs.Lexed.{Tok, lexed, seen}
+use Rattle.classic_lex.specs.Header.{mark_len}
+use Rattle.classic_lex.specs.Spans.{AreSpans}
+use Rattle.classic_lex.specs.declared.fault.LexFault.{LexFault}
+use Rattle.classic_lex.specs.declared.token.Token.{Token}
+use Rattle.classic_text.specs.Reading.{of_tokens}
+use Rattle.classic_lenient.specs.Pieces.{bytes_at}
+use Rattle.classic_lenient.specs.VrmlHeader.{as_x3d}
+use Rattle.classic_part.specs.declared.notes.Note.{Note}
+use Rattle.app_jobs.specs.Faults.{of_read}
+use Rattle.app_jobs.specs.declared.fault.JobFault.{JobFault}
+use Rattle.app_part.specs.Listing.{is_group}
+use Rattle.app_part.specs.Told.{note_line}
+use Rattle.app_part.specs.declared.part.ScenePart.{ScenePart}
+
+-- the tokens of a text, in their places
+pub record AreTokens (text : List ℕ) (tokens : List Token) : Type 0 where
+  pub lexed : lexed text ≡ Ok (map (seen text) tokens)
+  pub spans : AreSpans text (mark_len text) tokens
+
+abbrev pub placed : List ℕ → Token → Tok
+placed text token =
+    record {
+      kind = token.kind;
+      text = bytes_at text token.start token.end;
+      line = token.line;
+    }
+
+-- a text has no tokens, for this reason
+abbrev pub HasNoTokens : List ℕ → JobFault → Type 0
+HasNoTokens text fault =
+    (lex : LexFault) × (lexed text ≡ Err lex) × (fault ≡ of_read (of_tokens lex))
+
+-- the line of the first `DEF name` among tokens, given whether the token before them is DEF
+abbrev pub defined_at : List ℕ → Bool → List Tok → Option ℕ
+defined_at name behind [] = None
+defined_at name behind (tok ∷ toks) =
+    if behind && bytes_eq tok.text name then Some tok.line
+    else defined_at name (bytes_eq tok.text (codes "DEF")) toks
+
+-- a name that no node has; an empty line is no name
+abbrev pub is_lost : List Tok → List ℕ → Bool
+is_lost toks [] = false
+is_lost toks (c ∷ cs) = is_none (defined_at (c ∷ cs) false toks)
+
+-- the first name that no node has
+abbrev pub first_lost : List Tok → List (List ℕ) → Option (List ℕ)
+first_lost toks [] = None
+first_lost toks (name ∷ names) =
+    if is_lost toks name then Some name else first_lost toks names
+
+-- the first of the names, one a line, that no node of a text has
+abbrev pub IsFirstLost : List ℕ → List ℕ → Option (List ℕ) → Type 0
+IsFirstLost text names lost =
+    (tokens : List Token) × AreTokens text tokens
+    × (lost ≡ first_lost (map (placed text) tokens) (lines names))
+
+-- ---- which rule took a name
+
+-- something went that begins on the line or before it
+abbrev pub may_take : ℕ → Note → Bool
+may_take line note = not (is_group note) && nat_le note.line line
+
+-- the last of notes in the order of their lines on what went up to a line: what went has no notes
+-- inside
+abbrev pub taker : ℕ → Option Note → List Note → Option Note
+taker line found [] = found
+taker line found (note ∷ notes) =
+    taker line (if may_take line note then Some note else found) notes
+
+abbrev pub taken_by : List JobFault → Option Note → List ℕ
+taken_by faults None = codes "no node has this name" ++ 10 ∷ []
+taken_by faults (Some note) = note_line faults note
+
+abbrev pub reason_at : ScenePart → Option ℕ → List ℕ
+reason_at part None = taken_by part.faults None
+reason_at part (Some line) = taken_by part.faults (taker line None part.left)
+
+-- the line on which a text names a node so
+pub record IsDefLine (text name : List ℕ) (line : Option ℕ) : Type 0 where
+  pub tokens : List Token
+  pub are : AreTokens (as_x3d text) tokens
+  pub is : line ≡ defined_at name false (map (placed (as_x3d text)) tokens)
+
+-- `Pot: line 2: node Teapot left out`, for a name that the part of a text lacks
+pub record IsLostLine (text : List ℕ) (part : ScenePart) (name told : List ℕ) : Type 0 where
+  pub line : Option ℕ
+  pub at : IsDefLine text name line
+  pub is : told ≡ name ++ codes ": " ++ reason_at part line
+
+-- what is said of the first name that the part of a text lacks, if it lacks one
+abbrev pub IsSaid : List ℕ → ScenePart → Option (List ℕ) → Option (List ℕ) → Type 0
+IsSaid text part None None = Unit {0}
+IsSaid text part (Some name) (Some told) = IsLostLine text part name told
+IsSaid text part None (Some told) = ⊥
+IsSaid text part (Some name) None = ⊥
+
+pub record IsLostOf (text : List ℕ) (part : ScenePart) (names : List ℕ) (told : Option (List ℕ))
+    : Type 0 where
+  pub lost : Option (List ℕ)
+  pub first : IsFirstLost part.text.items names lost
+  pub said : IsSaid text part lost told
