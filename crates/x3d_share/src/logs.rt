@@ -8,7 +8,7 @@ use crate::files::{LogDisk, disk_at, drawn_run};
 use crate::peers::host_plan;
 use app_commands::{PatientPort, Peer, SharedJob, TellingPort, Watch, bound, shared_job};
 use app_logs::{
-    AppendFault, Begun, Expected, Head, Log, LogFault, LogPlan, LoggedFault, Beat,
+    AppendFault, Beat, Begun, Expected, Head, Log, LogFault, LogPlan, LoggedFault,
     RunFault as LogRunFault, append_fault_of, go_on, is_viewer_count, log_run, make_log, recalled,
     recalled_info, times_after,
 };
