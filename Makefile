@@ -250,7 +250,7 @@ bench:
 	@cd crates/x3d_share && $(RT) run -- --version > /dev/null
 	@bench/run
 
-# Whether its time grows with the input: doubles each job three times, and fails where time grows by more than 2.6 times.
+# Whether its time grows with the input: doubles each job three times, and fails where time grows by more than 2.3 times.
 growth:
 	@cd crates/x3d_share && $(RT) run -- --version > /dev/null
 	@bench/run --growth

@@ -1,9 +1,13 @@
-"""Whether time grows with the input: each job is doubled three times, and its processor time may grow by 2.6 times at
-most each time. What takes n log n grows by 2.2, what takes n^2 by 4."""
+"""Whether time grows with the input: each job is doubled three times, and its processor time may grow by 2.3 times at
+most each time. What takes n log n grows by 2.2, what takes n^2 by 4. Of a job whose inputs are counted by a number of their
+own, the time is that of its inputs: the job without inputs is measured too, and left out."""
 from measure import made, measured
 
-LIMIT = 2.6
+LIMIT = 2.3
 SURELY = 3.2  # From here on it isn't measured again: others that use the machine don't explain it.
+LEAST = 0.05  # Seconds of the first size: a job that takes less has more inputs, and is run several times.
+MOST_INPUTS = 50  # In times those of the job.
+MOST_RUNS = 8
 
 # The command, the words of the job with N in them, and the first N.
 JOBS = [
@@ -64,16 +68,39 @@ def sizes_of(words, first, shrink):
     return [first << doubled for doubled in range(4)]
 
 
-def grown(program, command, words, sizes, runs):
-    """The seconds for the job at each of these sizes, without those of a start, and the greatest ratio of two."""
+def has_inputs(command, words):
+    """Whether a job has a number of inputs that doesn't grow."""
+    return command == "run" and len(words) == 3 and words[1] in ("N", "L") and words[2].isdigit() and words[2] != "0"
+
+
+def time_of(program, command, words, size, runs, times=1):
+    """The processor seconds of a job of this size in a row of runs: of its inputs, or without those of a start."""
     viewers = ["--viewers", "2"] if command == "rehearse" else []
-    start, _, _ = measured([program, "--version"], runs=runs)
-    seconds = []
-    for size in sizes:
-        job = made(*(size if word in ("N", "L") else word for word in words))
-        took, _, _ = measured([program, command, *viewers], job, runs=runs)
-        seconds.append(max(took - start, 1e-4))
-    return seconds, max(after / before for before, after in zip(seconds, seconds[1:]))
+    sized = [str(size) if word in ("N", "L") else word for word in words]
+    whole = [program, command, *viewers], made(*sized)
+    rest = (whole[0], made(*sized[:2], "0")) if has_inputs(command, words) else ([program, "--version"],)
+    took = [sum(measured(*job, runs=1)[0] for _ in range(times)) for _ in range(runs) for job in (whole, rest)]
+    return max(min(took[::2]) - min(took[1::2]), 1e-4)
+
+
+def long_enough(program, command, words, size):
+    """The words with as many inputs, or the number of runs in a row, that the first size needs to take LEAST seconds."""
+    took = time_of(program, command, words, size, 3)
+    if has_inputs(command, words):
+        return [*words[:2], str(int(words[2]) * max(1, min(MOST_INPUTS, round(LEAST / took))))], 1
+    return words, max(1, min(MOST_RUNS, round(LEAST / took)))
+
+
+def grown(program, command, words, sizes, runs):
+    """The seconds for the job at each of these sizes, and the greatest ratio of two that follow."""
+    words, times = long_enough(program, command, words, sizes[0])
+    # Larger sizes take longer by themselves.
+    each = [max(1, times >> doubled) for doubled in range(len(sizes))]
+    taken = [time_of(program, command, words, size, runs, times) for size, times in zip(sizes, each)]
+    seconds = [took / times for took, times in zip(taken, each)]
+    # What takes no time that can be measured, as inputs whose cost has no N, doesn't grow.
+    ratios = [seconds[i + 1] / seconds[i] for i in range(3) if taken[i + 1] >= LEAST / 2]
+    return seconds, max(ratios, default=1.0)
 
 
 def growth(program, only, shrink):
