@@ -7,8 +7,8 @@
  * - An output is a field of a node that sends events. A script settles when it is called after the
  *   events of an input. The trace is the list of all events that were sent.
  * - A host numbers the inputs of a shared world. A viewer holds the world and applies the inputs in
- *   order. A viewer offers what it points at, until an ack of the host says that the offer is an input. It
- *   asks for the inputs that it lacks. The floor is the lowest input that the host still has.
+ *   order. It offers what it points at, until an ack of the host says that the offer is an input.
+ *   It asks for the inputs that it lacks. The floor is the lowest input that the host still has.
  * - A snapshot is a world as bytes, and a piece is a part of it in a datagram of its own. A boot is
  *   a number that rises with each start of a viewer.
  * - Times are microseconds. Coordinates and other floats are millionths (of a unit). */
