@@ -60,7 +60,7 @@ impl<B: Behaviour> Stage<B> {
     ghost use Rattle.cascade_core.specs.Scripts.{kinds_in, scripts_in};
     ghost use Rattle.cascade_core.specs.Held.{Running, after, holding, refusal_of, settled_by, spoiled as spoiled_of, applied_of, IfRunning, IfSpoiled, is_spoiled, trace_of, world_in};
     ghost use Rattle.cascade_core.specs.Installing.{RefusesBox, RefusesInstall, StatesFit};
-    ghost use Rattle.cascade_core.specs.Texts.{trace_text, scene_text};
+    ghost use Rattle.cascade_core.specs.Texts.{trace_text, scene_text, texts};
     ghost use Rattle.cascade_core.specs.Work.{IsWork};
     ghost use Rattle.script_running.specs.Scripts.{script_list};
     ghost use Rattle.script_host.specs.Attaching.{Fits};
@@ -239,6 +239,25 @@ impl<B: Behaviour> Stage<B> {
             out,
         )?;
         Ok(())
+    }
+
+    /// Appends the trace and then the scene. Returns `Spoiled` if the stage is spoiled and `Memory`
+    /// if memory runs out; the buffer is then unchanged.
+    pub fn texts(&self, out: &mut Vec<u8>) -> Result<(), TextFault>
+        ensures refused { IfSpoiled self.now.held (result ≡ Err TextFault.Spoiled) }
+        ensures ok { IfRunning self.now.held (λ w. OnOk result (out.new.items
+            ≡ out.old.items ++ texts self.now.scene self.now.routes w)) }
+        ensures memory { IfRunning self.now.held (λ w.
+            IfErr result (λ fault. fault ≡ TextFault.Memory)) }
+        ensures err { OnErr result (out.new.items ≡ out.old.items) }
+    {
+        let len = out.len();
+        self.trace_text(out)?;
+        let written = self.scene_text(out);
+        if written.is_err() {
+            out.truncate(len);
+        }
+        written
     }
 
     /// Returns the number of scripts that the scene runs.
