@@ -12,7 +12,7 @@ use crate::work::Work;
 use cascade_trace::push_trace;
 use cascade_world::WorldData;
 use route_core::Routes;
-use scene_core::Scene;
+use scene_core::{Route, Scene};
 use scene_text::write_scene;
 use script_host::{Behaviour, Scripts, StateFault};
 use std::alloc::Global;
@@ -112,6 +112,13 @@ impl<B: Behaviour> Stage<B> {
         ensures { result.now ≡ self.now.scene }
     {
         &self.routed.scene
+    }
+
+    /// Returns the routes of the scene, without repeats, in the order in which they are followed.
+    pub fn routes(&self) -> &[Route]
+        ensures { result.now ≡ self.now.routes }
+    {
+        self.routed.routes.as_slice()
     }
 
     /// Returns the allocator that the stage takes its memory from.
