@@ -1,5 +1,17 @@
 /* A shared X3D world inside another program: the library `x3d`. docs/EMBEDDING.md explains how to
- * use it. scripts/header compares each declaration below with its export in crates/embed_c/src. */
+ * use it. scripts/header compares each declaration below with its export in crates/embed_c/src.
+ *
+ * Words:
+ * - A world is a scene after some inputs. Inputs are numbered from 1; each is a clock, which moves
+ *   time on, or a pointer: the ray of a viewer, and whether its button is down.
+ * - An output is a field of a node that sends events. A script settles when it is called after the
+ *   events of an input. The trace is the list of all events that were sent.
+ * - A host numbers the inputs of a shared world. A viewer holds the world and applies the inputs in
+ *   order. It offers what it points at, until an ack of the host says that the offer is an input.
+ *   It asks for the inputs that it lacks. The floor is the lowest input that the host still has.
+ * - A snapshot is a world as bytes, and a piece is a part of it in a datagram of its own. A boot is
+ *   a number that rises with each start of a viewer.
+ * - Times are microseconds. Coordinates and other floats are millionths (of a unit). */
 #ifndef X3D_H
 #define X3D_H
 
@@ -84,8 +96,8 @@ enum x3d_status {
   X3D_TOO_LARGE = 56       /* the snapshot is too large to be sent in pieces */
 };
 
-/* What an input led to: the number of outputs that sent, of routes that were followed, and of
- * scripts that settled. */
+/* What an input led to: how many outputs sent, how many routes were followed, and how many scripts
+ * settled. */
 struct x3d_work {
   size_t sends;
   size_t deliveries;
@@ -103,8 +115,8 @@ struct x3d_aim {
   int64_t direction_z;
 };
 
-/* Where a ray would enter what it hits first: at the point origin + (n / m) * direction. If it hits
- * nothing, m is 0. */
+/* Where a ray would enter the Box that it hits first: at the point origin + (n / m) * direction. If
+ * it hits none, m is 0. */
 struct x3d_met {
   uint64_t n;
   uint64_t m;
@@ -133,7 +145,7 @@ enum x3d_type {
   X3D_SFROTATION = 18
 };
 
-/* How a field may be used. A field of the first two kinds holds no value. */
+/* How a field may be used. X3D_INPUT_ONLY and X3D_OUTPUT_ONLY fields hold no value. */
 enum x3d_access {
   X3D_INPUT_ONLY = 0,     /* takes events */
   X3D_OUTPUT_ONLY = 1,    /* sends events */
@@ -147,8 +159,8 @@ struct x3d_field {
   uint8_t access;
 };
 
-/* A field that was set. Its value is of type `value_type` (an x3d_type), and the numbers of the
- * value are the `count` ones from place `first` on in the list of numbers. */
+/* A field that was set. Its value is of type `value_type` (an x3d_type). Its numbers are `count`
+ * numbers of the list, from place `first` on. */
 struct x3d_change {
   uint32_t node;
   uint16_t field;
@@ -157,21 +169,20 @@ struct x3d_change {
   uint32_t count;
 };
 
-/* The boot number stored in a snapshot, and the number of inputs that its world had applied. A boot
- * is a number that rises with each start of a viewer. */
+/* The boot that is stored in a snapshot, and the number of inputs that its world has applied. */
 struct x3d_saved {
   uint32_t boot;
   uint32_t applied;
 };
 
-/* What a datagram is: its tag, and what `number` is then. */
+/* The tag of a datagram: who sends it, and what `number` of x3d_datagram is then. */
 enum x3d_tag {
   X3D_TAG_INPUT = 1, /* from the host: the input's number */
   X3D_TAG_OFFER = 2, /* from a viewer: the offer's number in that boot, from 1 */
   X3D_TAG_ASK = 3,   /* from a viewer: the number of the first input that it lacks */
-  X3D_TAG_ACK = 4,   /* from the host: the number of offers of that boot that are numbered */
+  X3D_TAG_ACK = 4,   /* from the host: how many offers of that boot are numbered */
   X3D_TAG_FLOOR = 5, /* from the host: the floor */
-  X3D_TAG_PIECE = 6  /* from a viewer: the number of inputs that the snapshot's world has had */
+  X3D_TAG_PIECE = 6  /* from a viewer: how many inputs the snapshot's world has applied */
 };
 
 /* No viewer has this number. */
@@ -184,10 +195,10 @@ enum x3d_button {
   X3D_POINT_DOWN = 2
 };
 
-/* What a datagram says. `who` is the viewer that offers, asks, is acknowledged, or pointed in an
- * input; X3D_NO_VIEWER for a clock, a floor or a piece. `boot` is that of an offer, an ack or a
- * piece, and `time` that of an input. `aim` is set if `point` (an x3d_button) is not X3D_NO_POINT.
- * All else is 0. */
+/* What a datagram says. `who` is the viewer that offers, that asks, that an ack is for, or that
+ * pointed in an input. It is X3D_NO_VIEWER for a clock, a floor or a piece. `boot` is that of an
+ * offer, an ack or a piece, and `time` that of an input. `aim` is set if `point` (an x3d_button) is
+ * not X3D_NO_POINT. All other fields are 0. */
 struct x3d_datagram {
   uint8_t tag;
   uint8_t who;
@@ -249,10 +260,10 @@ enum x3d_kind {
   X3D_METER = 5
 };
 
-/* What was left out of a text, for its part. */
+/* What a part leaves out of its text. */
 enum x3d_left {
   X3D_LEFT_NODE = 0,        /* a node */
-  X3D_LEFT_GROUPED = 1,     /* nothing: a node became a Group or a Transform */
+  X3D_LEFT_GROUPED = 1,     /* only a type: the node became a Group or a Transform */
   X3D_LEFT_FIELD = 2,       /* a field */
   X3D_LEFT_TURNED = 3,      /* a rotation by an angle other than 0 */
   X3D_LEFT_USE = 4,         /* a USE of a name that no node has */
@@ -293,12 +304,12 @@ uint8_t x3d_datagram_read(const uint8_t *bytes, size_t length, struct x3d_datagr
 
 /* ---- texts */
 
-/* An instance of a prototype may give a field a wrong value, and the refusal then has the line of
- * the field in the prototype's body. This writes the line on which that instance begins. Writes 0
- * for every other text, and if no instance's braces hold the value. May return: X3D_MEMORY. */
+/* Writes the line on which an instance begins that gives a field a wrong value: the refusal of such
+ * a text has the line of the field in the prototype's body. Writes 0 for every other text, and if
+ * no instance's braces hold the value. May return: X3D_MEMORY. */
 uint8_t x3d_text_instance(const uint8_t *text, size_t length, uint32_t *line);
 
-/* ---- the part of a text that the core can run: without the nodes, fields and statements that it
+/* ---- the part of a text: what stays of it without the nodes, fields and statements that the core
  * doesn't know. docs/SCENES.md says what stays. */
 
 /* Makes the part of a text (Classic encoding). It replaces the one that the handle had. The part
@@ -351,11 +362,11 @@ uint8_t x3d_world_clock(struct x3d_world *world, uint32_t number, int64_t time,
 uint8_t x3d_world_point(struct x3d_world *world, uint32_t number, int64_t time, uint8_t viewer,
                         bool down, const struct x3d_aim *aim, struct x3d_work *work);
 /* Writes where a ray would enter the Box that it hits first, and lists the sensors that the hit
- * concerns, as x3d_world_point with this ray would find them. These are the enabled pointing
- * sensors next to the Box's Shape, in one `children` field or among the roots. If there are none,
- * those next to the node that holds the Shape, and so on upwards; the children of a Switch do not
- * count. The world is unchanged. May return, in this order: X3D_RANGE if the ray is out of its
- * range, X3D_SPOILED, or X3D_MEMORY. */
+ * concerns (x3d_world_copy_numbers copies their nodes). x3d_world_point with this ray concerns the
+ * same: the enabled pointing sensors next to the Box's Shape, in one `children` field or among the
+ * roots. If there are none, those next to the node that holds the Shape, and so on upwards. The
+ * children of a Switch do not count. The world is unchanged. May return, in this order: X3D_RANGE
+ * if the ray is out of its range, X3D_SPOILED, or X3D_MEMORY. */
 uint8_t x3d_world_meet(struct x3d_world *world, const struct x3d_aim *aim, struct x3d_met *met);
 
 /* ---- texts: a call makes a text, then x3d_world_copy_text copies it
@@ -375,9 +386,9 @@ uint8_t x3d_world_make_changes(struct x3d_world *world, uint32_t first);
 uint8_t x3d_world_make_scene(struct x3d_world *world);
 /* Makes the word for a node's type, such as `Transform`. May return: X3D_NO_SUCH_NODE. */
 uint8_t x3d_world_make_type(struct x3d_world *world, uint32_t node);
-/* Makes the label of a node, which no other node has: its DEF name if that is unique, or else `N`
- * and its number, also for a node whose DEF name is `N` and digits. May return:
- * X3D_NO_SUCH_NODE. */
+/* Makes the label of a node, which no other node has: its DEF name if no other node has it, or else
+ * `N` and its number. A node whose DEF name is `N` and digits also has `N` and its number. May
+ * return: X3D_NO_SUCH_NODE. */
 uint8_t x3d_world_make_label(struct x3d_world *world, uint32_t node);
 /* Makes the name of a field of a node, such as `translation`. May return: X3D_NO_SUCH_FIELD if
  * there is no such node or field. */
@@ -399,7 +410,8 @@ uint8_t x3d_world_copy_text(const struct x3d_world *world, uint8_t *out, size_t 
 
 /* Writes the number of nodes in the scene. They are numbered from 0. */
 uint8_t x3d_world_node_count(const struct x3d_world *world, size_t *count);
-/* Writes the number of fields of a node. They are numbered from 0. 0 if there is no such node. */
+/* Writes the number of fields of a node, which are numbered from 0, or 0 if there is no such
+ * node. */
 uint8_t x3d_world_field_count(const struct x3d_world *world, uint32_t node, uint32_t *count);
 /* Writes the number of the field of a node with this name, such as `translation`: a field of its
  * type, or one that a Script declares. Other calls take a field by this number. May return:
@@ -419,8 +431,8 @@ uint8_t x3d_world_node_named(const struct x3d_world *world, const uint8_t *name,
 uint8_t x3d_world_time(const struct x3d_world *world, int64_t *time);
 /* Lists the roots of the scene by their numbers. */
 uint8_t x3d_world_list_roots(struct x3d_world *world);
-/* Lists the nodes in the field `children` of a node, none if it has no such field. May return:
- * X3D_NO_SUCH_NODE. */
+/* Lists the nodes in the field `children` of a node, and nothing if it has no such field. May
+ * return: X3D_NO_SUCH_NODE. */
 uint8_t x3d_world_list_children(struct x3d_world *world, uint32_t node);
 /* Lists the numbers of the current value of a field: booleans as 1 and 0, integers, millionths and
  * microseconds unchanged, vectors and colors part by part, nodes as their numbers. A string field
@@ -437,9 +449,9 @@ uint8_t x3d_world_copy_numbers(const struct x3d_world *world, int64_t *out, size
 
 /* Lists the fields that inputs after number `since` set: each field once, with its current value,
  * in the order in which each was first set. `since` is 0, or the number of inputs that were applied
- * when the world was drawn last. A field is listed even if its value is the same again. One that
- * only sends holds no value and is not listed. The numbers of all values replace the numbers that
- * were listed before; a string field has none. If the call fails, both lists are empty. May return:
+ * when the program drew the world last. A field is listed even if it was set to the value that it
+ * had. A field that only sends holds no value and is not listed. The list of numbers becomes that
+ * of these values; a string has none. If the call fails, both lists are empty. May return:
  * X3D_SPOILED, or X3D_MEMORY (also for more than 2^32 - 1 numbers). */
 uint8_t x3d_world_list_changed(struct x3d_world *world, uint32_t since);
 /* Copies the fields that were listed last, and writes how many there are to `wanted`. May return:
@@ -469,10 +481,11 @@ uint8_t x3d_world_list_scripts(struct x3d_world *world);
 uint8_t x3d_world_replace_script(struct x3d_world *world, size_t k, uint8_t kind);
 
 /* ---- the host of a shared world: it numbers what happens, and gives it to the viewers. A host and
- * its viewers exchange datagrams of at most 256 bytes, which the program carries. They may be lost,
- * repeated and come in any order, but must arrive unaltered, and no datagram of another run may
- * arrive. A call that copies a datagram writes its length to `wanted`. It may return: X3D_NO_PACKET
- * if there is no such datagram, or X3D_ROOM if `room` bytes are not enough. */
+ * its viewers exchange datagrams of at most X3D_PACKET bytes, which the program carries. Datagrams
+ * may be lost, repeated and come in any order, but must arrive unaltered. None of another run may
+ * arrive: of another host of this scene, or of this host before it was opened again. A call that
+ * copies a datagram writes its length to `wanted`. It may return: X3D_NO_PACKET if there is no such
+ * datagram, or X3D_ROOM if `room` bytes are not enough. */
 
 /* Opens the host of a scene's text for 1 to 64 viewers, numbered from 0. It replaces the one that
  * the handle had. The host keeps only the text's SHA-256 (its mark), and does not look at the
@@ -503,12 +516,12 @@ uint8_t x3d_host_packet(const struct x3d_host *host, uint32_t number, uint8_t *o
  * return: X3D_RANGE if there is no such viewer. */
 uint8_t x3d_host_ack(const struct x3d_host *host, uint8_t who, uint8_t *out, size_t room,
                      size_t *wanted);
-/* Writes the highest number that viewer `who` has asked from: it has all inputs below. 0 if it has
- * not asked. May return: X3D_RANGE if there is no such viewer. */
+/* Writes the highest number that viewer `who` has asked from, or 0 if it has not asked. The viewer
+ * has all inputs below that number. May return: X3D_RANGE if there is no such viewer. */
 uint8_t x3d_host_heard(const struct x3d_host *host, uint8_t who, uint32_t *asked);
-/* Drops the inputs that every viewer that has asked has, except the last `count` of them. A viewer
- * that never asked does not count. If none has asked, or there is nothing to drop, the host stays as
- * it was. */
+/* Drops the inputs that all viewers have that have asked, except the last `count` of them. A viewer
+ * that never asked does not count. If none has asked, or there is nothing to drop, the host stays
+ * as it was. */
 uint8_t x3d_host_keep(struct x3d_host *host, uint32_t count);
 /* Writes the floor: inputs below it have no datagrams. It is 1 at first. */
 uint8_t x3d_host_floor(const struct x3d_host *host, uint32_t *number);
@@ -557,20 +570,20 @@ uint8_t x3d_viewer_offer(struct x3d_viewer *viewer, bool down, const struct x3d_
 /* Copies the datagram of waiting offer number `place`, where 0 is the oldest. */
 uint8_t x3d_viewer_resend(const struct x3d_viewer *viewer, uint32_t place, uint8_t *out,
                           size_t room, size_t *wanted);
-/* Copies the datagram that asks for the inputs from the first one that the viewer lacks on. */
+/* Copies the datagram that asks for inputs, beginning with the first that the viewer lacks. */
 uint8_t x3d_viewer_ask(const struct x3d_viewer *viewer, uint8_t *out, size_t room, size_t *wanted);
 /* Makes the snapshot of the viewer's world, with the viewer's boot number in it.
  * x3d_viewer_copy_text copies it. May return: X3D_SPOILED or X3D_MEMORY. */
 uint8_t x3d_viewer_make_snapshot(struct x3d_viewer *viewer);
 /* Restarts the viewer from a snapshot, under a new boot number, even if the viewer is spoiled, and
- * writes the number of inputs that the world has had. After X3D_DONE no offer waits, and offers are
+ * writes how many inputs the world has applied. After X3D_DONE no offer waits, and offers are
  * numbered from 1. May return, in this order: X3D_BOOT_NOT_NEW if `boot` is not above the viewer's,
  * or the statuses of x3d_world_load. X3D_MEMORY spoils the viewer. */
 uint8_t x3d_viewer_rewind(struct x3d_viewer *viewer, uint32_t boot, const uint8_t *bytes,
                           size_t length, uint32_t *applied);
-/* Writes the number of pieces that the bytes of a snapshot have: 0 if they do not begin as a
- * snapshot. They may be the snapshot of any world or viewer of the scene. May return: X3D_TOO_LARGE
- * for more than 2^26 bytes; `count` is then 0. */
+/* Writes how many pieces the bytes of a snapshot have, or 0 if they do not begin as a snapshot. It
+ * may be the snapshot of any world or viewer of the scene. May return: X3D_TOO_LARGE for more than
+ * 2^26 bytes; `count` is then 0. */
 uint8_t x3d_viewer_piece_count(const struct x3d_viewer *viewer, const uint8_t *bytes, size_t length,
                                uint32_t *count);
 /* Copies the datagram of piece `index`, from 0, of these bytes, for other viewers of the same

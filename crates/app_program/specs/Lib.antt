@@ -6,5 +6,4 @@ pub mod Running
 pub mod Boxes
 pub mod Came
 pub mod Faults
-pub mod Texts
 pub mod Stages

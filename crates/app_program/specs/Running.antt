@@ -11,7 +11,7 @@ use Rattle.app_jobs.specs.declared.fault.JobFault.{JobFault}
 use Rattle.app_program.specs.declared.run_fault.RunFault.{RunFault}
 use Rattle.app_program.specs.declared.run_fault.RunFault.TheVariants as run_fault
 use Rattle.app_program.specs.Boxes.{RefusesBoxes}
-use Rattle.app_program.specs.Texts.{texts}
+use Rattle.cascade_core.specs.Texts.{texts}
 use Rattle.app_program.specs.declared.open.Job.{Job}
 use Rattle.app_program.specs.declared.refusal.Failure.{Failure}
 use Rattle.app_program.specs.declared.refusal.Failure.TheVariants as failure

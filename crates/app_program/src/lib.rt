@@ -36,4 +36,4 @@ pub use run_fault::RunFault;
 pub use runs::{run, run_job, run_stock};
 pub use stages::{fresh_stage, stage_of};
 pub use stream::{MAX_READS, StreamFault, read_whole, write_whole};
-pub use texts::{push_texts, write_made};
+pub use texts::write_made;

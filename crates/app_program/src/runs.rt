@@ -10,7 +10,7 @@ ghost use Rattle.script_running.specs.Scripts.{script_list};
 ghost use Rattle.script_boxes.specs.Boxes.{made_of, stock_for};
 ghost use Rattle.script_host.specs.Attaching.{Fits};
 ghost use Rattle.script_host.specs.Hosting.{fresh_record};
-ghost use Rattle.app_program.specs.Texts.{texts};
+ghost use Rattle.cascade_core.specs.Texts.{texts};
 ghost use Rattle.app_program.specs.Running.{run_text, FitsJob, IsUnrun};
 ghost use Rattle.app_program.specs.Running.{IsUnrunStock, IsFailed, IsRun, IsNoRun, job_scripts_fault};
 ghost use Rattle.app_program.specs.declared.run_fault.RunFault.TheVariants.{Device, Memory};
@@ -20,7 +20,6 @@ use crate::open::{Job, read_job};
 use crate::refusal::Failure;
 use crate::run_fault::RunFault;
 use crate::stream::write_whole;
-use crate::texts::push_texts;
 use app_jobs::JobInputs;
 use cascade_core::{ApplyFault, Stage, TextFault};
 use route_core::Routes;
@@ -98,7 +97,7 @@ fn texts_of<B: Behaviour>(alloc: Global, stage: &Stage<B>) -> Result<Vec<u8>, Ru
     ensures err { IfErr result (λ f. f ≡ Memory) }
 {
     let mut text = Vec::new(alloc);
-    match push_texts(stage, &mut text) {
+    match stage.texts(&mut text) {
         Ok(()) => Ok(text),
         Err(TextFault::Memory) => Err(RunFault::Memory),
         Err(TextFault::Spoiled) => unreachable!(),

@@ -10,7 +10,7 @@ use Rattle.app_words.specs.declared.order.ViewOrder.{ViewOrder}
 use Rattle.app_words.specs.Misfits.{host_misfit, misfit_of}
 use Rattle.app_words.specs.declared.misfit.Misfit.{Misfit}
 use Rattle.app_words.specs.Words.{Asks, AsksHost, AsksView, IsEnd, IsInRange, IsViewers, IsTurns, MayHaveExactly, MayHaveNumberIn, MayHaveUntil, end_count, end_of}
-use Rattle.app_words.proofs.OneOrder.{one_host, one_view, without}
+use Rattle.app_words.proofs.OneNumber.{one_host, one_view, without}
 
 pub agree_needs : (rows : List Row) (o : Order) → Asks o (codes "agree", rows)
     → (viewers : ℕ) × (turns : ℕ) × IsViewers rows viewers × IsTurns rows turns

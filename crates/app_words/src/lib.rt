@@ -3,12 +3,15 @@
 
 mod asked;
 mod commands;
+mod help;
 mod hint;
+mod host;
 mod laws;
 mod misfit;
 mod numbers;
 mod options;
 mod order;
+mod view;
 mod words;
 
 pub use hint::hint_of;

@@ -5,8 +5,10 @@ ghost use Rattle.std.specs.Prelude.{option_map};
 ghost use Rattle.clap.specs.Words.{first_of, rows_of, found_of};
 ghost use Rattle.app_words.specs.Words.{HasNumber, HasNumberIn, IsLeftOut, MayHaveNumberIn};
 ghost use Rattle.app_words.specs.Words.{is_given, is_text_given};
+ghost use Rattle.app_words.specs.Words.{IsPort, IsTurns, IsViewers, MayHaveUntil};
 
 use clap::ArgMatches;
+use x3d_values::{MAX_INPUTS, MAX_VIEWERS};
 
 /// Returns the number of an option.
 fn number(matches: &ArgMatches<'_>, id: &str) -> Option<u32>
@@ -75,4 +77,39 @@ pub fn is_text_given(matches: &ArgMatches<'_>, id: &str) -> bool
     ensures { result ≡ is_text_given id.now (rows_of (found_of matches.now)) }
 {
     text_in(matches, id).is_some()
+}
+
+/// Returns the number of viewers of `rehearse` or `agree`.
+pub fn viewers_in(found: &ArgMatches<'_>) -> Option<u8>
+    ensures some { IfSome result (λ n. IsViewers (rows_of (found_of found.now)) n) }
+    ensures none { IfNone result ((n : ℕ) → ¬ IsViewers (rows_of (found_of found.now)) n) }
+{
+    let viewers = number_in(found, "viewers", 1, MAX_VIEWERS as u32)?;
+    Some(viewers as u8)
+}
+
+/// Returns the most turns that a command takes.
+pub fn turns_in(found: &ArgMatches<'_>) -> Option<u32>
+    ensures some { IfSome result (λ n. IsTurns (rows_of (found_of found.now)) n) }
+    ensures none { IfNone result ((n : ℕ) → ¬ IsTurns (rows_of (found_of found.now)) n) }
+{
+    number_in(found, "turns", 1, 10_000_000)
+}
+
+/// Returns the port of 127.0.0.1 of a host.
+pub fn port_in(found: &ArgMatches<'_>) -> Option<u16>
+    ensures some { IfSome result (λ n. IsPort (rows_of (found_of found.now)) n) }
+    ensures none { IfNone result ((n : ℕ) → ¬ IsPort (rows_of (found_of found.now)) n) }
+{
+    let port = number_in(found, "port", 1, 65535)?;
+    Some(port as u16)
+}
+
+/// Returns the number of `--until`, or `Some(None)` if it was left out.
+pub fn until_in(found: &ArgMatches<'_>) -> Option<Option<u32>>
+    ensures some { IfSome result (λ o. MayHaveUntil (rows_of (found_of found.now)) o) }
+    ensures none { IfNone result
+        ((o : Option ℕ) → ¬ MayHaveUntil (rows_of (found_of found.now)) o) }
+{
+    optional_in(found, "until", 0, MAX_INPUTS)
 }

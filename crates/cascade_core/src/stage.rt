@@ -12,7 +12,7 @@ use crate::work::Work;
 use cascade_trace::push_trace;
 use cascade_world::WorldData;
 use route_core::Routes;
-use scene_core::Scene;
+use scene_core::{Route, Scene};
 use scene_text::write_scene;
 use script_host::{Behaviour, Scripts, StateFault};
 use std::alloc::Global;
@@ -60,7 +60,7 @@ impl<B: Behaviour> Stage<B> {
     ghost use Rattle.cascade_core.specs.Scripts.{kinds_in, scripts_in};
     ghost use Rattle.cascade_core.specs.Held.{Running, after, holding, refusal_of, settled_by, spoiled as spoiled_of, applied_of, IfRunning, IfSpoiled, is_spoiled, trace_of, world_in};
     ghost use Rattle.cascade_core.specs.Installing.{RefusesBox, RefusesInstall, StatesFit};
-    ghost use Rattle.cascade_core.specs.Texts.{trace_text, scene_text};
+    ghost use Rattle.cascade_core.specs.Texts.{trace_text, scene_text, texts};
     ghost use Rattle.cascade_core.specs.Work.{IsWork};
     ghost use Rattle.script_running.specs.Scripts.{script_list};
     ghost use Rattle.script_host.specs.Attaching.{Fits};
@@ -112,6 +112,13 @@ impl<B: Behaviour> Stage<B> {
         ensures { result.now ≡ self.now.scene }
     {
         &self.routed.scene
+    }
+
+    /// Returns the routes of the scene, without repeats, in the order in which they are followed.
+    pub fn routes(&self) -> &[Route]
+        ensures { result.now ≡ self.now.routes }
+    {
+        self.routed.routes.as_slice()
     }
 
     /// Returns the allocator that the stage takes its memory from.
@@ -239,6 +246,25 @@ impl<B: Behaviour> Stage<B> {
             out,
         )?;
         Ok(())
+    }
+
+    /// Appends the trace and then the scene. Returns `Spoiled` if the stage is spoiled and `Memory`
+    /// if memory runs out; the buffer is then unchanged.
+    pub fn texts(&self, out: &mut Vec<u8>) -> Result<(), TextFault>
+        ensures refused { IfSpoiled self.now.held (result ≡ Err TextFault.Spoiled) }
+        ensures ok { IfRunning self.now.held (λ w. OnOk result (out.new.items
+            ≡ out.old.items ++ texts self.now.scene self.now.routes w)) }
+        ensures memory { IfRunning self.now.held (λ w.
+            IfErr result (λ fault. fault ≡ TextFault.Memory)) }
+        ensures err { OnErr result (out.new.items ≡ out.old.items) }
+    {
+        let len = out.len();
+        self.trace_text(out)?;
+        let written = self.scene_text(out);
+        if written.is_err() {
+            out.truncate(len);
+        }
+        written
     }
 
     /// Returns the number of scripts that the scene runs.

@@ -14,7 +14,7 @@ ghost use Rattle.cascade_world.specs.Idle.{starts_at};
 use crate::event::NodeEvent;
 use crate::idle::{Idle, idle_of, is_among, no_time, wake};
 use crate::watched::WIDTH;
-use react_core::{Outbox, SentEvent, copy_of, react};
+use react_core::{ArrivedEvent, Outbox, SentEvent, copy_of, react};
 use scene_core::End;
 use sensor_core::TimeFields;
 use sensor_plane::{PointingState, SensorPointer};
@@ -68,15 +68,12 @@ fn react_at(
     if node >= items.len() {
         return Ok(());
     }
-    react(
-        alloc,
-        event.node_type,
-        &mut items[node],
-        event.target.field,
-        event.value,
+    let arrived = ArrivedEvent {
+        field: event.target.field,
+        value: event.value,
         time,
-        out,
-    )
+    };
+    react(alloc, event.node_type, &mut items[node], &arrived, out)
 }
 
 /// Sets the field of a node that an event comes to and sends the value, if there is such a node.

@@ -34,4 +34,4 @@ pub use interpolation::interpolate;
 pub use keys::step_index;
 pub use laws::numbers_law;
 pub use outbox::{MAX_REPLIES, Outbox, SentEvent};
-pub use reaction::react;
+pub use reaction::{ArrivedEvent, react};

@@ -25,5 +25,5 @@ pub use laws::{end_wins_law, numbers_law, one_releases_law, touch_numbers_law, t
 pub use parts::{TimeParts, TouchParts, VIEWERS, number_of, over_of};
 pub use state::TimeState;
 pub use timing::{TimeFields, is_interval, is_time, truth_at};
-pub use touch::{TouchState, is_any};
+pub use touch::{Pointed, TouchState, is_any};
 pub use touch_numbers::TOUCH_ENABLED;

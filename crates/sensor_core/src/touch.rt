@@ -37,7 +37,7 @@ impl Model for TouchState {
 /// A viewer's pointer: whether its button was down until now, whether the button is down now, and
 /// the point over the sensor's geometry, in the sensor's coordinates, if the pointer is over it.
 #[derive(Clone, Copy)]
-pub(crate) struct Pointed {
+pub struct Pointed {
     pub who: u8,
     pub before: bool,
     pub down: bool,
@@ -63,7 +63,7 @@ impl TouchState {
     ghost use Rattle.x3d_values.specs.declared.node_type.NodeType.TheVariants.{TouchSensor};
     ghost use Rattle.x3d_values.specs.Ranges.{is_viewer};
     ghost use Rattle.react_core.specs.Access.{leave_by_outputs};
-    ghost use Rattle.sensor_core.specs.Touches.{pointer, untouched, is_over, is_pressed_by, presses, releases, presser_after, touch_after, hit_replies, press_replies, point, disable};
+    ghost use Rattle.sensor_core.specs.Touches.{untouched, is_over, is_pressed_by, presses, releases, presser_after, touch_after, hit_replies, press_replies, point, disable};
     ghost use Rattle.sensor_core.specs.Parts.{parts_of_touch, touch_of_parts};
 
     /// Returns the state with no pointer over the sensor and no viewer pressing it.
@@ -76,34 +76,17 @@ impl TouchState {
         }
     }
 
-    /// Does what an enabled TouchSensor does with the pointer of viewer `who`, at time `t` in
-    /// microseconds, and puts what the sensor sends into the outbox. `before` is whether the
-    /// viewer's button was down until now, and `down` whether it is down now. `inside` is the point
-    /// over the sensor's geometry, in the sensor's coordinates, if the pointer is over it.
+    /// Does what an enabled TouchSensor does with a viewer's pointer, at time `t` in microseconds,
+    /// and puts what the sensor sends into the outbox.
     #[tactic(auto, unfolding(crate::specs::Touches::point))]
-    pub fn point(
-        &mut self,
-        who: u8,
-        before: bool,
-        down: bool,
-        inside: Option<Vec3>,
-        t: i64,
-        out: &mut Outbox,
-    )
-        requires viewer { IsTrue (is_viewer who) }
+    pub fn point(&mut self, pointed: Pointed, t: i64, out: &mut Outbox)
+        requires viewer { IsTrue (is_viewer pointed.who) }
         requires empty { out.old.items ≡ [] }
-        ensures touch { self.new ≡ (point self.old (pointer who before down inside) t).touch }
-        ensures replies { out.new.items
-            ≡ (point self.old (pointer who before down inside) t).replies }
+        ensures touch { self.new ≡ (point self.old pointed t).touch }
+        ensures replies { out.new.items ≡ (point self.old pointed t).replies }
         // All events leave by outputs of a TouchSensor.
         ensures outputs { IsTrue (leave_by_outputs TouchSensor out.new.items) }
     {
-        let pointed = Pointed {
-            who,
-            before,
-            down,
-            inside,
-        };
         let touch = *self;
         *self = touch.after(pointed);
         send_over(touch.is_over(), self.is_over(), out);

@@ -12,7 +12,7 @@ use crate::plane::PlaneState;
 use crate::pointer::{Contact, PlanePointer};
 use crate::pointing::PointingState;
 use react_core::Outbox;
-use sensor_core::TouchState;
+use sensor_core::{Pointed, TouchState};
 use x3d_values::{Fields, Vec3};
 
 /// A viewer's pointer at a pointing sensor: whether its button was down until now, whether the
@@ -71,14 +71,13 @@ fn touch(touch: &mut TouchState, pointer: &SensorPointer, time: i64, out: &mut O
     ensures replies { (fields : FieldsView) → out.new.items
         ≡ (touched touch.old fields pointer.now time).replies }
 {
-    touch.point(
-        pointer.who,
-        pointer.before,
-        pointer.down,
-        pointer.place,
-        time,
-        out,
-    );
+    let pointed = Pointed {
+        who: pointer.who,
+        before: pointer.before,
+        down: pointer.down,
+        inside: pointer.place,
+    };
+    touch.point(pointed, time, out);
 }
 
 impl PointingState {

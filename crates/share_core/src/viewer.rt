@@ -97,7 +97,7 @@ impl<B: Behaviour> Viewer<B> {
     ghost use Rattle.cascade_core.specs.Held.{Running};
     ghost use Rattle.cascade_core.specs.Installing.{RefusesBox};
     ghost use Rattle.cascade_core.specs.Scripts.{kinds_in, scripts_in};
-    ghost use Rattle.cascade_core.specs.Texts.{scene_text, trace_text};
+    ghost use Rattle.cascade_core.specs.Texts.{scene_text, texts, trace_text};
     ghost use Rattle.cascade_core.specs.Course.{Scripted};
     ghost use Rattle.share_law.specs.Calls.{IsGatherOf, IsRewind, IsTake, IsTakeOf};
     ghost use Rattle.share_law.specs.Pieces.{whole_of};
@@ -332,6 +332,19 @@ impl<B: Behaviour> Viewer<B> {
         ensures err { OnErr result (out.new.items ≡ out.old.items) }
     {
         self.stage.trace_text(out)
+    }
+
+    /// Appends the trace and then the scene. Fails with `Spoiled` or `Memory`; `out` is then
+    /// unchanged.
+    pub fn texts(&self, out: &mut Vec<u8>) -> Result<(), TextFault>
+        ensures refused { IfSpoiled self.now.state.view (result ≡ Err TextFault.Spoiled) }
+        ensures ok { IfRunning self.now.state.view (λ w. OnOk result (out.new.items
+            ≡ out.old.items ++ texts self.now.scene self.now.routes w)) }
+        ensures memory { IfRunning self.now.state.view (λ w.
+            IfErr result (λ fault. fault ≡ TextFault.Memory)) }
+        ensures err { OnErr result (out.new.items ≡ out.old.items) }
+    {
+        self.stage.texts(out)
     }
 
     /// Appends a snapshot of the world, with this boot. Fails with `Spoiled` if memory was refused

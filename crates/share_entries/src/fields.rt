@@ -9,18 +9,20 @@ ghost use Rattle.share_entries.specs.Entry.{fields_of, offer_codec, offer_with};
 use share_wire::{Offer, is_ordinal, is_viewer};
 use x3d_values::{Pointer, Ray, Vec3};
 
+/// The fields of an offer, in any range.
 #[derive(Clone, Copy)]
-pub(crate) struct OfferFields {
-    pub(crate) who: u8,
-    pub(crate) down: bool,
-    pub(crate) origin: Vec3,
-    pub(crate) dir: Vec3,
-    pub(crate) boot: u32,
-    pub(crate) number: u32,
+pub struct OfferFields {
+    pub who: u8,
+    pub down: bool,
+    pub origin: Vec3,
+    pub dir: Vec3,
+    pub boot: u32,
+    pub number: u32,
 }
 
 impl OfferFields {
-    pub(crate) fn of(offer: Offer) -> OfferFields
+    /// Returns the fields of an offer. They are in the ranges of an offer.
+    pub fn of(offer: Offer) -> OfferFields
         ensures value { result ≡ fields_of offer }
         ensures ranges { IsTrue (body_fits (body.Offer offer)) }
         ensures fits { IsTrue (offer_codec.fits offer) }
@@ -37,7 +39,7 @@ impl OfferFields {
     }
 
     /// Reports whether the fields are in the ranges of an offer.
-    pub(crate) fn fit(self) -> bool
+    pub fn fit(self) -> bool
         ensures { result ≡ offering_fits (offer_with self) }
     {
         (is_ordinal(self.boot) && is_ordinal(self.number)) && self.points()
@@ -50,7 +52,7 @@ impl OfferFields {
     }
 
     /// Returns the offer with these fields.
-    pub(crate) fn offer(self) -> Offer
+    pub fn offer(self) -> Offer
         requires { IsTrue (offering_fits (offer_with self)) }
         ensures { result ≡ offer_with self }
     {

@@ -56,7 +56,7 @@ type HeadParts<'a> = (&'a [u8], (u8, (u8, (&'a [u8], (&'a [u8], &'a [u8])))));
 #[tactic(auto, unfolding(crate::specs::Head::head_fields))]
 fn first_parts(bytes: &[u8]) -> Option<(HeadParts<'_>, &[u8])>
     ensures value { option_map (λ r. (
-      (r.0.0.now, (r.0.1.0, (r.0.1.1.0, (r.0.1.1.1.0.now, (r.0.1.1.1.1.0.now, r.0.1.1.1.1.1.now))))),
+      (r.0.0.now, (r.0.1.0, (r.0.1.1.0, (let p = r.0.1.1.1 in (p.0.now, (p.1.0.now, p.1.1.now)))))),
       r.1.now,
     )) result
         ≡ head_fields.read bytes.now }
@@ -87,7 +87,7 @@ fn first_parts(bytes: &[u8]) -> Option<(HeadParts<'_>, &[u8])>
 /// The same, with the length that the parts take.
 fn parts_of(bytes: &[u8]) -> Option<(HeadParts<'_>, &[u8])>
     ensures value { option_map (λ r. (
-      (r.0.0.now, (r.0.1.0, (r.0.1.1.0, (r.0.1.1.1.0.now, (r.0.1.1.1.1.0.now, r.0.1.1.1.1.1.now))))),
+      (r.0.0.now, (r.0.1.0, (r.0.1.1.0, (let p = r.0.1.1.1 in (p.0.now, (p.1.0.now, p.1.1.now)))))),
       r.1.now,
     )) result
         ≡ head_fields.read bytes.now }

@@ -18,6 +18,7 @@ mod writing;
 
 pub use chain::{Chain, chain_after, chains_tell_logs_apart, link};
 pub use entry::{Entry, Source};
+pub use fields::OfferFields;
 pub use frame::{FrameFault, MAX_ENTRIES, frame_bytes, frame_of};
 pub use head::{Head, HeadFault, head_bytes, head_of, is_viewer_count};
 pub use reading::entry_of;

@@ -12,7 +12,7 @@ use Rattle.share_law.specs.declared.fault.GatherFault.{GatherFault}
 use Rattle.share_law.specs.declared.reply.Gathered.{Gathered}
 use Rattle.share_law.specs.declared.reply.Gathered.TheVariants as gathered
 use Rattle.share_law.specs.Viewer.{ViewerWorld, Spoiled, Running}
-use Rattle.cascade_core.specs.Texts.{scene_text, trace_text}
+use Rattle.cascade_core.specs.Texts.{texts}
 use Rattle.cascade_core.specs.Course.{Scripted}
 use Rattle.share_core.specs.Viewer.{ViewerView}
 use Rattle.share_rehearsal.specs.declared.answer.Answer.{Answer}
@@ -92,8 +92,7 @@ lines_from n (a ∷ answers) = line_text n a ++ lines_from (suc n) answers
 abbrev pub ending_in : (number : ℕ) → ViewerView → ViewerWorld Scripted → List ℕ
 ending_in number v (Running w window) =
     codes "viewer " ++ decimal number ++ codes " at " ++ decimal w.world.applied
-    ++ codes " boot " ++ decimal v.state.boot ++ 10 ∷ trace_text v.scene w
-    ++ scene_text v.scene v.routes w
+    ++ codes " boot " ++ decimal v.state.boot ++ 10 ∷ texts v.scene v.routes w
 ending_in number v (Spoiled count) =
     codes "viewer " ++ decimal number ++ codes " spoiled" ++ 10 ∷ []
 

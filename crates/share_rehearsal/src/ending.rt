@@ -1,7 +1,7 @@
 //! What each viewer holds at the end of a rehearsal.
 
 ghost use Rattle.std.specs.Prelude.{◌≡◌, ◌++◌, ◌∷◌, [], codes, decimal, is_ok, OnOk, false};
-ghost use Rattle.cascade_core.specs.Texts.{scene_text, trace_text};
+ghost use Rattle.cascade_core.specs.Texts.{texts};
 ghost use Rattle.share_core.specs.Viewer.{IfRunning, is_spoiled};
 ghost use Rattle.share_rehearsal.specs.Log.{ending_text, endings_from};
 
@@ -45,14 +45,12 @@ fn push_boot(boot: u32, out: &mut Vec<u8>) -> Result<(), AllocError>
     push_word("\n", out)
 }
 
-/// Appends the trace and the scene of a running viewer. On an error, part of them may be appended.
+/// Appends the trace and the scene of a running viewer, or nothing on an error.
 fn push_texts<B: Behaviour>(viewer: &Viewer<B>, out: &mut Vec<u8>) -> Result<(), AllocError>
     ensures { IfRunning viewer.now.state.view (λ w. OnOk result (out.new.items
-        ≡ out.old.items ++ trace_text viewer.now.scene w
-        ++ scene_text viewer.now.scene viewer.now.routes w)) }
+        ≡ out.old.items ++ texts viewer.now.scene viewer.now.routes w)) }
 {
-    written(viewer.trace_text(out))?;
-    written(viewer.scene_text(out))
+    written(viewer.texts(out))
 }
 
 /// Appends a line about a running viewer, then its trace and its scene.

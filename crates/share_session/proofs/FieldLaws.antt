@@ -8,10 +8,10 @@ use Rattle.x3d_values.specs.Ranges.{is_viewer}
 use Rattle.x3d_values.specs.declared.vector.Vec3.{Vec3}
 use Rattle.share_wire.specs.Messages.{AckView, piece_size}
 use Rattle.share_wire.proofs.FieldLaws.{vector_exact}
-use Rattle.share_entries.specs.Entry.{EntryView}
+use Rattle.share_entries.specs.Entry.{EntryView, fields_of, offer_with}
 use Rattle.share_entries.specs.Head.{is_viewer_count}
+use Rattle.share_entries.specs.declared.fields.OfferFields.{OfferFields}
 use Rattle.share_entries.proofs.EntryLaws.{entry_exact}
-use Rattle.share_session.specs.declared.fields.OfferParts.{OfferParts}
 use Rattle.share_session.specs.declared.message.Input2.{Input2}
 use Rattle.share_session.specs.declared.message.Ask2.{Ask2}
 use Rattle.share_session.specs.declared.message.Hello.{Hello}
@@ -20,7 +20,7 @@ use Rattle.share_session.specs.declared.piece.PieceHead.{PieceHead}
 use Rattle.share_session.specs.Ranges.{is_number, is_head}
 use Rattle.share_session.specs.Names.{NameView, is_name}
 use Rattle.share_session.specs.Messages.{PieceView2}
-use Rattle.share_session.specs.Fields.{head_codec, number_codec, seat_codec, input_codec, offer_parts, offer_with, parts_of, offer_codec, ask_codec, ack_codec, piece_parts, piece_heads, piece_codec, name_codec, hello_codec, count_codec, welcome_codec}
+use Rattle.share_session.specs.Fields.{head_codec, number_codec, seat_codec, input_codec, offer_parts, offer_codec, ask_codec, ack_codec, piece_parts, piece_heads, piece_codec, name_codec, hello_codec, count_codec, welcome_codec}
 
 pub head_exact : IsExact head_codec
 unfolding head_codec
@@ -42,13 +42,13 @@ input_exact = named_exact (λ (t : List ℕ × (ℕ × EntryView)). let i : Inpu
 parts_exact : IsExact offer_parts
 unfolding offer_parts
 parts_exact = named_exact
-    (λ (t : ℕ × (ℕ × (ℕ × (Bool × (Vec3 × Vec3))))). let p : OfferParts = record { who = t.0; boot = t.1.0; number = t.1.1.0; down = t.1.1.1.0; origin = t.1.1.1.1.0; dir = t.1.1.1.1.1 } in p)
+    (λ (t : ℕ × (ℕ × (ℕ × (Bool × (Vec3 × Vec3))))). let p : OfferFields = record { who = t.0; boot = t.1.0; number = t.1.1.0; down = t.1.1.1.0; origin = t.1.1.1.1.0; dir = t.1.1.1.1.1 } in p)
     (λ p. (p.who, (p.boot, (p.number, (p.down, (p.origin, p.dir)))))) _ (λ a. refl) (λ b. refl)
     (pair_exact _ _ byte_exact (pair_exact _ _ (number_exact w32 wide32) (pair_exact _ _ (number_exact w32 wide32) (pair_exact _ _ truth_exact (pair_exact _ _ vector_exact vector_exact)))))
 
 pub offer_exact : IsExact offer_codec
 unfolding offer_codec
-offer_exact = named_exact offer_with parts_of _ (λ a. refl) (λ b. refl) (checked_exact _ offer_parts parts_exact)
+offer_exact = named_exact offer_with fields_of _ (λ a. refl) (λ b. refl) (checked_exact _ offer_parts parts_exact)
 
 pub ask_exact : IsExact ask_codec
 unfolding ask_codec

@@ -6,9 +6,9 @@ use Rattle.x3d_values.specs.Ranges.{is_viewer}
 use Rattle.share_wire.specs.Messages.{OfferView, AckView, piece_size}
 use Rattle.share_wire.specs.Fields.{vector}
 use Rattle.share_wire.specs.Datagram.{offering_fits}
-use Rattle.share_entries.specs.Entry.{entry_codec}
+use Rattle.share_entries.specs.Entry.{entry_codec, fields_of, offer_with}
 use Rattle.share_entries.specs.Head.{is_viewer_count}
-use Rattle.share_session.specs.declared.fields.OfferParts.{OfferParts}
+use Rattle.share_entries.specs.declared.fields.OfferFields.{OfferFields}
 use Rattle.share_session.specs.declared.message.Input2.{Input2}
 use Rattle.share_session.specs.declared.message.Ask2.{Ask2}
 use Rattle.share_session.specs.declared.piece.PieceHead.{PieceHead}
@@ -37,7 +37,7 @@ input_codec = named (λ t. record { chain = t.0; number = t.1.0; entry = t.1.1 }
 -- ---- offers
 
 -- who, boot, offer, down, origin, direction; no range is checked here
-unfoldable pub offer_parts : Codec OfferParts
+unfoldable pub offer_parts : Codec OfferFields
 offer_parts = named
     (λ t. record {
       who = t.0;
@@ -47,33 +47,12 @@ offer_parts = named
       origin = t.1.1.1.1.0;
       dir = t.1.1.1.1.1;
     })
-    (λ p. (p.who, (p.boot, (p.number, (p.down, (p.origin, p.dir))))))
+    (λ f. (f.who, (f.boot, (f.number, (f.down, (f.origin, f.dir))))))
     (pair byte (pair (number w32) (pair (number w32) (pair truth (pair vector vector)))))
 
-abbrev pub offer_with : OfferParts → OfferView
-offer_with p = record {
-  boot = p.boot;
-  number = p.number;
-  pointer = record {
-    who = p.who;
-    down = p.down;
-    ray = record { origin = p.origin; dir = p.dir };
-  };
-}
-
-abbrev pub parts_of : OfferView → OfferParts
-parts_of o = record {
-  who = o.pointer.who;
-  boot = o.boot;
-  number = o.number;
-  down = o.pointer.down;
-  origin = o.pointer.ray.origin;
-  dir = o.pointer.ray.dir;
-}
-
 unfoldable pub offer_codec : Codec OfferView
-offer_codec = named offer_with parts_of
-    (checked (λ p. offering_fits (offer_with p)) offer_parts)
+offer_codec = named offer_with fields_of
+    (checked (λ f. offering_fits (offer_with f)) offer_parts)
 
 -- ---- asks, acks, pieces
 

@@ -10,7 +10,6 @@
 mod decoding;
 mod encoding;
 mod fault;
-mod fields;
 mod following;
 mod hearing;
 mod laws;

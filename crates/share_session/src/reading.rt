@@ -2,19 +2,16 @@
 
 ghost use Rattle.std.specs.Prelude.{◌≡◌, IfSome, IsTrue, length};
 ghost use Rattle.std.specs.Option.{option_map};
-ghost use Rattle.share_wire.specs.Fields.{vector};
 ghost use Rattle.share_session.specs.Ranges.{is_head};
 ghost use Rattle.share_session.specs.Fields.{number_codec, seat_codec, input_codec, offer_parts, offer_codec, ask_codec, ack_codec, piece_heads, piece_codec, name_codec, hello_codec, count_codec, welcome_codec};
 
-use crate::fields::OfferParts;
 use crate::message::{Ask2, Hello, Input2, Welcome};
 use crate::name::{WorldName, is_name};
 use crate::numbers::{Number, SeatNumber, ViewerCount, is_number};
 use crate::piece::{Piece2, PieceHead};
-use byte_codec::{byte_of, chunk_of, flag_of, i64_of, u32_of, u64_of};
-use share_entries::{entry_of, is_viewer_count};
-use share_wire::{Ack, Offer, is_viewer, piece_size};
-use x3d_values::Vec3;
+use byte_codec::{byte_of, chunk_of, flag_of, u32_of, u64_of};
+use share_entries::{OfferFields, entry_of, is_viewer_count};
+use share_wire::{Ack, Offer, is_viewer, piece_size, vector_of};
 
 #[tactic(auto, unfolding(crate::specs::Fields::number_codec))]
 pub(crate) fn number_of(bytes: &[u8]) -> Option<(Number, &[u8])>
@@ -94,23 +91,8 @@ pub(crate) fn input_of(bytes: &[u8]) -> Option<(Input2, &[u8])>
     Some((input, rest))
 }
 
-fn vector_of(bytes: &[u8]) -> Option<(Vec3, &[u8])>
-    ensures { option_map (λ r. (r.0, r.1.now)) result ≡ vector.read bytes.now }
-{
-    let Some((x, rest)) = i64_of(bytes) else {
-        return None;
-    };
-    let Some((y, rest)) = i64_of(rest) else {
-        return None;
-    };
-    let Some((z, rest)) = i64_of(rest) else {
-        return None;
-    };
-    Some((Vec3 { x, y, z }, rest))
-}
-
 #[tactic(auto, unfolding(crate::specs::Fields::offer_parts))]
-fn parts_of(bytes: &[u8]) -> Option<(OfferParts, &[u8])>
+fn parts_of(bytes: &[u8]) -> Option<(OfferFields, &[u8])>
     ensures { option_map (λ r. (r.0, r.1.now)) result ≡ offer_parts.read bytes.now }
 {
     let Some((who, rest)) = byte_of(bytes) else {
@@ -131,7 +113,7 @@ fn parts_of(bytes: &[u8]) -> Option<(OfferParts, &[u8])>
     let Some((dir, rest)) = vector_of(rest) else {
         return None;
     };
-    let parts = OfferParts {
+    let parts = OfferFields {
         who,
         boot,
         number,

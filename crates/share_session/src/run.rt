@@ -1,8 +1,9 @@
 //! Runs and sessions.
 
-ghost use Rattle.std.specs.Prelude.{◌≡◌, take};
+ghost use Rattle.std.specs.Prelude.{◌≡◌};
 ghost use Rattle.share_session.specs.Runs.{SessionsTell, session_of};
 
+use crate::reading::sixteen;
 use sha2::{Digest, Sha256};
 
 /// What names one list of inputs: drawn at random where a list begins.
@@ -11,14 +12,6 @@ pub type Run = [u8; 16];
 /// What names a run of one scene in its datagrams.
 pub type Session = [u8; 16];
 
-fn front_of(digest: &[u8; 32]) -> Session
-    ensures { result ≡ take 16 digest.now }
-{
-    let mut front = [0; 16];
-    front.copy_from_slice(&digest[..16]);
-    front
-}
-
 /// Returns the session of a run of the scene with this mark.
 pub fn session_of(mark: &[u8; 32], run: &Run) -> Session
     ensures { result ≡ session_of mark.now run.now }
@@ -26,7 +19,8 @@ pub fn session_of(mark: &[u8; 32], run: &Run) -> Session
     let mut hasher = Sha256::new();
     hasher.update(mark.as_slice());
     hasher.update(run.as_slice());
-    front_of(&hasher.finalize())
+    let digest = hasher.finalize();
+    sixteen(&digest[..16])
 }
 
 /// Two runs have different sessions, and so have runs of two scenes, or two texts have a SHA-256

@@ -1,15 +1,14 @@
 //! The body of each message, appended to a packet.
 
 ghost use Rattle.std.specs.Prelude.{◌≡◌, ◌+◌, ◌≤◌, ◌++◌, length, IsTrue};
-ghost use Rattle.share_session.specs.Fields.{number_codec, input_codec, offer_parts, offer_codec, ask_codec, ack_codec, piece_parts, piece_codec, name_codec, hello_codec, welcome_codec};
+ghost use Rattle.share_session.specs.Fields.{number_codec, seat_codec, input_codec, offer_parts, offer_codec, ask_codec, ack_codec, piece_parts, piece_codec, name_codec, hello_codec, welcome_codec};
 
-use crate::fields::OfferParts;
 use crate::message::{Ask2, Hello, Input2, Welcome};
 use crate::name::WorldName;
-use crate::numbers::Number;
+use crate::numbers::{Number, SeatNumber};
 use crate::packet::{Packet2, push_bytes, push_u32, push_u64, push_vector};
 use crate::piece::{Piece2, PieceHead};
-use share_entries::bytes_of;
+use share_entries::{OfferFields, bytes_of};
 use share_wire::{Ack, Offer};
 
 #[tactic(auto, unfolding(crate::specs::Fields::number_codec))]
@@ -35,7 +34,7 @@ pub(crate) fn push_input(out: &mut Packet2, input: &Input2)
 }
 
 #[tactic(auto, unfolding(crate::specs::Fields::offer_parts))]
-fn push_parts(out: &mut Packet2, parts: OfferParts)
+fn push_parts(out: &mut Packet2, parts: OfferFields)
     requires { length out.old.items + 58 ≤ 288 }
     ensures text { out.new.items ≡ out.old.items ++ offer_parts.write parts }
     ensures len { length out.new.items ≡ length out.old.items + 58 }
@@ -55,17 +54,27 @@ pub(crate) fn push_offer(out: &mut Packet2, offer: Offer)
     ensures len { length out.new.items ≤ 80 }
     ensures fits { IsTrue (offer_codec.fits offer) }
 {
-    push_parts(out, OfferParts::of(offer));
+    push_parts(out, OfferFields::of(offer));
 }
 
-#[tactic(auto, unfolding(crate::specs::Fields::ask_codec, crate::specs::Fields::seat_codec))]
+#[tactic(auto, unfolding(crate::specs::Fields::seat_codec))]
+fn push_seat(out: &mut Packet2, who: SeatNumber)
+    requires { length out.old.items + 1 ≤ 288 }
+    ensures text { out.new.items ≡ out.old.items ++ seat_codec.write who }
+    ensures len { length out.new.items ≡ length out.old.items + 1 }
+    ensures fits { IsTrue (seat_codec.fits who) }
+{
+    push_bytes(out, &[who.get()]);
+}
+
+#[tactic(auto, unfolding(crate::specs::Fields::ask_codec))]
 pub(crate) fn push_ask(out: &mut Packet2, ask: Ask2)
     requires { length out.old.items ≤ 22 }
     ensures text { out.new.items ≡ out.old.items ++ ask_codec.write ask }
     ensures len { length out.new.items ≤ 31 }
     ensures fits { IsTrue (ask_codec.fits ask) }
 {
-    push_bytes(out, &[ask.who.get()]);
+    push_seat(out, ask.who);
     push_number(out, ask.next);
 }
 
@@ -117,7 +126,7 @@ fn push_name(out: &mut Packet2, name: &WorldName)
     push_bytes(out, name.bytes());
 }
 
-#[tactic(auto, unfolding(crate::specs::Fields::hello_codec, crate::specs::Fields::seat_codec))]
+#[tactic(auto, unfolding(crate::specs::Fields::hello_codec))]
 pub(crate) fn push_hello(out: &mut Packet2, hello: &Hello)
     requires { length out.old.items ≤ 6 }
     ensures text { out.new.items ≡ out.old.items ++ hello_codec.write hello.now }
@@ -125,13 +134,13 @@ pub(crate) fn push_hello(out: &mut Packet2, hello: &Hello)
     ensures fits { IsTrue (hello_codec.fits hello.now) }
 {
     push_bytes(out, &hello.mark);
-    push_bytes(out, &[hello.who.get()]);
+    push_seat(out, hello.who);
     push_bytes(out, &hello.cookie);
     push_bytes(out, &hello.nonce);
     push_name(out, &hello.name);
 }
 
-#[tactic(auto, unfolding(crate::specs::Fields::welcome_codec, crate::specs::Fields::seat_codec, crate::specs::Fields::count_codec))]
+#[tactic(auto, unfolding(crate::specs::Fields::welcome_codec, crate::specs::Fields::count_codec))]
 pub(crate) fn push_welcome(out: &mut Packet2, welcome: &Welcome)
     requires { length out.old.items ≤ 6 }
     ensures text { out.new.items ≡ out.old.items ++ welcome_codec.write welcome.now }
@@ -139,7 +148,7 @@ pub(crate) fn push_welcome(out: &mut Packet2, welcome: &Welcome)
     ensures fits { IsTrue (welcome_codec.fits welcome.now) }
 {
     push_bytes(out, &welcome.mark);
-    push_bytes(out, &[welcome.who.get()]);
+    push_seat(out, welcome.who);
     push_bytes(out, &welcome.cookie);
     push_bytes(out, &welcome.nonce);
     push_bytes(out, &welcome.run);

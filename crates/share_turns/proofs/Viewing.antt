@@ -1,11 +1,11 @@
 -- Turns of a viewer, one after another.
-use Rattle.std.proofs.Common.{◌≡◌, ℕ, suc, ◌+◌, ◌<◌, ◌++◌, Bool, List, refl, ap, ◌∙◌, subst, append_assoc, arith}
+use Rattle.std.proofs.Common.{◌≡◌, ℕ, suc, ◌+◌, ◌<◌, ◌++◌, Bool, List, refl, ap, ◌∙◌, subst, arith}
 use Rattle.std.specs.Prelude.{Option, Result, Ok, Err, slice_get}
 use Rattle.x3d_values.specs.declared.pointing.Point.{Point}
 use Rattle.cascade_core.specs.declared.fault.TextFault.{TextFault}
 use Rattle.cascade_core.specs.declared.fault.TextFault.TheVariants as text_fault
 use Rattle.cascade_core.specs.Course.{Scripted}
-use Rattle.cascade_core.specs.Texts.{scene_text, trace_text}
+use Rattle.cascade_core.specs.Texts.{texts}
 use Rattle.share_law.specs.Viewer.{ViewerWorld, Running, Spoiled}
 use Rattle.share_core.specs.Viewer.{IfRunning, IfSpoiled, ViewerView, machine_of, with_state}
 use Rattle.share_turns.specs.declared.traffic.Traffic.{Traffic}
@@ -54,21 +54,14 @@ abbrev pub refused : TextFault → Result (Unit {0}) TextFault
 refused fault = Err fault
 
 -- a trace and a scene were appended
-pub both_appended : (v : ViewerView) (old mid new : List ℕ) → IfSpoiled v.state.view (written ≡ Err text_fault.Spoiled)
-    → IfRunning v.state.view (λ w. mid ≡ old ++ trace_text v.scene w)
-    → IfRunning v.state.view (λ w. new ≡ mid ++ scene_text v.scene v.routes w) → AreAppended v old new
-both_appended v old mid new unless first second = shown v.state.view refl unless first second
+pub both_appended : (v : ViewerView) (old new : List ℕ) → IfSpoiled v.state.view (written ≡ Err text_fault.Spoiled)
+    → IfRunning v.state.view (λ w. new ≡ old ++ texts v.scene v.routes w) → AreAppended v old new
+both_appended v old new unless appended = shown v.state.view refl unless appended
   where
     shown : (view : ViewerWorld Scripted) → v.state.view ≡ view → IfSpoiled view (written ≡ Err text_fault.Spoiled)
-        → IfRunning view (λ w. mid ≡ old ++ trace_text v.scene w)
-        → IfRunning view (λ w. new ≡ mid ++ scene_text v.scene v.routes w) → AreAppended v old new
-    shown (Running w window) is unless first second = record {
-      held = w;
-      window = window;
-      runs = is;
-      texts = second ∙ ap (λ xs. xs ++ scene_text v.scene v.routes w) first ∙ append_assoc old (trace_text v.scene w) (scene_text v.scene v.routes w);
-    }
-    shown (Spoiled count) is unless first second = absurd (cc)
+        → IfRunning view (λ w. new ≡ old ++ texts v.scene v.routes w) → AreAppended v old new
+    shown (Running w window) is unless appended = record { held = w; window = window; runs = is; texts = appended }
+    shown (Spoiled count) is unless appended = absurd (cc)
 
 -- a text was refused
 pub text_refused : (view : ViewerWorld Scripted) (fault : TextFault) → IfSpoiled view (refused fault ≡ Err text_fault.Spoiled)

@@ -6,7 +6,7 @@ use Rattle.x3d_values.specs.Stamp.{StampedView}
 use Rattle.cascade_core.specs.declared.fault.TextFault.{TextFault}
 use Rattle.cascade_core.specs.declared.fault.TextFault.TheVariants as text_fault
 use Rattle.cascade_core.specs.Course.{Scripted}
-use Rattle.cascade_core.specs.Texts.{scene_text, trace_text}
+use Rattle.cascade_core.specs.Texts.{texts}
 use Rattle.share_law.specs.Viewer.{ViewerWorld, Running, ViewerState, applied_in}
 use Rattle.share_core.specs.Viewer.{IfRunning, IfSpoiled, ViewerView, machine_of, with_state}
 use Rattle.share_turns.specs.declared.traffic.Traffic.{Traffic}
@@ -103,7 +103,7 @@ pub record AreAppended (v : ViewerView) (old new : List ℕ) : Type 0 where
   pub held : Scripted
   pub window : List (Option StampedView)
   pub runs : v.state.view ≡ Running held window
-  pub texts : new ≡ old ++ (trace_text v.scene held ++ scene_text v.scene v.routes held)
+  pub texts : new ≡ old ++ texts v.scene v.routes held
 
 abbrev pub turn_fault_of : TextFault → TurnFault
 turn_fault_of text_fault.Spoiled = Spoiled

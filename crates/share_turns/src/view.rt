@@ -83,16 +83,6 @@ pub fn view_until<B: Behaviour, P: Port>(
     Ok(turns)
 }
 
-fn push_both<B: Behaviour>(viewer: &Viewer<B>, out: &mut Vec<u8>) -> Result<(), TurnFault>
-    ensures ok { OnOk result (AreAppended viewer.now out.old.items out.new.items) }
-    ensures kept { Extends out.old.items out.new.items }
-    ensures fault { IfErr result (IsTextFault viewer.now.state.view) }
-{
-    viewer.trace_text(out)?;
-    viewer.scene_text(out)?;
-    Ok(())
-}
-
 /// Appends the trace and then the scene of a viewer. On a failure the buffer is unchanged.
 pub(crate) fn push_texts<B: Behaviour>(
     viewer: &Viewer<B>,
@@ -102,12 +92,8 @@ pub(crate) fn push_texts<B: Behaviour>(
     ensures err { OnErr result (out.new.items ≡ out.old.items) }
     ensures fault { IfErr result (IsTextFault viewer.now.state.view) }
 {
-    let len = out.len();
-    let pushed = push_both(viewer, out);
-    if pushed.is_err() {
-        out.truncate(len);
-    }
-    pushed
+    viewer.texts(out)?;
+    Ok(())
 }
 
 /// Joins with this boot, if there is one. Returns the number of turns that this took.

@@ -3,7 +3,7 @@
 use super::reactions::ONE;
 use super::sending::fields;
 use super::{Row, all_hold, holds, list_of};
-use react_core::{Outbox, copy_of, react};
+use react_core::{ArrivedEvent, Outbox, copy_of, react};
 use std::alloc::Global;
 use std::process::Abort;
 use tests_memory::{Outcome, Spared, UsedUp, is_refused_until_enough};
@@ -17,7 +17,12 @@ impl<'a> Spared<Fields> for Reaction<'a> {
     fn work(&self, alloc: Global, node: &mut Fields, memory: &mut UsedUp) -> Outcome {
         let mut out = Outbox::new();
         memory.run_short();
-        let answer = react(alloc, self.0, node, self.1, self.2, 0, &mut out);
+        let event = ArrivedEvent {
+            field: self.1,
+            value: self.2,
+            time: 0,
+        };
+        let answer = react(alloc, self.0, node, &event, &mut out);
         memory.come_back();
         let sent = out.len();
         drop(out);

@@ -2,7 +2,7 @@
 
 use super::sending::{Given, fields, is_sent, value_of};
 use super::{Row, all_hold, list_of};
-use react_core::{Outbox, react};
+use react_core::{ArrivedEvent, Outbox, react};
 use std::alloc::Global;
 use std::process::Abort;
 use x3d_values::{Fields, NodeType, Position, Value, Vec2, Vec3};
@@ -17,7 +17,12 @@ pub(super) fn reacts(
     wanted: &str,
 ) -> bool {
     let mut out = Outbox::new();
-    let answered = react(alloc, node_type, node, input, &value, 42_000_000, &mut out).is_ok();
+    let event = ArrivedEvent {
+        field: input,
+        value: &value,
+        time: 42_000_000,
+    };
+    let answered = react(alloc, node_type, node, &event, &mut out).is_ok();
     drop(value);
     let sent = is_sent(alloc, &out, wanted);
     drop(out);

@@ -10,7 +10,7 @@ use app_commands::{SharedJob, shared_job};
 use app_jobs::JobInputs;
 use app_program::{RunFault, attach};
 use app_words::Order;
-use cascade_core::{Stage, TextFault};
+use cascade_core::Stage;
 use scene_core::Scene;
 use script_boxes::{StockScript, boxes_of};
 use script_host::Scripts;
@@ -85,17 +85,11 @@ fn is_saved(alloc: Global, stage: &Stage<StockScript>, mark: &[u8; 32], shot: &[
     saved && same
 }
 
-/// Appends the trace and the scene of a stage.
-fn push_texts(stage: &Stage<StockScript>, out: &mut Vec<u8>) -> Result<(), TextFault> {
-    stage.trace_text(out)?;
-    stage.scene_text(out)
-}
-
 /// Reports whether two stages have the same texts.
 fn are_alike(alloc: Global, one: &Stage<StockScript>, other: &Stage<StockScript>) -> bool {
     let mut first = Vec::new(alloc);
     let mut second = Vec::new(alloc);
-    let pushed = push_texts(one, &mut first).is_ok() & push_texts(other, &mut second).is_ok();
+    let pushed = one.texts(&mut first).is_ok() & other.texts(&mut second).is_ok();
     let same = first.as_slice() == second.as_slice();
     drop(second);
     drop(first);

@@ -1,11 +1,10 @@
-use Rattle.std.proofs.Common.{rules, refl, sym}
-use Rattle.std.proofs.lemmas.Int.{to_z-of_z}
+use Rattle.std.proofs.Common.{rules, sym}
 use Rattle.react_core.proofs.AnswerLemmas.{answer-interpolator}
 use Rattle.react_core.proofs.reaction.answer.Goals as goal
 
 pub returns-then-is_interpolator : goal.returns-then-is_interpolator
 returns-then-is_interpolator c =
-    let same = answer-interpolator c.args.node_type c.args.fields.now c.args.input c.args.value.now c.args.time (sym c.if-is_interpolator.ensures) in
+    let same = answer-interpolator c.args.node_type c.args.fields.now c.args.event.now.field c.args.event.now.value.now c.args.event.now.time (sym c.if-is_interpolator.ensures) in
     rw same
     (record {
       fields = search rules;
@@ -14,14 +13,3 @@ returns-then-is_interpolator c =
       refused_replies = c.interpolator.ensures.refused_replies;
       no_memory = c.interpolator.ensures.no_memory;
     })
-
-pub returns : goal.returns
-returns c =
-    let fits = c.ranges.time in
-    record {
-      fields = simp to_z-of_z at c.act.ensures.fields;
-      replies = simp to_z-of_z at c.act.ensures.replies;
-      refused_fields = tt;
-      refused_replies = tt;
-      no_memory = λ _. refl;
-    }

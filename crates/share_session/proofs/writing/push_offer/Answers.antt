@@ -2,7 +2,7 @@ use Rattle.std.proofs.Common.{◌≡◌, true, rules}
 use Rattle.share_wire.specs.Datagram.{body_fits}
 use Rattle.share_wire.specs.declared.message.Body.TheVariants as body
 use Rattle.share_session.proofs.RangeLaws.{offer_fits}
-use Rattle.share_session.proofs.fields.OfferParts.of.Goals as goal
+use Rattle.share_session.proofs.writing.push_offer.Goals as goal
 
 pub returns-clause-fits : goal.returns-clause-fits
 returns-clause-fits c =

@@ -1,5 +1,5 @@
 use Rattle.app_words.proofs.AskedLemmas.{end_needs_exactly, end_needs_until}
-use Rattle.app_words.proofs.asked.end_in.Goals as goal
+use Rattle.app_words.proofs.view.end_in.Goals as goal
 
 pub returns-in_default-clause-none : goal.returns-in_default-clause-none
 returns-in_default-clause-none c = end_needs_until _ c.in_default.ensures.none

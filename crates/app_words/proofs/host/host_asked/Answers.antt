@@ -1,4 +1,4 @@
-use Rattle.app_words.proofs.asked.host_asked.Goals as goal
+use Rattle.app_words.proofs.host.host_asked.Goals as goal
 
 pub returns-in_default-clause-none : goal.returns-in_default-clause-none
 returns-in_default-clause-none c = λ o h. c.in_default.ensures.none o.port h.port

@@ -1,4 +1,4 @@
-use Rattle.app_words.proofs.asked.view_asked.Goals as goal
+use Rattle.app_words.proofs.view.view_asked.Goals as goal
 
 pub returns-in_default-clause-none : goal.returns-in_default-clause-none
 returns-in_default-clause-none c = λ o h. c.in_default.ensures.none o.port h.port

@@ -1,0 +1,61 @@
+-- Each option of a command has one number.
+use Rattle.std.specs.Prelude.{Option, Some, None}
+use Rattle.std.proofs.Common.{◌≡◌, ◌∙◌, ℕ, List, ap, refl, sym}
+use Rattle.std.specs.Str.Parse.{digits_value, without_leading_plus}
+use Rattle.clap.specs.Words.{Row, Text}
+use Rattle.app_words.specs.declared.order.HostOrder.{HostOrder}
+use Rattle.app_words.specs.declared.order.ViewEnd.{ViewEnd}
+use Rattle.app_words.specs.declared.order.ViewEnd.TheVariants.{Until, Exactly}
+use Rattle.app_words.specs.declared.order.ViewOrder.{ViewOrder}
+use Rattle.app_words.specs.Words.{AsksHost, AsksView, HasNumber, HasNumberIn, IsEnd, IsLeftOut, MayHaveNumberIn}
+
+one_number : (id : Text) (rows : List Row) (n m : ℕ) → HasNumber id rows n → HasNumber id rows m → n ≡ m
+one_number id rows n m a b =
+    let found : Some a.text ≡ Some b.text = sym a.found ∙ b.found in
+    let text : a.text ≡ b.text = (cc) in
+    a.value ∙ ap (λ t. digits_value 10 (without_leading_plus t)) text ∙ sym b.value
+
+pub one : {id : Text} {rows : List Row} {low high n m : ℕ} → HasNumberIn id rows low high n → HasNumberIn id rows low high m → n ≡ m
+one {id} {rows} {low} {high} {n} {m} a b = one_number id rows n m a.number b.number
+
+-- what was left out has no number
+pub without : {id : Text} {rows : List Row} {low high n : ℕ} → HasNumberIn id rows low high n → IsLeftOut id rows → ⊥
+without {id} {rows} {low} {high} {n} a none = let bad : Some a.number.text ≡ None = sym a.number.found ∙ none in (cc)
+
+pub one_or_none : (id : Text) (rows : List Row) (low high : ℕ) (n m : Option ℕ) → MayHaveNumberIn id rows low high n
+    → MayHaveNumberIn id rows low high m → n ≡ m
+one_or_none id rows low high (Some n) (Some m) a b = ap (λ x. Some x) (one a b)
+one_or_none id rows low high (Some n) None a b = absurd (without a b)
+one_or_none id rows low high None (Some m) a b = absurd (without b a)
+one_or_none id rows low high None None a b = refl
+
+one_end : (rows : List Row) (x y : ViewEnd) → IsEnd rows x → IsEnd rows y → x ≡ y
+one_end rows (Until n) (Until m) a b = ap (λ k. Until k) (one a.0 b.0)
+one_end rows (Until n) (Exactly m) a b = absurd (without a.0 b.0)
+one_end rows (Exactly n) (Until m) a b = absurd (without b.0 a.0)
+one_end rows (Exactly n) (Exactly m) a b = ap (λ k. Exactly k) (one a.1 b.1)
+
+pub one_host : (rows : List Row) (x y : HostOrder) → AsksHost rows x → AsksHost rows y → x ≡ y
+one_host rows x y a b =
+    let log : Some x.log ≡ Some y.log = sym a.log ∙ b.log in
+    ap (λ n. record x { port = n }) (one a.port b.port)
+    ∙ ap (λ u. record x { port = y.port; log = u }) (let same : x.log ≡ y.log = (cc) in same)
+    ∙ ap (λ n. record x { port = y.port; log = y.log; viewers = n }) (one_or_none _ rows _ _ x.viewers y.viewers a.viewers b.viewers)
+    ∙ ap (λ n. record y { turns = n; keep = x.keep; every = x.every; until = x.until; verbose = x.verbose }) (one_or_none _ rows _ _ x.turns y.turns a.turns b.turns)
+    ∙ ap (λ o. record y { keep = o; every = x.every; until = x.until; verbose = x.verbose }) (one_or_none _ rows _ _ x.keep y.keep a.keep b.keep)
+    ∙ ap (λ o. record y { every = o; until = x.until; verbose = x.verbose }) (one_or_none _ rows _ _ x.every y.every a.every b.every)
+    ∙ ap (λ o. record y { until = o; verbose = x.verbose }) (one_or_none _ rows _ _ x.until y.until a.until b.until)
+    ∙ ap (λ v. record y { verbose = v }) (a.verbose ∙ sym b.verbose)
+
+pub one_view : (rows : List Row) (x y : ViewOrder) → AsksView rows x → AsksView rows y → x ≡ y
+one_view rows x y a b =
+    ap (λ n. record x { port = n }) (one a.port b.port)
+    ∙ ap (λ n. record x { port = y.port; who = n }) (one a.who b.who)
+    ∙ ap (λ n. record x { port = y.port; who = y.who; boot = n }) (one a.boot b.boot)
+    ∙ ap (λ e. record x { port = y.port; who = y.who; boot = y.boot; end = e }) (one_end rows x.end y.end a.end b.end)
+    ∙ ap (λ n. record y { turns = n; at = x.at; give = x.give; give_turns = x.give_turns; join = x.join; verbose = x.verbose }) (one a.turns b.turns)
+    ∙ ap (λ o. record y { at = o; give = x.give; give_turns = x.give_turns; join = x.join; verbose = x.verbose }) (one_or_none _ rows _ _ x.at y.at a.at b.at)
+    ∙ ap (λ o. record y { give = o; give_turns = x.give_turns; join = x.join; verbose = x.verbose }) (one_or_none _ rows _ _ x.give y.give a.give b.give)
+    ∙ ap (λ n. record y { give_turns = n; join = x.join; verbose = x.verbose }) (one a.give_turns b.give_turns)
+    ∙ ap (λ v. record y { join = v; verbose = x.verbose }) (a.join ∙ sym b.join)
+    ∙ ap (λ v. record y { verbose = v }) (a.verbose ∙ sym b.verbose)

@@ -1,0 +1,182 @@
+//! The texts at the end of the help of the program and of each command.
+
+pub(crate) const PROGRAM_HELP: &str =
+    "A job, a schedule or a scene is read from standard input; the help of each command says which.
+
+Examples:
+  x3d_share run < examples/two-clocks.job
+  x3d_share format < examples/lamp.x3dv
+  x3d_share check < examples/lamp.x3dv
+  x3d_share rehearse < examples/rehearsal.schedule
+  x3d_share agree < examples/two-clocks.job
+
+Status:
+  0  all was done
+  1  the scene is refused
+  2  the words or the job are refused
+  3  all turns were used up
+  4  a device failed
+  5  memory ran out";
+
+pub(crate) const RUN_HELP: &str =
+    "A job is lines of steps, a line `scene`, and then the scene. Steps are
+`clock T` and `point V D ox oy oz dx dy dz`.
+
+Example:
+  x3d_share run < examples/two-clocks.job
+
+Status:
+  0  the trace and the scene are printed
+  1  the scene is refused
+  2  the words or the job are refused
+  4  a device failed
+  5  memory ran out";
+
+pub(crate) const FORMAT_HELP: &str = "A scene is read from standard input.
+
+Example:
+  x3d_share format < examples/lamp.x3dv
+
+Status:
+  0  the scene is printed
+  1  the scene is refused
+  2  the words are refused
+  4  a device failed
+  5  memory ran out";
+
+pub(crate) const CHECK_HELP: &str = "A scene is read from standard input.
+
+Example:
+  x3d_share check < examples/lamp.x3dv
+
+Status:
+  0  the scene is good
+  1  the scene is refused
+  2  the words are refused
+  4  a device failed
+  5  memory ran out";
+
+pub(crate) const REHEARSE_HELP: &str =
+    "A schedule is read from standard input: lines of steps, a line `scene`, and then the scene.
+Steps of the host are `clock T`, `packet N`, `ack V`, `give P host`, `floor N` and `notice`; those
+of viewer V are `give P V`, `offer V D ox oy oz dx dy dz`, `resend V I`, `ask V`, `save V`,
+`rewind V S B`, `gather P V`, `join V B` and `forget V`. `piece S I` makes packet I of snapshot S.
+Packets and snapshots are numbered from 0, in the order in which they are made.
+
+Example:
+  x3d_share rehearse --viewers 2 < examples/rehearsal.schedule
+
+Status:
+  0  the answer of each step, and the texts of each viewer at the end, are printed
+  1  the scene is refused
+  2  the words or the schedule are refused
+  4  a device failed
+  5  memory ran out";
+
+pub(crate) const AGREE_HELP: &str =
+    "A job is read from standard input, as by `run`; its points are those of
+viewers below K.
+
+Example:
+  x3d_share agree --viewers 2 < examples/two-clocks.job
+
+Status:
+  0  `agreed` and how many inputs there are, the trace and the scene are printed
+  1  the scene is refused
+  2  the words or the job are refused
+  3  all turns were used up
+  4  a device failed
+  5  memory ran out";
+
+pub(crate) const HOST_HELP: &str = "A job of clocks is read from standard input; nothing is printed.
+
+With --until N the host ends once N inputs are numbered, at least one viewer was heard, and each
+viewer that was heard has asked for the input after the last. Without it the host takes all its
+turns. With --keep N it drops the inputs that all those viewers have, except the last N, but none
+before K viewers were heard or 30 seconds have passed. A viewer that comes later joins by the
+snapshot of another viewer (`view --join`), or never catches up. A viewer that hasn't asked for 10
+seconds doesn't count until it asks again.
+A turn takes up to 64 datagrams. If nothing comes, the host rests between turns for 1 to 50
+milliseconds, so 1000000 turns last up to 14 hours.
+With --new-log FILE the host makes a log, and stores each input in it before it sends it. After the
+host has ended, even if it was killed, `host --log FILE` goes on with the same world: it skips the
+clocks that the log already has. With a log the turns have no end. With --every MS the host makes a
+clock every MS milliseconds once the job's are over, at the time of the last input as it began and
+the time that has passed since, so the world stands still while no host runs.
+
+Examples:
+  x3d_share host --port 4000 --until 2 < examples/two-clocks.job
+  x3d_share host --port 4000 --new-log w.x3dlog < examples/two-clocks.job
+  x3d_share host --port 4000 --log w.x3dlog < examples/two-clocks.job
+
+Status:
+  0  all turns were taken, or with --until N, the inputs were numbered and asked for
+  1  the scene or the log is refused
+  2  the words or the job are refused, or the log's file doesn't fit them
+  3  with --until N, all turns were used up
+  4  a device failed, or another host has the log
+  5  memory ran out";
+
+pub(crate) const RECALL_HELP: &str = "The file of a host's log is read from standard input.
+
+The inputs are printed in order, as lines `clock T` and `point V D ox oy oz dx dy dz`. Followed by a
+line `scene` and the scene, they are a job. Its run prints what each viewer of that world prints.
+With --info these lines are printed instead: the number of viewers, the scene's SHA-256, the run,
+how many inputs there are and how many of them are clocks, the size of the file and how much of it
+is of an append that was not finished, the times of the first and the last input, and how many
+inputs each viewer has offered. With --until N they are about the first N inputs.
+
+Example:
+  (x3d_share recall < w.x3dlog; echo scene; cat scene.x3dv) | x3d_share run
+
+Status:
+  0  the steps are printed
+  1  the log is refused
+  2  the words are refused
+  4  a device failed
+  5  memory ran out";
+
+pub(crate) const VIEW_HELP: &str = "A job of this viewer's points is read from standard input.
+
+One of --until and --exactly is required. With --until N the viewer ends once at least N inputs are
+applied. It may have applied up to 126 more by then, so two viewers may print different texts. With
+--exactly N it ignores later inputs, and two viewers print the same bytes.
+A viewer that comes late needn't ask for all inputs. With --join --at Q it starts from a snapshot
+that another viewer sends to port Q in pieces, and asks for the inputs after it. Its --boot must be
+above the other viewer's. With --give Q a viewer that has applied its N inputs prints its texts, and
+then sends its snapshot to port Q repeatedly, a piece of 192 bytes a turn, in --give-turns turns. Of
+these 32 take a millisecond or two, so 1000000 last about a minute.
+A turn of the others takes up to 64 datagrams. If nothing comes, a turn waits 50 milliseconds, and
+up to 50 more pass before the next, so 1000000 turns last up to 28 hours.
+A viewer that is stopped by a signal before its inputs are applied prints nothing.
+
+Example:
+  x3d_share view --port 4000 --who 0 --boot 1 --until 2 < examples/view.job
+
+Status:
+  0  the trace and the scene are printed
+  1  the scene is refused, or with --join, what was gathered is not a snapshot of it
+  2  the words or the job are refused, or with --join, the boot is
+  3  all turns were used up
+  4  a device failed
+  5  memory ran out";
+
+pub(crate) const PART_HELP: &str =
+    "A text in the Classic encoding is read from standard input, such as a file of another program.
+
+Nodes, fields and statements that the core doesn't have are left out, with all that names them, and
+so is what `check` refuses. The rest, which `check` calls good, is printed. A line for each thing
+that was left out is printed on standard error, and a last line with their number.
+With --list these lines alone are printed, on standard output.
+With --keep-names FILE the part is refused if no node in it has the name of a line of FILE after
+DEF. A second line has that name, and what it went with.
+
+Example:
+  x3d_share part < room.wrl > room.x3dv
+
+Status:
+  0  the part is printed
+  1  the text is refused, or its part passes a limit or lacks a name
+  2  the words are refused, or the file of names can't be read
+  4  a device failed
+  5  memory ran out";

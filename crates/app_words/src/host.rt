@@ -1,0 +1,109 @@
+//! What `host` with its options asks for.
+
+ghost use Rattle.std.specs.Prelude.{◌≡◌, ℕ, Option, IfSome, IfNone};
+ghost use Rattle.clap.specs.Words.{rows_of, found_of};
+ghost use Rattle.app_words.specs.Words.{AsksHost, log_use_in, log_use_of};
+ghost use Rattle.app_words.specs.Words.{MayHaveEvery, MayHaveKeep, MayHaveTurns, MayHaveViewers};
+ghost use Rattle.app_words.specs.declared.order.HostOrder.{HostOrder as HostOf};
+
+use crate::numbers::{is_named, is_text_given, optional_in, port_in, until_in};
+use crate::order::{HostOrder, LogUse};
+use clap::ArgMatches;
+use x3d_values::{MAX_INPUTS, MAX_VIEWERS};
+
+/// Returns the number of viewers of `host`, or `Some(None)` if it was left out.
+fn viewers_or_none(found: &ArgMatches<'_>) -> Option<Option<u8>>
+    ensures some { IfSome result (λ o. MayHaveViewers (rows_of (found_of found.now)) o) }
+    ensures none { IfNone result
+        ((o : Option ℕ) → ¬ MayHaveViewers (rows_of (found_of found.now)) o) }
+{
+    match optional_in(found, "viewers", 1, MAX_VIEWERS as u32) {
+        Some(Some(viewers)) => Some(Some(viewers as u8)),
+        Some(None) => Some(None),
+        None => None,
+    }
+}
+
+fn turns_or_none(found: &ArgMatches<'_>) -> Option<Option<u32>>
+    ensures some { IfSome result (λ o. MayHaveTurns (rows_of (found_of found.now)) o) }
+    ensures none { IfNone result
+        ((o : Option ℕ) → ¬ MayHaveTurns (rows_of (found_of found.now)) o) }
+{
+    optional_in(found, "turns", 1, 10_000_000)
+}
+
+fn keep_in(found: &ArgMatches<'_>) -> Option<Option<u32>>
+    ensures some { IfSome result (λ o. MayHaveKeep (rows_of (found_of found.now)) o) }
+    ensures none { IfNone result
+        ((o : Option ℕ) → ¬ MayHaveKeep (rows_of (found_of found.now)) o) }
+{
+    optional_in(found, "keep", 0, MAX_INPUTS)
+}
+
+fn every_in(found: &ArgMatches<'_>) -> Option<Option<u32>>
+    ensures some { IfSome result (λ o. MayHaveEvery (rows_of (found_of found.now)) o) }
+    ensures none { IfNone result
+        ((o : Option ℕ) → ¬ MayHaveEvery (rows_of (found_of found.now)) o) }
+{
+    optional_in(found, "every", 1, 3_600_000)
+}
+
+/// Returns what is done with a log, by which of `--log` and `--new-log` was given, unless both
+/// were.
+fn log_use_of(goes_on: bool, makes: bool) -> Option<LogUse>
+    ensures { result ≡ log_use_of goes_on makes }
+{
+    match (goes_on, makes) {
+        (false, false) => Some(LogUse::Without),
+        (true, false) => Some(LogUse::GoesOn),
+        (false, true) => Some(LogUse::Makes),
+        (true, true) => None,
+    }
+}
+
+fn log_use_in(found: &ArgMatches<'_>) -> Option<LogUse>
+    ensures { result ≡ log_use_in (rows_of (found_of found.now)) }
+{
+    let goes_on = is_text_given(found, "log");
+    let makes = is_text_given(found, "new-log");
+    log_use_of(goes_on, makes)
+}
+
+/// Returns what `host` is asked for, or `None` if a number is out of its range, or both `--log` and
+/// `--new-log` were given.
+pub(crate) fn host_asked(found: &ArgMatches<'_>) -> Option<HostOrder>
+    ensures some { IfSome result (λ o. AsksHost (rows_of (found_of found.now)) o) }
+    ensures none { IfNone result ((o : HostOf) → ¬ AsksHost (rows_of (found_of found.now)) o) }
+{
+    let Some(port) = port_in(found) else {
+        return None;
+    };
+    let Some(log) = log_use_in(found) else {
+        return None;
+    };
+    let Some(viewers) = viewers_or_none(found) else {
+        return None;
+    };
+    let Some(turns) = turns_or_none(found) else {
+        return None;
+    };
+    let Some(keep) = keep_in(found) else {
+        return None;
+    };
+    let Some(every) = every_in(found) else {
+        return None;
+    };
+    let Some(until) = until_in(found) else {
+        return None;
+    };
+    Some(HostOrder {
+        port,
+        log,
+        viewers,
+        turns,
+        keep,
+        every,
+        until,
+        verbose: is_named(found, "verbose"),
+    })
+}

@@ -1,0 +1,147 @@
+//! What `view` with its options asks for.
+
+ghost use Rattle.std.specs.Prelude.{◌≡◌, ℕ, Option, IfSome, IfNone};
+ghost use Rattle.clap.specs.Words.{rows_of, found_of};
+ghost use Rattle.app_words.specs.Words.{AsksView, IsEnd, end_of};
+ghost use Rattle.app_words.specs.Words.{IsGiveTurns, IsWho, IsBoot};
+ghost use Rattle.app_words.specs.Words.{MayHaveAt, MayHaveExactly, MayHaveGive, MayHaveNumberIn};
+ghost use Rattle.app_words.specs.declared.order.ViewEnd.{ViewEnd as EndOf};
+ghost use Rattle.app_words.specs.declared.order.ViewOrder.{ViewOrder as ViewOf};
+
+use crate::numbers::{is_named, number_in, optional_in, port_in, turns_in, until_in};
+use crate::options::MAX_WHO;
+use crate::order::{ViewEnd, ViewOrder};
+use clap::ArgMatches;
+use x3d_values::MAX_INPUTS;
+
+fn who_in(found: &ArgMatches<'_>) -> Option<u8>
+    ensures some { IfSome result (λ n. IsWho (rows_of (found_of found.now)) n) }
+    ensures none { IfNone result ((n : ℕ) → ¬ IsWho (rows_of (found_of found.now)) n) }
+{
+    let who = number_in(found, "who", 0, MAX_WHO)?;
+    Some(who as u8)
+}
+
+fn boot_in(found: &ArgMatches<'_>) -> Option<u32>
+    ensures some { IfSome result (λ n. IsBoot (rows_of (found_of found.now)) n) }
+    ensures none { IfNone result ((n : ℕ) → ¬ IsBoot (rows_of (found_of found.now)) n) }
+{
+    number_in(found, "boot", 1, u32::MAX)
+}
+
+fn exactly_in(found: &ArgMatches<'_>) -> Option<Option<u32>>
+    ensures some { IfSome result (λ o. MayHaveExactly (rows_of (found_of found.now)) o) }
+    ensures none { IfNone result
+        ((o : Option ℕ) → ¬ MayHaveExactly (rows_of (found_of found.now)) o) }
+{
+    optional_in(found, "exactly", 0, MAX_INPUTS)
+}
+
+/// Returns the port of 127.0.0.1, 1 to 65,535, that an option names, or `Some(None)` if the option
+/// was left out.
+fn port_or_none(found: &ArgMatches<'_>, id: &str) -> Option<Option<u16>>
+    ensures some { IfSome result
+        (λ o. MayHaveNumberIn id.now (rows_of (found_of found.now)) 1 65535 o) }
+    ensures none { IfNone result ((o : Option ℕ)
+        → ¬ MayHaveNumberIn id.now (rows_of (found_of found.now)) 1 65535 o) }
+{
+    match optional_in(found, id, 1, 65535) {
+        Some(Some(port)) => Some(Some(port as u16)),
+        Some(None) => Some(None),
+        None => None,
+    }
+}
+
+fn at_in(found: &ArgMatches<'_>) -> Option<Option<u16>>
+    ensures some { IfSome result (λ o. MayHaveAt (rows_of (found_of found.now)) o) }
+    ensures none { IfNone result
+        ((o : Option ℕ) → ¬ MayHaveAt (rows_of (found_of found.now)) o) }
+{
+    port_or_none(found, "at")
+}
+
+fn give_in(found: &ArgMatches<'_>) -> Option<Option<u16>>
+    ensures some { IfSome result (λ o. MayHaveGive (rows_of (found_of found.now)) o) }
+    ensures none { IfNone result
+        ((o : Option ℕ) → ¬ MayHaveGive (rows_of (found_of found.now)) o) }
+{
+    port_or_none(found, "give")
+}
+
+fn give_turns_in(found: &ArgMatches<'_>) -> Option<u32>
+    ensures some { IfSome result (λ n. IsGiveTurns (rows_of (found_of found.now)) n) }
+    ensures none { IfNone result ((n : ℕ) → ¬ IsGiveTurns (rows_of (found_of found.now)) n) }
+{
+    number_in(found, "give-turns", 1, u32::MAX)
+}
+
+/// Returns the end that `--until` and `--exactly` ask for, if exactly one of them has a number.
+fn end_of(until: Option<u32>, exactly: Option<u32>) -> Option<ViewEnd>
+    ensures { result ≡ end_of until exactly }
+{
+    match (until, exactly) {
+        (Some(n), None) => Some(ViewEnd::Until(n)),
+        (None, Some(n)) => Some(ViewEnd::Exactly(n)),
+        (Some(_), Some(_)) => None,
+        (None, None) => None,
+    }
+}
+
+/// Returns the end that the matches ask for, if exactly one of `--until` and `--exactly` was given.
+#[tactic(auto, using(crate::proofs::AskedLemmas::ends))]
+fn end_in(found: &ArgMatches<'_>) -> Option<ViewEnd>
+    ensures some { IfSome result (λ e. IsEnd (rows_of (found_of found.now)) e) }
+    ensures none { IfNone result ((e : EndOf) → ¬ IsEnd (rows_of (found_of found.now)) e) }
+{
+    let Some(until) = until_in(found) else {
+        return None;
+    };
+    let Some(exactly) = exactly_in(found) else {
+        return None;
+    };
+    end_of(until, exactly)
+}
+
+/// Returns what `view` is asked for, or `None` if a number is out of its range, or not exactly one
+/// of `--until` and `--exactly` was given.
+pub(crate) fn view_asked(found: &ArgMatches<'_>) -> Option<ViewOrder>
+    ensures some { IfSome result (λ o. AsksView (rows_of (found_of found.now)) o) }
+    ensures none { IfNone result ((o : ViewOf) → ¬ AsksView (rows_of (found_of found.now)) o) }
+{
+    let Some(port) = port_in(found) else {
+        return None;
+    };
+    let Some(who) = who_in(found) else {
+        return None;
+    };
+    let Some(boot) = boot_in(found) else {
+        return None;
+    };
+    let Some(end) = end_in(found) else {
+        return None;
+    };
+    let Some(turns) = turns_in(found) else {
+        return None;
+    };
+    let Some(at) = at_in(found) else {
+        return None;
+    };
+    let Some(give) = give_in(found) else {
+        return None;
+    };
+    let Some(give_turns) = give_turns_in(found) else {
+        return None;
+    };
+    Some(ViewOrder {
+        port,
+        who,
+        boot,
+        end,
+        turns,
+        at,
+        give,
+        give_turns,
+        join: is_named(found, "join"),
+        verbose: is_named(found, "verbose"),
+    })
+}
