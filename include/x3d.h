@@ -35,8 +35,8 @@ extern "C" {
  *   Every other call on a closed handle returns X3D_CLOSED, or X3D_RANGE, which some calls test
  *   first.
  * A call returns X3D_MISUSE, and changes nothing, for any other null pointer, a handle of another
- * kind, a second call in a handle at the same time, and, as far as can be told, for the copy of a
- * handle that was closed since. The library cannot check the other rules. A thread that calls it
+ * kind, a second call in a handle at the same time, and the copy of a handle that was closed since,
+ * unless its place is used again. The library cannot check the other rules. A thread that calls it
  * needs a stack of at least 512 KB. */
 
 /* Handles: each holds a heap object (a world, a host, a viewer, or the part of a text), or nothing.
