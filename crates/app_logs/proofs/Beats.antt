@@ -3,7 +3,8 @@ use Rattle.std.proofs.Common.{◌≡◌, ◌∙◌, ℕ, ℤ, pos, negsuc, ◌+�
 use Rattle.std.specs.Prelude.{Some}
 use Rattle.std.proofs.lemmas.Bool.{le-leb}
 use Rattle.std.proofs.lemmas.Int.{ints}
-use Rattle.app_logs.specs.Clocks.{beat_time, in_range, later_of}
+use Rattle.snapshot_codec.specs.Trace.{is_moment}
+use Rattle.app_logs.specs.Clocks.{beat_time, later_of}
 
 below : (t : ℤ) → pos 0 ≤ℤ t → t ≤ℤ pos (2 * 10 ^ 18) → FitsSigned w64 t
 below (pos n) low high = record { sfits = omega (arith, ints) }
@@ -18,7 +19,7 @@ sum_high a n high few = grind (arith, ints)
 pub sum_fits : (a : ℤ) (n : ℕ) → pos 0 ≤ℤ a → a ≤ℤ pos (10 ^ 18) → n ≤ 10 ^ 15 → FitsSigned w64 (a +ℤ pos (1000 * n))
 sum_fits a n low high few = below (a +ℤ pos (1000 * n)) (sum_low a (1000 * n) low) (sum_high a (1000 * n) high (omega (arith, few)))
 
-pub beat_is : (base last sum : ℤ) (millis : ℕ) (r : ℤ) → millis ≤ 10 ^ 15 → in_range base ≡ true → in_range last ≡ true → sum ≡ base +ℤ pos (1000 * millis)
+pub beat_is : (base last sum : ℤ) (millis : ℕ) (r : ℤ) → millis ≤ 10 ^ 15 → is_moment base ≡ true → is_moment last ≡ true → sum ≡ base +ℤ pos (1000 * millis)
     → r ≡ later_of sum last → Some r ≡ beat_time base last millis
 beat_is base last sum millis r few b l sum_is is =
     rw (le-leb millis (10 ^ 15) few, b, l) (ap (λ (z : ℤ). Some z) (is ∙ ap (λ (z : ℤ). later_of z last) sum_is))

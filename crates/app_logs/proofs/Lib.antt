@@ -4,6 +4,7 @@ mod Heads
 mod Recalls
 mod Lasting
 mod Unbroken
+mod EntryLines
 mod Again
 pub mod Passed
 mod Beats

@@ -1,29 +1,22 @@
 -- Which clocks of a job are left after the entries of a log, and the clocks that a host makes once
 -- these are over (our choice).
-use Rattle.std.specs.Prelude.{◌+◌, ◌-◌, ◌*◌, ◌^◌, ◌&&◌, ℕ, ℤ, pos, ◌+ℤ◌, int_lt, int_le, nat_lt, nat_le, min, Bool, List, length, map, slice_get}
+use Rattle.std.specs.Prelude.{◌+◌, ◌-◌, ◌*◌, ◌^◌, ◌&&◌, ℕ, ℤ, pos, ◌+ℤ◌, int_lt, nat_lt, nat_le, min, List, length, map, slice_get}
 use Rattle.std.specs.Prelude.{Option, Some, None, if◌then◌else◌}
 use Rattle.std.specs.List.{filter}
 use Rattle.std.specs.Option.{option_map_or}
-use Rattle.x3d_values.specs.Ranges.{max_time}
 use Rattle.x3d_values.specs.Stamp.{StampedView}
+use Rattle.snapshot_codec.specs.Trace.{is_moment}
 use Rattle.share_entries.specs.Entry.{EntryView}
 
 -- the time of the last entry, or 0
 abbrev pub last_of : List EntryView → ℤ
 last_of entries = option_map_or (λ e. e.time) (slice_get entries (length entries - 1)) (pos 0)
 
-abbrev pub times : List StampedView → List ℤ
-times inputs = map (λ input. input.time) inputs
-
--- the times later than this one, in order
+-- the times of inputs that are later than this one, in order
 abbrev pub times_after : (last : ℤ) → List StampedView → List ℤ
-times_after last inputs = filter (int_lt last) (times inputs)
+times_after last inputs = filter (int_lt last) (map (λ input. input.time) inputs)
 
 -- ---- the clocks of a beat, one at each interval
-
--- the time of an input, or 0 before the first
-abbrev pub in_range : ℤ → Bool
-in_range t = int_le (pos 0) t && int_le t (pos max_time)
 
 -- the later of a time and of 1 microsecond after the last input
 abbrev pub later_of : (time last : ℤ) → ℤ
@@ -34,7 +27,7 @@ later_of time last = if int_lt last time then time else last +ℤ pos 1
 -- after some 31,000 years.
 abbrev pub beat_time : (base last : ℤ) → (millis : ℕ) → Option ℤ
 beat_time base last millis =
-    if nat_le millis (10 ^ 15) && (in_range base && in_range last)
+    if nat_le millis (10 ^ 15) && (is_moment base && is_moment last)
     then Some (later_of (base +ℤ pos (1000 * millis)) last)
     else None
 

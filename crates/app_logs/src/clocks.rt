@@ -4,12 +4,14 @@
 ghost use Rattle.std.specs.Prelude.{◌≡◌, ◌≤◌, ◌^◌, ◌*◌, ◌+ℤ◌, ◌≤ℤ◌, ◌++◌, ◌∷◌, [], IfOk, IsTrue, OnOk, int_lt, pos};
 ghost use Rattle.std.specs.Prelude.{if◌then◌else◌};
 ghost use Rattle.x3d_values.specs.Ranges.{max_time};
-ghost use Rattle.app_logs.specs.Clocks.{clock_for, due_after, first_due, in_range, last_of};
+ghost use Rattle.snapshot_codec.specs.Trace.{is_moment};
+ghost use Rattle.app_logs.specs.Clocks.{clock_for, due_after, first_due, last_of};
 ghost use Rattle.app_logs.specs.Clocks.{later_of, beat_clock, beat_time, times_after};
 
 use share_entries::Entry;
+use snapshot_codec::is_moment;
 use std::alloc::{AllocError, Global};
-use x3d_values::{MAX_TIME, Stamped};
+use x3d_values::Stamped;
 
 /// The clocks that a host makes once those of its job are over.
 #[derive(Clone, Copy, Debug, PartialEq, Eq)]
@@ -59,12 +61,13 @@ pub fn times_after(alloc: Global, last: i64, inputs: &[Stamped]) -> Result<Vec<i
 
 // ---- the clocks of a beat
 
+/// Reports whether this may be the time of an input, or 0 before the first.
 fn in_range(time: i64) -> bool
-    ensures value { result ≡ in_range time }
+    ensures value { result ≡ is_moment time }
     ensures low { IsTrue result → pos 0 ≤ℤ time }
     ensures high { IsTrue result → time ≤ℤ pos max_time }
 {
-    0 <= time && time <= MAX_TIME
+    is_moment(time)
 }
 
 /// Returns the later of a time and of 1 microsecond after the last input.

@@ -10,7 +10,7 @@ ghost use Rattle.pick_core.specs.Tree.{IsTreeOf};
 use crate::gather::gathered;
 use crate::hit::Hit;
 use crate::nearest::{fraction_of, keep_nearer};
-use crate::ranges::{RowRanges, first_place};
+use crate::ranges::RowRanges;
 use crate::renewal::{ranges_of, renew_ranges};
 use crate::row::{BoxRow, refresh_all};
 use crate::runs::{renew_runs, tree_of};
@@ -81,14 +81,11 @@ impl BoxCache {
         ensures { (before : List FieldsOf) → self.old ≡ spec.rows_of scene.now before
             → spec.IsSameBut node before state.now → self.new ≡ spec.rows_of scene.now state.now }
     {
-        let first = first_place(&self.ranges, node);
-        let ranges = self.ranges.ranges.as_slice();
         renew_ranges(
             scene,
             state,
             node,
-            ranges,
-            first,
+            &self.ranges,
             self.rows.as_mut_slice(),
             &mut self.tree,
         );

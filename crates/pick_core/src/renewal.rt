@@ -1,14 +1,14 @@
 //! The rows of a cache that a change at a node concerns.
 
 ghost use Rattle.std.specs.Prelude.{◌≡◌, ℕ, true, Some, length, map, slice_get, IfOk, OnOk};
-ghost use Rattle.pick_core.specs.Ranges.{HasRow, IsAmong, IsInRange};
+ghost use Rattle.pick_core.specs.Ranges.{HasRow, IsInRange};
 ghost use Rattle.pick_core.specs.declared.row.BoxRow.{BoxRow as RowOf};
 ghost use Rattle.pick_core.specs.Renewal.{AreRangesOf};
 ghost use Rattle.pick_core.specs.Runs.{seen_in};
 ghost use Rattle.pick_core.specs.Sites.{renewed, touches};
 ghost use Rattle.pick_core.specs.Tree.{IsTreeOf};
 
-use crate::ranges::{RowRange, RowRanges, add_row, no_rows};
+use crate::ranges::{RowRange, RowRanges, add_row, first_place, no_rows};
 use crate::row::{BoxRow, renew_row};
 use crate::runs::renew_runs;
 use crate::trail::Place;
@@ -49,25 +49,24 @@ fn add_trail(ranges: &mut RowRanges, at: usize, trail: &[Place]) -> Result<(), A
     Ok(())
 }
 
-/// Updates the rows that lead through a node to this state, and then the tree around the rows. Each
-/// of these rows is in the range at `first` or in one that follows it.
+/// Updates the rows that lead through a node to this state, and then the tree around the rows. The
+/// ranges have each of these rows.
 pub(crate) fn renew_ranges(
     scene: &Scene,
     state: &[Fields],
     node: u32,
-    ranges: &[RowRange],
-    first: usize,
+    ranges: &RowRanges,
     rows: &mut [BoxRow],
     tree: &mut Tree,
 )
     requires ranges { (k : ℕ) (r : RowOf) → slice_get rows.old k ≡ Some r
-        → touches node r.trail ≡ true → IsAmong ranges.now (length ranges.now) first k }
+        → touches node r.trail ≡ true → HasRow ranges.now node k }
     requires tree { IsTreeOf tree.old (seen_in rows.old) }
     ensures rows { rows.new ≡ map (renewed scene.now state.now node) rows.old }
     ensures tree { IsTreeOf tree.new (seen_in rows.new) }
 {
-    let mut place = first;
-    let mut left = ranges.len();
+    let mut place = first_place(ranges, node);
+    let mut left = ranges.ranges.as_slice().len();
     while left > 0 {
         let Some(range) = range_at(ranges, place) else {
             return;
@@ -79,10 +78,10 @@ pub(crate) fn renew_ranges(
     }
 }
 
-fn range_at(ranges: &[RowRange], place: usize) -> Option<RowRange>
-    ensures { result ≡ slice_get ranges.now place }
+fn range_at(ranges: &RowRanges, place: usize) -> Option<RowRange>
+    ensures { result ≡ slice_get ranges.now.ranges.items place }
 {
-    ranges.get(place).copied()
+    ranges.ranges.get(place).copied()
 }
 
 /// Updates the rows of a range that lead through the node to this state. No other row changes.

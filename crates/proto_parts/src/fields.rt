@@ -105,11 +105,11 @@ pub fn add_named<'a>(
     Ok(new)
 }
 
-/// Adds an inputOutput field after the others; ignores other fields.
+/// Adds an inputOutput field after the others, with number 0, since no number is read from such a
+/// table; ignores other fields. AllocError if memory runs out.
 pub fn add_exposed<'a>(
     exposed: &mut Fields<'a>,
     declaration: &'a Declaration<NodeText>,
-    number: usize,
 ) -> Result<(), AllocError>
     ensures { (fs : List Field) → IsExposed exposed.old fs → IfOk result (λ _.
         IsExposed exposed.new (fs ++ field declaration.now ∷ [])) }
@@ -117,6 +117,6 @@ pub fn add_exposed<'a>(
     if !declaration.access.is_exposed() {
         return Ok(());
     }
-    exposed.add(&declaration.name, known(declaration, number))?;
+    exposed.add(&declaration.name, known(declaration, 0))?;
     Ok(())
 }

@@ -74,7 +74,7 @@ impl<'a> Tables<'a> {
             → IfOk result (λ _. HasFields self.new (fs ++ field declaration.now ∷ [])) }
     {
         let new = add_named(&mut self.named, declaration, number)?;
-        add_exposed(&mut self.exposed, declaration, number)?;
+        add_exposed(&mut self.exposed, declaration)?;
         self.twice = first_line(self.twice, new, declaration.line);
         Ok(())
     }

@@ -43,10 +43,12 @@ pub fn react(
     // On success the fields and the events sent are those of the definition.
     ensures fields { OnOk result
         (fields.new
-        ≡ (reaction node_type fields.old event.now.field event.now.value.now event.now.time).fields) }
+        ≡ (reaction node_type fields.old event.now.field event.now.value.now
+        event.now.time).fields) }
     ensures replies { OnOk result
         (out.new.items
-        ≡ (reaction node_type fields.old event.now.field event.now.value.now event.now.time).replies) }
+        ≡ (reaction node_type fields.old event.now.field event.now.value.now
+        event.now.time).replies) }
     // If memory is refused, nothing has changed and nothing is sent.
     ensures refused_fields { OnErr result (fields.new ≡ fields.old) }
     ensures refused_replies { OnErr result (out.new.items ≡ []) }
@@ -103,9 +105,11 @@ fn answer(
 ) -> Result<(), AllocError>
     requires empty { out.old.items ≡ [] }
     ensures fields { OnOk result (fields.new
-        ≡ (answer node_type fields.old event.now.field event.now.value.now event.now.time).fields) }
+        ≡ (answer node_type fields.old event.now.field event.now.value.now
+        event.now.time).fields) }
     ensures replies { OnOk result (out.new.items
-        ≡ (answer node_type fields.old event.now.field event.now.value.now event.now.time).replies) }
+        ≡ (answer node_type fields.old event.now.field event.now.value.now
+        event.now.time).replies) }
     ensures refused_fields { OnErr result (fields.new ≡ fields.old) }
     ensures refused_replies { OnErr result (out.new.items ≡ []) }
     ensures no_memory { node_type ≢ CoordinateInterpolator → IsOk result }

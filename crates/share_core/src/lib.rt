@@ -1,12 +1,13 @@
 //! The host and the viewers of a shared world, without a network: `host` numbers `inputs`; a
 //! `viewer` applies them `ahead` in order, has offers `waiting`, makes the `pieces` of its
-//! snapshot, and is `gathering` those of another.
+//! snapshot, is `gathering` those of another, and is `joining` by them.
 #![tactic(auto)]
 
 mod ahead;
 mod gathering;
 mod host;
 mod inputs;
+mod joining;
 mod pieces;
 mod viewer;
 mod waiting;

@@ -2,17 +2,15 @@
 
 ghost use Rattle.std.specs.Prelude.{◌≡◌, ◌≤◌, ◌+◌, ◌^◌, if◌then◌else◌, nat_lt, None, Some};
 ghost use Rattle.x3d_values.specs.Ranges.{max_inputs};
-ghost use Rattle.share_law.specs.Network.{join_result};
 
 use crate::ahead::take_input;
-use crate::gathering::{Pieces, gather};
+use crate::gathering::Pieces;
 use crate::waiting::Waiting;
 use cascade_core::{PlaceFault, Stage, TextFault};
 use script_host::Behaviour;
-use share_law::{GatherFault, Gathered, JoinFault, OfferFault, TakeFault, Taken};
+use share_law::{OfferFault, TakeFault, Taken};
 use share_rules::Window;
 use share_wire::{Ack, Ask, Body, Floor, Message, Packet, decode, encode};
-use snapshot_core::{SaveFault, SnapFault, load_into, save};
 use std::marker::Model;
 use x3d_values::{Point, Stamped};
 
@@ -20,11 +18,11 @@ use x3d_values::{Point, Stamped};
 /// waiting offers, and the pieces of a snapshot that arrived.
 #[derive(Drop)]
 pub struct Viewer<B: Behaviour> {
-    mark: [u8; 32],
-    stage: Stage<B>,
-    window: Window,
-    offers: Waiting,
-    gathering: Option<Pieces>,
+    pub(crate) mark: [u8; 32],
+    pub(crate) stage: Stage<B>,
+    pub(crate) window: Window,
+    pub(crate) offers: Waiting,
+    pub(crate) gathering: Option<Pieces>,
 }
 
 impl<B: Behaviour> Model for Viewer<B> {
@@ -48,28 +46,6 @@ impl<B: Behaviour> Model for Viewer<B> {
 
     ghost invariant = { λ v. (applied_of v.stage.held ≤ max_inputs)
         × InPlace (applied_of v.stage.held + 1) v.window × (length v.mark ≡ 32) };
-}
-
-/// Returns the pieces, unless they were joined; then drops them.
-fn unless(joined: bool, pieces: Pieces) -> Option<Pieces>
-    ensures { result ≡ if joined then None else Some pieces }
-{
-    if joined {
-        drop(pieces);
-        None
-    } else {
-        Some(pieces)
-    }
-}
-
-/// Returns the answer of a join, given that of its rewind.
-fn joined(rewound: Result<u32, SnapFault>) -> Result<u32, JoinFault>
-    ensures { result ≡ join_result rewound }
-{
-    match rewound {
-        Ok(applied) => Ok(applied),
-        Err(fault) => Err(JoinFault::Snap(fault)),
-    }
 }
 
 /// Returns the answer to a floor of a viewer that has applied `applied` inputs.
@@ -98,17 +74,11 @@ impl<B: Behaviour> Viewer<B> {
     ghost use Rattle.cascade_core.specs.Installing.{RefusesBox};
     ghost use Rattle.cascade_core.specs.Scripts.{kinds_in, scripts_in};
     ghost use Rattle.cascade_core.specs.Texts.{scene_text, texts, trace_text};
-    ghost use Rattle.cascade_core.specs.Course.{Scripted};
-    ghost use Rattle.share_law.specs.Calls.{IsGatherOf, IsRewind, IsTake, IsTakeOf};
-    ghost use Rattle.share_law.specs.Pieces.{whole_of};
-    ghost use Rattle.share_law.specs.Viewer.{Shot, applied_in, begun, viewer_ask, viewer_offer};
+    ghost use Rattle.share_law.specs.Calls.{IsTake, IsTakeOf};
+    ghost use Rattle.share_law.specs.Viewer.{applied_in, begun, viewer_ask, viewer_offer};
     ghost use Rattle.share_law.specs.Viewer.{viewer_resend};
     ghost use Rattle.share_core.specs.Viewer.{IfRunning, IfSpoiled, held_in, is_spoiled, machine_of};
-    ghost use Rattle.share_core.specs.Viewer.{stage_in, with_gathering, with_state};
-    ghost use Rattle.share_core.specs.Rewinds.{IsBegunFrom, IsJoined, IsLawfulJoin};
-    ghost use Rattle.share_core.specs.Rewinds.{IsRewound};
-    ghost use Rattle.snapshot_core.specs.Shot.{shot};
-    ghost use Rattle.snapshot_core.specs.Loading.{HasSnapshot};
+    ghost use Rattle.share_core.specs.Viewer.{stage_in, with_state};
 
     /// Starts a viewer of the scene with this mark, as boot `boot` of viewer `who`. The stage must
     /// have had no input. Test `who` with `is_viewer` and `boot` with `is_ordinal`. Takes no
@@ -345,117 +315,6 @@ impl<B: Behaviour> Viewer<B> {
         ensures err { OnErr result (out.new.items ≡ out.old.items) }
     {
         self.stage.texts(out)
-    }
-
-    /// Appends a snapshot of the world, with this boot. Fails with `Spoiled` if memory was refused
-    /// before, or `Memory` if memory is refused; `out` is then unchanged.
-    pub fn snapshot(&self, out: &mut Vec<u8>) -> Result<(), SaveFault>
-        ensures spoiled { IfSpoiled self.now.state.view
-            ((result ≡ Err SaveFault.Spoiled) × (out.new.items ≡ out.old.items)) }
-        ensures ok { IfRunning self.now.state.view (λ w. OnOk result (out.new.items
-            ≡ out.old.items ++ shot self.now.mark self.now.state.boot self.now.scene w)) }
-        ensures err { IfRunning self.now.state.view (λ w. OnErr result
-            ((result ≡ Err SaveFault.Memory) × (out.new.items ≡ out.old.items))) }
-    {
-        save(&self.stage, &self.mark, self.offers.boot(), out)
-    }
-
-    /// Restarts in the world of a snapshot, with another boot, even if the viewer is spoiled.
-    /// Returns the number of inputs that this world has had. No input is kept and no offer waits
-    /// then, and offers are numbered from 1 again.
-    ///
-    /// Fails with `BootNotNew` if `boot` isn't above the viewer's own, and then like `load_into`,
-    /// which also fails with `BootNotNew` if `boot` isn't above the snapshot's. A failure changes
-    /// nothing, except `Memory`: it spoils the viewer, with the inputs that it had applied.
-    pub fn rewind(&mut self, bytes: &[u8], boot: u32) -> Result<u32, SnapFault>
-        ensures others { self.new ≡ with_state self.old self.new.state }
-        ensures step { IsRewound self.old boot bytes.now result self.new.state }
-        // With the snapshot of a world that has one, this is the law's step.
-        ensures law { (from : Shot Scripted) → from.boot < 2 ^ 32
-            → HasSnapshot self.old.scene from.state
-            → bytes.now ≡ shot self.old.mark from.boot self.old.scene from.state
-            → IsRewind (machine_of self.old) self.old.state from boot result self.new.state }
-    {
-        self.begin_again(bytes, boot)
-    }
-
-    fn begin_again(&mut self, bytes: &[u8], boot: u32) -> Result<u32, SnapFault>
-        ensures others { self.new ≡ with_state self.old self.new.state }
-        ensures step { IsRewound self.old boot bytes.now result self.new.state }
-        ensures mark { length self.old.mark ≡ 32 }
-    {
-        if boot <= self.offers.boot() {
-            return Err(SnapFault::BootNotNew);
-        }
-        let saved = load_into(&mut self.stage, &self.mark, boot, bytes)?;
-        self.window.clear();
-        self.offers = Waiting::new(self.offers.who(), boot);
-        Ok(saved.applied)
-    }
-
-    /// Gathers a piece of a snapshot, from the bytes of its packet, even if the viewer is spoiled.
-    /// The first piece begins the gathering. Pieces belong to the same snapshot if their boot,
-    /// their number of inputs and their snapshot size are the same.
-    ///
-    /// Fails, in this order, with `Wire` if the bytes aren't a datagram, `WrongScene` if it has
-    /// another mark, `NotPiece`, or `Memory`, which only the first piece can. A failure changes
-    /// nothing.
-    pub fn gather(&mut self, bytes: &[u8]) -> Result<Gathered, GatherFault>
-        ensures others { self.new ≡ with_gathering self.old self.new.gathering }
-        ensures step { IsGatherOf self.old.mark self.old.gathering (decoded bytes.now) result
-            self.new.gathering }
-    {
-        let message = match decode(bytes) {
-            Ok(message) => message,
-            Err(fault) => return Err(GatherFault::Wire(fault)),
-        };
-        if message.mark != self.mark {
-            return Err(GatherFault::WrongScene);
-        }
-        gather(self.stage.allocator(), &mut self.gathering, &message.body)
-    }
-
-    /// Restarts in the world of the snapshot that was gathered, with another boot, even if the
-    /// viewer is spoiled. Returns the number of inputs that this world has had. No piece is kept
-    /// then.
-    ///
-    /// Fails with `NotWhole` if a piece is missing, and then like `rewind`. A failure keeps what
-    /// was gathered.
-    pub fn join(&mut self, boot: u32) -> Result<u32, JoinFault>
-        ensures others { self.new
-            ≡ with_gathering (with_state self.old self.new.state) self.new.gathering }
-        ensures step { IsJoined self.old (whole_of self.old.gathering) boot result self.new.state
-            self.new.gathering }
-        // With the snapshot of a world that has one, this is the law's step.
-        ensures law { IsLawfulJoin self.old boot result self.new.state self.new.gathering }
-    {
-        let Some(pieces) = self.gathering.take() else {
-            return Err(JoinFault::NotWhole);
-        };
-        let answer = self.begin_from(&pieces, boot);
-        self.gathering = unless(answer.is_ok(), pieces);
-        answer
-    }
-
-    /// Restarts from the bytes of these pieces, if none is missing.
-    fn begin_from(&mut self, pieces: &Pieces, boot: u32) -> Result<u32, JoinFault>
-        ensures others { self.new ≡ with_state self.old self.new.state }
-        ensures step { IsBegunFrom self.old (whole_of (Some pieces.now)) boot result
-            self.new.state }
-        ensures mark { length self.old.mark ≡ 32 }
-    {
-        let _ = &self.mark;
-        let Some(bytes) = pieces.whole() else {
-            return Err(JoinFault::NotWhole);
-        };
-        joined(self.begin_again(bytes, boot))
-    }
-
-    /// Drops what was gathered. Takes no memory.
-    pub fn forget(&mut self)
-        ensures { self.new ≡ with_gathering self.old None }
-    {
-        self.gathering = None;
     }
 
     /// Replaces the k-th script by a box of the same kind, which takes over its state. What the

@@ -1,12 +1,13 @@
-use Rattle.std.proofs.Common.{◌∙◌, refl, length, sym, arith}
+use Rattle.std.proofs.Common.{◌∙◌, refl, ap, length, subst, sym, arith}
 use Rattle.pick_core.proofs.Passing.{seen-tree}
-use Rattle.pick_core.proofs.Renewed.{so_far-none, so_far-more, so_far-all, none-left, none-there}
+use Rattle.pick_core.proofs.Renewed.{IsSoFar, so_far-none, so_far-more, so_far-all, none-left, none-there}
 use Rattle.pick_core.proofs.renewal.renew_ranges.Goals as goal
 
 pub loop-left-init : goal.loop-left-init
 loop-left-init c = record {
   long = refl;
-  so_far = so_far-none c.args.scene.now c.args.state.now c.args.node c.args.ranges.now (length c.args.ranges.now) c.args.first c.args.rows.now c.requires.ranges;
+  so_far = subst (λ n. IsSoFar c.args.scene.now c.args.state.now c.args.node c.args.ranges.now.ranges.items n c.first_place-place.result c.args.rows.now c.args.rows.now) (sym (ap length c.as_slice-left.ensures.value))
+      (so_far-none c.args.scene.now c.args.state.now c.args.node c.args.ranges.now.ranges.items (length c.args.ranges.now.ranges.items) c.first_place-place.result c.args.rows.now (λ k r is at. c.first_place-place.ensures k (c.requires.ranges k r is at)));
   tree = c.requires.tree;
 }
 
@@ -15,7 +16,7 @@ loop-left-preserved c =
     let is = c.loop-left.invariant in
     record {
       long = c.renew_range.ensures.long ∙ is.long;
-      so_far = so_far-more c.args.scene.now c.args.state.now c.args.node c.args.ranges.now c.loop-left.left c.loop-left.place c.args.rows.now c.loop-left.rows c.renew_range.new.rows c.in-Some.range c.loop-left-test.true (sym c.range_at.ensures ∙ c.in-Some.is) is.so_far c.renew_range.ensures.inside c.renew_range.ensures.outside;
+      so_far = so_far-more c.args.scene.now c.args.state.now c.args.node c.args.ranges.now.ranges.items c.loop-left.left c.loop-left.place c.args.rows.now c.loop-left.rows c.renew_range.new.rows c.in-Some.range c.loop-left-test.true (sym c.range_at.ensures ∙ c.in-Some.is) is.so_far c.renew_range.ensures.inside c.renew_range.ensures.outside;
       tree = c.renew_runs.ensures;
     }
 
@@ -23,7 +24,7 @@ pub returns : goal.returns
 returns c =
     let is = c.loop-left.invariant in
     record {
-      rows = so_far-all c.args.scene.now c.args.state.now c.args.node c.args.ranges.now c.loop-left.left c.loop-left.place c.args.rows.now c.loop-left.rows is.long (none-left c.args.ranges.now c.loop-left.left c.loop-left.place (omega arith)) is.so_far;
+      rows = so_far-all c.args.scene.now c.args.state.now c.args.node c.args.ranges.now.ranges.items c.loop-left.left c.loop-left.place c.args.rows.now c.loop-left.rows is.long (none-left c.args.ranges.now.ranges.items c.loop-left.left c.loop-left.place (omega arith)) is.so_far;
       tree = is.tree;
     }
 
@@ -31,7 +32,7 @@ pub returns-in_default : goal.returns-in_default
 returns-in_default c =
     let is = c.loop-left.invariant in
     record {
-      rows = so_far-all c.args.scene.now c.args.state.now c.args.node c.args.ranges.now c.loop-left.left c.loop-left.place c.args.rows.now c.loop-left.rows is.long (none-there c.args.ranges.now c.loop-left.left c.loop-left.place (sym c.range_at.ensures ∙ c.in_default.is)) is.so_far;
+      rows = so_far-all c.args.scene.now c.args.state.now c.args.node c.args.ranges.now.ranges.items c.loop-left.left c.loop-left.place c.args.rows.now c.loop-left.rows is.long (none-there c.args.ranges.now.ranges.items c.loop-left.left c.loop-left.place (sym c.range_at.ensures ∙ c.in_default.is)) is.so_far;
       tree = is.tree;
     }
 

@@ -9,5 +9,5 @@ returns-then-not-is_exposed c =
 
 pub returns : goal.returns
 returns c =
-    λ fs has. exposed-more c.args.exposed.now c.add.new.self c.args.declaration.now c.args.number fs (sym c.is_exposed.ensures ∙ c.if-not-is_exposed.false)
+    λ fs has. exposed-more c.args.exposed.now c.add.new.self c.args.declaration.now 0 fs (sym c.is_exposed.ensures ∙ c.if-not-is_exposed.false)
     (c.in_ok-add.ensures.fields ∙ ap (λ k. added k c.args.declaration.now.name (fields_of c.args.exposed.now)) c.known.ensures) has

@@ -1,6 +1,5 @@
 use Rattle.std.proofs.Common.{◌≡◌, ◌≤◌, ◌∙◌, map, drop, length, take, ◌++◌, ap, sym, subst, arith, take_all}
 use Rattle.std.specs.Prelude.{slice_get}
-use Rattle.pick_core.specs.Ranges.{IsAmong}
 use Rattle.std.proofs.lemmas.List.{take-append-le, length-map}
 use Rattle.pick_core.specs.Renewal.{AreRangesOf}
 use Rattle.pick_core.specs.Runs.{seen_in}
@@ -40,8 +39,7 @@ invariant_of-self c =
 
 pub renew_ranges-requires-clause-ranges : goal.renew_ranges-requires-clause-ranges
 renew_ranges-requires-clause-ranges c k r e t =
-    let has = c.self.invariant.0 c.args.node k r (ap (λ rows. slice_get rows k) (sym c.as_mut_slice.ensures.value) ∙ e) t in
-    subst (λ rs. IsAmong rs (length rs) c.first_place-first.result k) (sym c.as_slice-ranges.ensures.value) (c.first_place-first.ensures k has)
+    c.self.invariant.0 c.args.node k r (ap (λ rows. slice_get rows k) (sym c.as_mut_slice.ensures.value) ∙ e) t
 
 pub renew_ranges-requires-clause-tree : goal.renew_ranges-requires-clause-tree
 renew_ranges-requires-clause-tree c = subst (λ rows. IsTreeOf c.self.inside.tree (seen_in rows)) (sym c.as_mut_slice.ensures.value) c.self.invariant.1
