@@ -336,8 +336,8 @@ uint8_t x3d_part_copy_numbers(const struct x3d_part *part, int64_t *out, size_t 
 
 /* Opens the world of a scene's text (Classic encoding). It replaces the one that the handle had.
  * May return: X3D_SCENE or X3D_MEMORY. Then the handle is empty, and the line of the refusal
- * (`refused NAME line N`, at most 64 bytes) is copied to `refusal` if `room` bytes are enough. Its
- * length is written to `wanted`. */
+ * (`refused NAME`, mostly with ` line N`; at most 64 bytes) is copied to `refusal` if `room` bytes
+ * are enough. Its length is written to `wanted`. */
 uint8_t x3d_world_open(struct x3d_world *world, const uint8_t *text, size_t length,
                        uint8_t *refusal, size_t room, size_t *wanted);
 /* Opens the world of a part's text, like x3d_world_open. May also return: X3D_CLOSED if `part` is
@@ -394,7 +394,7 @@ uint8_t x3d_world_make_label(struct x3d_world *world, uint32_t node);
 /* Makes the name of a field of a node, such as `translation`. May return: X3D_NO_SUCH_FIELD if
  * there is no such node or field. */
 uint8_t x3d_world_make_field_name(struct x3d_world *world, uint32_t node, uint16_t field);
-/* Makes the text of the current value of a field, such as `0 1.5 0`. Of nodes it is empty.
+/* Makes the text of the current value of a field, such as `0 1.5 0`. For nodes it is empty.
  * May return: X3D_NO_SUCH_FIELD, or X3D_NO_VALUE if the field holds no value. */
 uint8_t x3d_world_make_value(struct x3d_world *world, uint32_t node, uint16_t field);
 /* Makes the snapshot of the world, with `boot` as the boot number stored in it. */
