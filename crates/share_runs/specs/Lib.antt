@@ -1,1 +1,3 @@
 pub mod Arrival
+pub mod Known
+pub mod Steps

@@ -2,7 +2,11 @@
 #![tactic(auto)]
 
 mod arrival;
+mod known;
+mod step;
 
 pub use arrival::{
     Arrival, ArrivalEvent, MAX_AGE, MAX_SILENCE, after_event, bound_viewers_stay, is_over,
 };
+pub use known::{Known, MAX_STARTS};
+pub use step::{Step, step_for};

@@ -1,0 +1,81 @@
+//! What a viewer of a run knows of its list of inputs.
+
+ghost use Rattle.std.specs.Prelude.{◌≡◌, ◌+◌, ◌++◌, ◌∷◌, [], OnErr, OnOk, nat_lt, slice_get};
+ghost use Rattle.share_runs.specs.Known as spec;
+
+use share_entries::Chain;
+use share_session::Prefix;
+use std::alloc::{AllocError, Global};
+
+/// The most places at which a viewer may start.
+pub const MAX_STARTS: usize = 64;
+
+/// The chains that a viewer of a run knows: after `from` inputs and after each input after them,
+/// and, before it has asked for an input, at each number of inputs at which it may start: 0, and
+/// those of the snapshots whose pieces came.
+#[derive(Drop)]
+pub struct Known {
+    pub(crate) from: u64,
+    pub(crate) chains: Vec<Chain>,
+    pub(crate) starts: Vec<Prefix>,
+}
+
+fn item_at<T: Copy>(items: &[T], place: u64) -> Option<T>
+    ensures { result ≡ slice_get items.now place }
+{
+    items.get(place as usize).copied()
+}
+
+fn chain_in(from: u64, chains: &[Chain], n: u64) -> Option<Chain>
+    ensures { result ≡ spec.chain_in from chains.now n }
+{
+    if n < from {
+        return None;
+    }
+    item_at(chains, n - from)
+}
+
+fn is_early(from: u64, count: u64, number: u64) -> bool
+    ensures { result ≡ nat_lt (from + count) number }
+{
+    number > from && number - from > count
+}
+
+fn start_at(starts: &[Prefix], n: u64) -> Option<Chain>
+    ensures { result ≡ spec.start_at starts.now n }
+{
+    let Some(start) = starts.iter().find(|start| start.applied == n) else {
+        return None;
+    };
+    Some(start.chain)
+}
+
+impl Known {
+    ghost use Rattle.std.specs.Prelude.{◌≡◌, ◌++◌, ◌∷◌, [], OnErr, OnOk};
+    ghost use Rattle.share_runs.specs.Known as spec;
+
+    /// Reports whether an input has a number after the next one.
+    pub(crate) fn is_early(&self, number: u64) -> bool
+        ensures { result ≡ spec.is_early self.now.from self.now.chains.items number }
+    {
+        is_early(self.from, self.chains.len() as u64, number)
+    }
+
+    /// Returns the chain after `n` inputs, if it is known there.
+    pub(crate) fn chain_in(&self, n: u64) -> Option<Chain>
+        ensures { result ≡ spec.chain_in self.now.from self.now.chains.items n }
+    {
+        chain_in(self.from, &self.chains, n)
+    }
+
+    /// Returns the chain after `n` inputs, if it is known there or may be started from.
+    pub(crate) fn chain_at(&self, n: u64) -> Option<Chain>
+        ensures { result
+            ≡ spec.chain_at self.now.from self.now.chains.items self.now.starts.items n }
+    {
+        match self.chain_in(n) {
+            Some(chain) => Some(chain),
+            None => start_at(&self.starts, n),
+        }
+    }
+}
