@@ -1,5 +1,5 @@
 -- What a viewer of a run knows of its list of inputs (our choice).
-use Rattle.std.specs.Prelude.{◌≡◌, ℕ, ◌+◌, ◌-◌, ◌==◌, Bool, List, length, Option, None, Some, nat_le, nat_lt, slice_get, if◌then◌else◌}
+use Rattle.std.specs.Prelude.{◌≡◌, ℕ, ◌+◌, ◌-◌, ◌==◌, Bool, List, [], ◌∷◌, length, Option, None, Some, nat_le, nat_lt, slice_get, if◌then◌else◌}
 use Rattle.std.specs.List.{find}
 use Rattle.std.specs.Option.{option_map, option_or}
 use Rattle.share_entries.specs.Chain.{link}
@@ -20,6 +20,15 @@ start_at starts n = option_map (λ p. p.chain) (find (starts_at n) starts)
 -- the chain after n inputs, by either
 abbrev pub chain_at : (from : ℕ) → List (List ℕ) → List Prefix → ℕ → Option (List ℕ)
 chain_at from chains starts n = option_or (chain_in from chains n) (start_at starts n)
+
+-- a viewer that knows no chains and asks for the input after n starts from the chain there
+abbrev pub start_from : (from : ℕ) → Option (List ℕ) → ℕ → ℕ × List (List ℕ)
+start_from from None n = (from, [])
+start_from from (Some chain) n = (n, chain ∷ [])
+
+abbrev pub begun : (from : ℕ) → List (List ℕ) → List Prefix → ℕ → ℕ × List (List ℕ)
+begun from [] starts n = start_from from (start_at starts n) n
+begun from (c ∷ cs) starts n = (from, c ∷ cs)
 
 -- an input with a number after the next one
 abbrev pub is_early : (from : ℕ) → List (List ℕ) → ℕ → Bool

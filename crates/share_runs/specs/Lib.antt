@@ -1,3 +1,4 @@
 pub mod Arrival
 pub mod Known
+pub mod Hearing
 pub mod Steps

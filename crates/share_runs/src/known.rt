@@ -78,4 +78,53 @@ impl Known {
             None => start_at(&self.starts, n),
         }
     }
+
+    /// Adds the chain after the next input. Fails if memory is refused; then nothing changes.
+    pub(crate) fn add_next(&mut self, chain: Chain) -> Result<(), AllocError>
+        ensures from { self.new.from ≡ self.old.from }
+        ensures starts { self.new.starts ≡ self.old.starts }
+        ensures ok { OnOk result
+            (self.new.chains.items ≡ self.old.chains.items ++ chain ∷ []) }
+        ensures err { OnErr result (self.new.chains.items ≡ self.old.chains.items) }
+    {
+        self.chains.push(chain)?;
+        Ok(())
+    }
+
+    /// Adds a place at which a viewer may start. Fails if there are `MAX_STARTS`, or if memory is
+    /// refused; then nothing changes.
+    pub(crate) fn add_start(&mut self, start: Prefix) -> Result<(), AllocError>
+        ensures from { self.new.from ≡ self.old.from }
+        ensures chains { self.new.chains ≡ self.old.chains }
+        ensures ok { OnOk result
+            (self.new.starts.items ≡ self.old.starts.items ++ start ∷ []) }
+        ensures err { OnErr result (self.new.starts.items ≡ self.old.starts.items) }
+    {
+        if self.starts.len() >= MAX_STARTS {
+            return Err(AllocError);
+        }
+        self.starts.push(start)?;
+        Ok(())
+    }
+
+    /// Notes that the viewer asks for the input after `n`. If it knows no chains, it starts from
+    /// the chain after `n` inputs, if it may start there. Fails if memory is refused; then nothing
+    /// changes.
+    pub(crate) fn begin(&mut self, n: u64) -> Result<(), AllocError>
+        ensures starts { self.new.starts ≡ self.old.starts }
+        ensures ok { OnOk result ((self.new.from, self.new.chains.items)
+            ≡ spec.begun self.old.from self.old.chains.items self.old.starts.items n) }
+        ensures err { OnErr result ((self.new.from ≡ self.old.from)
+            × (self.new.chains.items ≡ self.old.chains.items)) }
+    {
+        if !self.chains.is_empty() {
+            return Ok(());
+        }
+        let Some(chain) = start_at(&self.starts, n) else {
+            return Ok(());
+        };
+        self.chains.push(chain)?;
+        self.from = n;
+        Ok(())
+    }
 }
