@@ -1,5 +1,5 @@
 -- What a viewer of a run hands on, and what it keeps (our choice).
-use Rattle.std.specs.Prelude.{◌≡◌, ◌⊎◌, ℕ, ◌-◌, ◌++◌, ◌∷◌, [], ⊤, true, List, Option, None, Some}
+use Rattle.std.specs.Prelude.{◌≡◌, ◌⊎◌, ℕ, ◌+◌, ◌++◌, ◌∷◌, ◌==◌, [], ⊤, Bool, true, List, length, Option, None, Some, IfSome}
 use Rattle.std.specs.Option.{option_map}
 use Rattle.share_wire.specs.Datagram.{datagram}
 use Rattle.share_wire.specs.declared.message.Message.{Message}
@@ -9,15 +9,16 @@ use Rattle.share_session.specs.declared.message.Message2.{Message2}
 use Rattle.share_session.specs.declared.message.Message2.TheVariants.{Said, Hello, Welcome}
 use Rattle.share_session.specs.declared.prefix.Prefix.{Prefix}
 use Rattle.share_session.specs.Heard.{heard}
-use Rattle.share_runs.specs.declared.known.Known.{Known}
-use Rattle.share_runs.specs.declared.step.Step.{Step}
-use Rattle.share_runs.specs.declared.step.Step.TheVariants as step
+use Rattle.share_runs.specs.declared.known.KnownList.{KnownList}
+use Rattle.share_runs.specs.declared.step.RunStep.{RunStep}
+use Rattle.share_runs.specs.declared.step.RunStep.TheVariants as step
 use Rattle.share_runs.specs.declared.viewer_run.Early.{Early}
 use Rattle.share_runs.specs.declared.viewer_run.ViewerRun.{ViewerRun}
 use Rattle.share_runs.specs.Known.{IsOf}
+use Rattle.share_runs.specs.Steps.{step_of}
 
 -- an input is of the list that the viewer knows
-abbrev pub IsOfList : Known → Message2 → Type 0
+abbrev pub IsOfList : KnownList → Message2 → Type 0
 IsOfList k (Said session (Input i)) = IsOf k.from k.chains.items i
 IsOfList k (Said session (Offer o)) = ⊤
 IsOfList k (Said session (Ask a)) = ⊤
@@ -29,15 +30,16 @@ IsOfList k (Welcome w) = ⊤
 
 -- Bytes are handed on of a message: they are the datagram of version 1 of what is heard of it in
 -- this session, and an input is of the list that the viewer knows.
-pub record IsHeard (session mark : List ℕ) (k : Known) (m : Message2) (bytes : List ℕ) : Type 0 where
+pub record IsHeard (session mark : List ℕ) (k : KnownList) (m : Message2)
+    (bytes : List ℕ) : Type 0 where
   pub message : Message
   pub is_heard : heard session mark m ≡ Some message
   pub text : bytes ≡ datagram message
   pub of_list : IsOfList k m
 
 -- the chains of one list that is known further, or none was known
-abbrev pub Grows : (old new : Known) → Type 0
-Grows old new =
+abbrev pub KnowsMore : (old new : KnownList) → Type 0
+KnowsMore old new =
     (old.chains.items ≡ []) ⊎ ((new.from ≡ old.from)
     × (more : List (List ℕ)) × (new.chains.items ≡ old.chains.items ++ more))
 
@@ -107,7 +109,7 @@ abbrev pub IsGathered : (old : ViewerRun) → Message2 → Option (List ℕ) →
 IsGathered old m None new = Changes old new [] []
 IsGathered old m (Some bytes) new = (Some bytes ≡ text_of old m) × Changes old new [] (start_of m)
 
-abbrev pub IsTaken : Step → (old : ViewerRun) → (from : ℕ) → Message2 → Option (List ℕ)
+abbrev pub IsTaken : RunStep → (old : ViewerRun) → (from : ℕ) → Message2 → Option (List ℕ)
     → (new : ViewerRun) → Type 0
 IsTaken step.HandOn old from m handed new = (handed ≡ text_of old m) × (new ≡ old)
 IsTaken step.Next old from m handed new = IsNext old m handed new
@@ -119,3 +121,28 @@ IsTaken step.Drop old from m handed new = (handed ≡ None) × (new ≡ old)
 IsTaken step.OtherRun old from m handed new = (handed ≡ None) × (new ≡ old)
 IsTaken step.OtherList old from m handed new =
     (handed ≡ None) × (new ≡ record old { is_other_list = true })
+
+-- what every step leaves
+pub record Keeps (old : ViewerRun) (from : ℕ) (m : Message2) (new : ViewerRun) : Type 0 where
+  pub mark : new.mark ≡ old.mark
+  pub session : new.session ≡ old.session
+  pub grows : KnowsMore old.known new.known
+  pub held : Holds old.held.items (early_of from m) new.held.items
+
+-- ---- held inputs
+
+-- the input that was held, as a message
+abbrev pub early_said : ViewerRun → Early → Message2
+early_said r e = Said r.session (Input e.input)
+
+abbrev pub is_due : KnownList → Early → Bool
+is_due k e = (k.from + length k.chains.items) == e.input.number
+
+-- the first held input with the next number is taken, as if it came now, and stays held
+abbrev pub IsDue : Option Early → (old : ViewerRun) → Option (ℕ × List ℕ)
+    → (new : ViewerRun) → Type 0
+IsDue None old handed new = (handed ≡ None) × (new ≡ old)
+IsDue (Some e) old handed new =
+    IsTaken (step_of old.session old.known (early_said old e)) old e.from (early_said old e)
+    (option_map (λ h. h.1) handed) new
+    × IfSome handed (λ h. h.0 ≡ e.from)

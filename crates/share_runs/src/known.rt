@@ -1,10 +1,11 @@
 //! What a viewer of a run knows of its list of inputs.
 
-ghost use Rattle.std.specs.Prelude.{◌≡◌, ◌+◌, ◌++◌, ◌∷◌, [], OnErr, OnOk, nat_lt, slice_get};
+ghost use Rattle.std.specs.Prelude.{◌≡◌, ◌+◌, ◌++◌, ◌∷◌, ◌==◌, [], length, OnErr, OnOk, nat_lt, slice_get};
 ghost use Rattle.share_runs.specs.Known as spec;
 
 use share_entries::Chain;
 use share_session::Prefix;
+use share_wire::Body;
 use std::alloc::{AllocError, Global};
 
 /// The most places at which a viewer may start.
@@ -14,7 +15,7 @@ pub const MAX_STARTS: usize = 64;
 /// and, before it has asked for an input, at each number of inputs at which it may start: 0, and
 /// those of the snapshots whose pieces came.
 #[derive(Drop)]
-pub struct Known {
+pub struct KnownList {
     pub(crate) from: u64,
     pub(crate) chains: Vec<Chain>,
     pub(crate) starts: Vec<Prefix>,
@@ -41,6 +42,12 @@ fn is_early(from: u64, count: u64, number: u64) -> bool
     number > from && number - from > count
 }
 
+fn is_next(from: u64, count: u64, number: u64) -> bool
+    ensures { result ≡ ((from + count) == number) }
+{
+    number >= from && number - from == count
+}
+
 fn start_at(starts: &[Prefix], n: u64) -> Option<Chain>
     ensures { result ≡ spec.start_at starts.now n }
 {
@@ -50,15 +57,23 @@ fn start_at(starts: &[Prefix], n: u64) -> Option<Chain>
     Some(start.chain)
 }
 
-impl Known {
-    ghost use Rattle.std.specs.Prelude.{◌≡◌, ◌++◌, ◌∷◌, [], OnErr, OnOk};
+impl KnownList {
+    ghost use Rattle.std.specs.Prelude.{◌≡◌, ◌++◌, ◌∷◌, ◌==◌, [], length, OnErr, OnOk};
     ghost use Rattle.share_runs.specs.Known as spec;
+    ghost use Rattle.share_runs.specs.Saying.{IsAsked};
 
     /// Reports whether an input has a number after the next one.
     pub(crate) fn is_early(&self, number: u64) -> bool
         ensures { result ≡ spec.is_early self.now.from self.now.chains.items number }
     {
         is_early(self.from, self.chains.len() as u64, number)
+    }
+
+    /// Reports whether an input has the next number.
+    pub(crate) fn is_next(&self, number: u64) -> bool
+        ensures { result ≡ ((self.now.from + length self.now.chains.items) == number) }
+    {
+        is_next(self.from, self.chains.len() as u64, number)
     }
 
     /// Returns the chain after `n` inputs, if it is known there.
@@ -126,5 +141,16 @@ impl Known {
         self.chains.push(chain)?;
         self.from = n;
         Ok(())
+    }
+
+    /// Notes what the viewer sends: an ask may begin the list that it knows, unless memory is
+    /// refused.
+    pub(crate) fn note(&mut self, body: &Body)
+        ensures starts { self.new.starts ≡ self.old.starts }
+        ensures noted { IsAsked self.old body.now self.new }
+    {
+        if let Body::Ask(ask) = body {
+            let _begun = self.begin(u64::from(ask.next() - 1));
+        }
     }
 }

@@ -2,16 +2,16 @@
 
 ghost use Rattle.std.specs.Prelude.{◌≡◌, if◌then◌else◌};
 ghost use Rattle.share_session.specs.Heard.{as_body};
-ghost use Rattle.share_runs.specs.declared.step.Step.TheVariants as step;
+ghost use Rattle.share_runs.specs.declared.step.RunStep.TheVariants as step;
 ghost use Rattle.share_runs.specs.Steps as spec;
 
-use crate::known::Known;
+use crate::known::KnownList;
 use share_entries::Chain;
 use share_session::{Body2, Input2, Message2, Session, follows, next_chain};
 
 /// What a viewer of a run does with a message.
 #[derive(Clone, Copy, Debug, PartialEq, Eq)]
-pub enum Step {
+pub enum RunStep {
     /// It hears it.
     HandOn,
     /// It hears it: the next input of its list.
@@ -28,28 +28,28 @@ pub enum Step {
     OtherList,
 }
 
-fn after_step(chain: &Chain, known: &Option<Chain>) -> Step
+fn after_step(chain: &Chain, known: &Option<Chain>) -> RunStep
     ensures { result ≡ spec.after_step chain.now known.now }
 {
     match known {
-        None => Step::Next,
+        None => RunStep::Next,
         Some(known) => {
             if *chain == *known {
-                Step::HandOn
+                RunStep::HandOn
             } else {
-                Step::OtherList
+                RunStep::OtherList
             }
         }
     }
 }
 
-fn held_if(early: bool) -> Step
+fn held_if(early: bool) -> RunStep
     ensures { result ≡ (if early then step.Hold else step.Drop) }
 {
-    if early { Step::Hold } else { Step::Drop }
+    if early { RunStep::Hold } else { RunStep::Drop }
 }
 
-fn input_step(early: bool, before: &Option<Chain>, after: &Option<Chain>, input: &Input2) -> Step
+fn input_step(early: bool, before: &Option<Chain>, after: &Option<Chain>, input: &Input2) -> RunStep
     ensures { result ≡ spec.input_step early before.now after.now input.now }
 {
     let Some(chain) = before else {
@@ -58,26 +58,26 @@ fn input_step(early: bool, before: &Option<Chain>, after: &Option<Chain>, input:
     if follows(chain, input) {
         after_step(&next_chain(&input.chain, input), after)
     } else {
-        Step::OtherList
+        RunStep::OtherList
     }
 }
 
-fn piece_step(known: &Option<Chain>, chain: &Chain) -> Step
+fn piece_step(known: &Option<Chain>, chain: &Chain) -> RunStep
     ensures { result ≡ spec.piece_step known.now chain.now }
 {
     match known {
-        None => Step::Gather,
+        None => RunStep::Gather,
         Some(known) => {
             if *chain == *known {
-                Step::HandOn
+                RunStep::HandOn
             } else {
-                Step::Drop
+                RunStep::Drop
             }
         }
     }
 }
 
-fn body_step(known: &Known, body: &Body2) -> Step
+fn body_step(known: &KnownList, body: &Body2) -> RunStep
     ensures { result ≡ spec.body_step known.now body.now }
 {
     match body {
@@ -92,15 +92,15 @@ fn body_step(known: &Known, body: &Body2) -> Step
             let head = piece.head();
             piece_step(&known.chain_at(head.applied), &head.chain)
         }
-        _ => Step::HandOn,
+        _ => RunStep::HandOn,
     }
 }
 
-fn said_step(known: &Known, body: &Body2) -> Step
+fn said_step(known: &KnownList, body: &Body2) -> RunStep
     ensures { result ≡ spec.said_step known.now body.now (as_body body.now) }
 {
     match body.as_body() {
-        None => Step::Drop,
+        None => RunStep::Drop,
         Some(_) => body_step(known, body),
     }
 }
@@ -108,15 +108,15 @@ fn said_step(known: &Known, body: &Body2) -> Step
 /// Returns what a viewer in this session does with a message. One of another session is
 /// `OtherRun`. An input whose chain isn't the one that is known there, or after which another chain
 /// is known, is `OtherList`.
-pub fn step_for(session: &Session, known: &Known, message: &Message2) -> Step
+pub fn step_for(session: &Session, known: &KnownList, message: &Message2) -> RunStep
     ensures { result ≡ spec.step_of session.now known.now message.now }
 {
     let Message2::Said(other, body) = message else {
-        return Step::Drop;
+        return RunStep::Drop;
     };
     if *other == *session {
         said_step(known, body)
     } else {
-        Step::OtherRun
+        RunStep::OtherRun
     }
 }

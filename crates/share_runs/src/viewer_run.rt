@@ -1,12 +1,16 @@
 //! A viewer in a run: what it hands on of the datagrams of that run, and what it keeps.
 
 ghost use Rattle.std.specs.Prelude.{◌≡◌, ◌⊎◌, [], ◌∷◌, ◌++◌, IfSome};
-ghost use Rattle.share_runs.specs.Hearing.{Holds};
+ghost use Rattle.std.specs.List.{find};
+ghost use Rattle.share_runs.specs.Hearing.{Holds, is_due};
 
-use crate::known::Known;
-use crate::step::{Step, step_for};
-use share_session::{Body2, Input2, Message2, Prefix, Run, Session, heard, next_chain, session_of};
-use share_wire::{Packet, encode};
+use crate::known::KnownList;
+use crate::saying::said_of;
+use crate::step::{RunStep, step_for};
+use share_session::{
+    Body2, Input2, Message2, Packet2, Prefix, Run, Session, heard, next_chain, session_of,
+};
+use share_wire::{Packet, decode, encode};
 use std::alloc::{AllocError, Global};
 
 /// The most inputs that are held.
@@ -22,11 +26,11 @@ pub struct Early {
 /// What a viewer in a run knows of its list of inputs, and the inputs that came too early.
 #[derive(Drop)]
 pub struct ViewerRun {
-    mark: [u8; 32],
-    session: Session,
-    known: Known,
-    held: Vec<Early>,
-    is_other_list: bool,
+    pub(crate) mark: [u8; 32],
+    pub(crate) session: Session,
+    pub(crate) known: KnownList,
+    pub(crate) held: Vec<Early>,
+    pub(crate) is_other_list: bool,
 }
 
 /// Holds an input. If there are `MAX_HELD`, they are dropped first. It is dropped if memory is
@@ -40,12 +44,38 @@ fn hold(held: &mut Vec<Early>, early: Early)
     let _held = held.push(early);
 }
 
+fn is_due(known: &KnownList, early: &Early) -> bool
+    ensures { result ≡ is_due known.now early.now }
+{
+    known.is_next(early.input.number.get())
+}
+
+/// Returns the first held input that is the next one.
+fn due_of(known: &KnownList, held: &[Early]) -> Option<Early>
+    ensures { result ≡ find (is_due known.now) held.now }
+{
+    match held {
+        [] => None,
+        [early, others @ ..] => {
+            if is_due(known, early) {
+                return Some(*early);
+            }
+            due_of(known, others)
+        }
+    }
+}
+
 impl ViewerRun {
-    ghost use Rattle.std.specs.Prelude.{◌≡◌, [], ◌∷◌, false, IfOk, IfSome, None};
+    ghost use Rattle.std.specs.Prelude.{◌≡◌, ◌≤◌, [], ◌∷◌, length, false, IfOk, IfSome, None};
+    ghost use Rattle.std.specs.List.{find};
     ghost use Rattle.std.specs.Option.{option_map};
+    ghost use Rattle.share_wire.specs.Decoding.{decoded};
+    ghost use Rattle.share_session.specs.Datagram.{datagram};
     ghost use Rattle.share_session.specs.Runs.{session_of};
-    ghost use Rattle.share_runs.specs.Hearing.{Changes, Grows, IsGathered, IsHeard, IsNext};
-    ghost use Rattle.share_runs.specs.Hearing.{IsTaken, early_of, Holds, text_of};
+    ghost use Rattle.share_runs.specs.Hearing.{IsGathered, IsHeard, IsNext};
+    ghost use Rattle.share_runs.specs.Hearing.{Holds, IsDue, IsTaken, Keeps, early_of, is_due};
+    ghost use Rattle.share_runs.specs.Hearing.{text_of};
+    ghost use Rattle.share_runs.specs.Saying.{IsSaid, said_of};
     ghost use Rattle.share_runs.specs.Steps.{step_of};
 
     /// Returns a viewer of the scene with this mark, in this run, that has heard nothing. It may
@@ -64,7 +94,7 @@ impl ViewerRun {
             applied: 0,
             chain: run,
         })?;
-        let known = Known {
+        let known = KnownList {
             from: 0,
             chains: Vec::new(alloc),
             starts,
@@ -83,6 +113,13 @@ impl ViewerRun {
         ensures { result ≡ self.now.is_other_list }
     {
         self.is_other_list
+    }
+
+    /// Returns the session.
+    pub fn session(&self) -> &Session
+        ensures { result.now ≡ self.now.session }
+    {
+        &self.session
     }
 
     /// Returns the datagram of version 1 of a message of this session.
@@ -147,25 +184,68 @@ impl ViewerRun {
         );
     }
 
+    fn taken(&mut self, from: u16, message: &Message2) -> Option<Packet>
+        ensures { IsTaken (step_of self.old.session self.old.known message.now) self.old from
+            message.now (option_map (λ p. p.items) result) self.new }
+    {
+        match step_for(&self.session, &self.known, message) {
+            RunStep::HandOn => self.hand_on(message),
+            RunStep::Next => self.hand_on_next(message),
+            RunStep::Hold => {
+                self.hold(from, message);
+                None
+            }
+            RunStep::Gather => self.hand_on_piece(message),
+            RunStep::OtherList => {
+                self.is_other_list = true;
+                None
+            }
+            RunStep::Drop => None,
+            RunStep::OtherRun => None,
+        }
+    }
+
     /// Takes a message from a peer. Returns the datagram of version 1 that is handed on, if one is.
     pub fn take(&mut self, from: u16, message: &Message2) -> Option<Packet>
         ensures exact { IsTaken (step_of self.old.session self.old.known message.now) self.old from
             message.now (option_map (λ p. p.items) result) self.new }
+        ensures heard { IfSome result (λ p. IsHeard self.old.session self.old.mark self.new.known
+            message.now p.items) }
+        ensures keeps { Keeps self.old from message.now self.new }
     {
-        match step_for(&self.session, &self.known, message) {
-            Step::HandOn => self.hand_on(message),
-            Step::Next => self.hand_on_next(message),
-            Step::Hold => {
-                self.hold(from, message);
-                None
+        self.taken(from, message)
+    }
+
+    /// Hands on the next input, if it is held. Returns who sent it, and its datagram of version 1.
+    pub fn due(&mut self) -> Option<(u16, Packet)>
+        ensures exact { IsDue (find (is_due self.old.known) self.old.held.items) self.old
+            (option_map (λ h. (h.0, h.1.items)) result) self.new }
+    {
+        let Some(early) = due_of(&self.known, &self.held) else {
+            return None;
+        };
+        let message = Message2::Said(self.session, Body2::Input(early.input));
+        let Some(packet) = self.take(early.from, &message) else {
+            return None;
+        };
+        Some((early.from, packet))
+    }
+
+    /// Takes what the viewer says, as a datagram of version 1. Returns the datagram of version 2,
+    /// in this session, if there is one. An ask may begin the list that the viewer knows.
+    pub fn say(&mut self, bytes: &[u8]) -> Option<Packet2>
+        ensures sent { option_map (λ p. p.items) result
+            ≡ option_map datagram (said_of self.old (decoded bytes.now)) }
+        ensures most { IfSome result (λ p. length p.items ≤ 250) }
+        ensures known { IsSaid self.old (decoded bytes.now) self.new }
+    {
+        match decode(bytes) {
+            Ok(message) => {
+                let said = said_of(&self.session, &self.known, &message.body);
+                self.known.note(&message.body);
+                said
             }
-            Step::Gather => self.hand_on_piece(message),
-            Step::OtherList => {
-                self.is_other_list = true;
-                None
-            }
-            Step::Drop => None,
-            Step::OtherRun => None,
+            Err(_) => None,
         }
     }
 }
