@@ -137,11 +137,12 @@ impl<P> ViewPort<P> {
 }
 
 impl<P: Port> ViewPort<P> {
-    ghost use Rattle.std.specs.Prelude.{◌≡◌, ◌≤◌, OnOk, Some, length};
+    ghost use Rattle.std.specs.Prelude.{◌≡◌, ◌≤◌, ◌||◌, OnOk, Some, is_err, length, true};
     ghost use Rattle.std.specs.Option.{option_map};
     ghost use Rattle.share_session.specs.Datagram.{datagram};
     ghost use Rattle.share_wire.specs.Decoding.{decoded as decoded_1};
     ghost use Rattle.share_turns.specs.Told.{Grows, counted, max_received};
+    ghost use Rattle.share_runs.specs.Arrival.{is_over};
     ghost use Rattle.share_runs.specs.Greetings.{after_greeting, hello_due};
     ghost use Rattle.share_runs.specs.Port.{AreSent, Hears, handed_of, hello_text, sent_to};
     ghost use Rattle.share_runs.specs.Saying.{IsSaid, said_of};
@@ -194,10 +195,15 @@ impl<P: Port> ViewPort<P> {
     pub fn next(&mut self) -> Result<Handing, PortFault>
         ensures hears { Hears self.old.run self.new.run (P.told self.old.port)
             (P.told self.new.port) (handed_of result) }
+        ensures ended { (self.old.run.is_other_list || is_over self.old.greetings.arrival) ≡ true
+            → is_err result ≡ true }
         ensures failures { self.new.failed ≡ counted result self.old.failed }
         ensures time { P.rested self.new.port ≡ P.rested self.old.port }
         ensures host { self.new.host ≡ self.old.host }
     {
+        if self.is_ended() {
+            return Err(self.fail());
+        }
         if let Some((from, packet)) = self.run.due() {
             return Ok(Handing::Handed(from, packet));
         }
