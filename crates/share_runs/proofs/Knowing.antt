@@ -1,5 +1,5 @@
 -- The chains that a viewer knows, and what follows of a step.
-use Rattle.std.proofs.Common.{◌≡◌, ℕ, zero, suc, ◌+◌, ◌-◌, ◌≤◌, Bool, true, false, cond, List, [], ◌∷◌, ◌++◌, length, Option, Some, None, inl, inr, refl, sym, ap, subst, ◌∙◌, arith, append_assoc, append-nil}
+use Rattle.std.proofs.Common.{◌≡◌, ℕ, zero, suc, ◌-◌, ◌≤◌, Bool, true, false, cond, List, [], ◌∷◌, ◌++◌, Option, Some, None, inl, inr, refl, sym, ap, subst, ◌∙◌, arith, append-nil}
 use Rattle.std.specs.Prelude.{IfSome, nat_eq, nat_le, slice_get}
 use Rattle.std.specs.List.{find}
 use Rattle.std.specs.Option.{option_map}
@@ -10,21 +10,19 @@ use Rattle.share_wire.specs.Datagram.{datagram}
 use Rattle.share_wire.specs.declared.message.Body.{Body}
 use Rattle.share_wire.specs.declared.message.Message.{Message}
 use Rattle.share_entries.specs.Chain.{link}
-use Rattle.share_session.specs.declared.message.Body2.{Body2}
 use Rattle.share_session.specs.declared.message.Body2.TheVariants as body
 use Rattle.share_session.specs.declared.message.Input2.{Input2}
 use Rattle.share_session.specs.declared.prefix.Prefix.{Prefix}
 use Rattle.share_session.specs.declared.message.Message2.{Message2}
 use Rattle.share_session.specs.declared.message.Message2.TheVariants.{Said, Hello, Welcome}
-use Rattle.share_session.specs.Follows.{follows}
 use Rattle.share_session.specs.Heard.{as_body, heard}
 use Rattle.share_runs.specs.declared.known.KnownList.{KnownList}
 use Rattle.share_runs.specs.declared.step.RunStep.{RunStep}
 use Rattle.share_runs.specs.declared.step.RunStep.TheVariants as step
 use Rattle.share_runs.specs.declared.viewer_run.Early.{Early}
 use Rattle.share_runs.specs.declared.viewer_run.ViewerRun.{ViewerRun}
-use Rattle.share_runs.specs.Known.{IsOf, chain_in, chain_at, is_early}
-use Rattle.share_runs.specs.Steps.{after_step, input_step, piece_step, body_step, said_step, step_of}
+use Rattle.share_runs.specs.Known.{IsOf, chain_in, is_early}
+use Rattle.share_runs.specs.Steps.{after_step, input_step, said_step, step_of}
 use Rattle.share_runs.specs.Hearing.{Changes, KnowsMore, Holds, IsDue, IsGathered, IsHeard, IsNext, IsOfList, IsTaken, Keeps, early_of, early_said, is_due, text_of}
 
 -- ---- chains

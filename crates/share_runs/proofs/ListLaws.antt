@@ -1,24 +1,21 @@
 -- The list that a viewer knows.
-use Rattle.std.proofs.Common.{◌≡◌, ℕ, suc, ◌-◌, Bool, true, false, cond, List, [], ◌∷◌, ◌++◌, length, take, Option, Some, None, inl, inr, refl, sym, ap, subst, ◌∙◌, arith, append_assoc, length-append}
+use Rattle.std.proofs.Common.{◌≡◌, ℕ, suc, ◌-◌, Bool, true, false, cond, List, [], ◌∷◌, ◌++◌, length, take, Option, Some, None, inl, inr, refl, sym, ap, ◌∙◌, arith, append_assoc, length-append}
 use Rattle.std.specs.Prelude.{nat_eq}
 use Rattle.std.specs.Cmp.Lexicographic.{pointwise, bytes_decides}
-use Rattle.std.proofs.lemmas.Bool.{cases_Bool}
 use Rattle.std.proofs.lemmas.List.{take_at}
 use Rattle.std.proofs.lemmas.List.Sums.{fold_push}
 use Rattle.std.proofs.lemmas.Option.{same_Some}
 use Rattle.byte_codec.specs.Codec.{all_fit}
 use Rattle.byte_codec.proofs.Laws.{and_true}
-use Rattle.share_entries.specs.Chain.{Collide, chain_after, link}
+use Rattle.share_entries.specs.Chain.{chain_after, link}
 use Rattle.share_entries.specs.Entry.{EntryView, entry_codec}
 use Rattle.share_entries.proofs.ChainLaws.{chains_tell}
 use Rattle.share_session.specs.declared.message.Input2.{Input2}
 use Rattle.share_session.specs.Follows.{IsOfLog}
-use Rattle.share_runs.specs.declared.known.KnownList.{KnownList}
-use Rattle.share_runs.specs.declared.step.RunStep.{RunStep}
 use Rattle.share_runs.specs.declared.step.RunStep.TheVariants as step
-use Rattle.share_runs.specs.Known.{IsOf, chain_in, is_early}
+use Rattle.share_runs.specs.Known.{chain_in, is_early}
 use Rattle.share_runs.specs.Steps.{after_step, input_step}
-use Rattle.share_runs.specs.Laws.{Fits, OneList, AreOfLog, NeverOther}
+use Rattle.share_runs.specs.Laws.{OneList, NeverOther}
 
 one_fits : (e : EntryView) → entry_codec.fits e ≡ true → all_fit entry_codec (e ∷ []) ≡ true
 one_fits e f = and_true _ _ f refl

@@ -1,6 +1,6 @@
 -- What a port of a viewer in a run hands on, from one moment to a later one.
-use Rattle.std.proofs.Common.{◌≡◌, ℕ, ◌≤◌, Bool, true, false, cond, List, [], ◌∷◌, ◌++◌, length, Option, Some, None, inl, inr, refl, sym, ap, subst, ◌∙◌, arith, append_assoc, append-nil}
-use Rattle.std.specs.Prelude.{IfOk, IfSome, MatchOption, MatchResult, ⊤, Result, Ok, Err, nat_eq, take}
+use Rattle.std.proofs.Common.{◌≡◌, ℕ, Bool, true, false, cond, List, [], ◌∷◌, ◌++◌, length, Option, Some, None, inl, inr, refl, sym, ap, subst, ◌∙◌, arith, append_assoc, append-nil}
+use Rattle.std.specs.Prelude.{IfOk, IfSome, MatchOption, Result, Ok, Err, nat_eq}
 use Rattle.std.specs.List.{AllByRecursion, find}
 use Rattle.std.specs.Option.{option_map}
 use Rattle.std.specs.Cmp.Lexicographic.{pointwise, bytes_decides}
@@ -16,15 +16,15 @@ use Rattle.share_session.specs.Heard.{as_body}
 use Rattle.share_turns.specs.Told.{Grows}
 use Rattle.share_turns.specs.declared.port.PortFault.{PortFault}
 use Rattle.share_turns.specs.declared.traffic.Traffic.{Traffic}
-use Rattle.share_turns.specs.declared.traffic.Traffic.TheVariants.{Received, Nothing}
+use Rattle.share_turns.specs.declared.traffic.Traffic.TheVariants.{Received}
 use Rattle.share_runs.specs.declared.known.KnownList.{KnownList}
 use Rattle.share_runs.specs.declared.step.RunStep.TheVariants as step
 use Rattle.share_runs.specs.declared.view_port.Handing.{Handing}
 use Rattle.share_runs.specs.declared.view_port.Handing.TheVariants.{Dropped}
 use Rattle.share_runs.specs.declared.viewer_run.Early.{Early}
 use Rattle.share_runs.specs.declared.viewer_run.ViewerRun.{ViewerRun}
-use Rattle.share_runs.specs.Hearing.{Holds, IsDue, IsHeard, IsTaken, KnowsMore, early_of, early_said, is_due}
-use Rattle.share_runs.specs.Port.{HasCome, HaveCome, IsRecorded, IsHandedOn, IsOfRun, Hears, IsBytesTaken, handed_in, handed_of}
+use Rattle.share_runs.specs.Hearing.{Holds, IsDue, IsHeard, IsTaken, KnowsMore, early_of, is_due}
+use Rattle.share_runs.specs.Port.{HasCome, HaveCome, IsRecorded, Hears, IsBytesTaken, handed_in, handed_of}
 use Rattle.share_runs.specs.Steps.{said_step, step_of}
 use Rattle.share_runs.proofs.Knowing.{is_heard, keeps}
 

@@ -1,6 +1,6 @@
 -- What holds of the inputs that a viewer in a run hands on.
-use Rattle.std.specs.Prelude.{◌≡◌, ◌≤◌, ◌⊎◌, ℕ, true, List, ◌++◌, ◌∷◌, [], Some, length, take}
-use Rattle.share_entries.specs.Chain.{Collide, chain_after, link}
+use Rattle.std.specs.Prelude.{◌≡◌, ◌⊎◌, ℕ, true, List, Some, length, take}
+use Rattle.share_entries.specs.Chain.{Collide, chain_after}
 use Rattle.share_entries.specs.Entry.{EntryView, entry_codec}
 use Rattle.share_session.specs.declared.message.Input2.{Input2}
 use Rattle.share_session.specs.declared.message.Body2.TheVariants.{Input}

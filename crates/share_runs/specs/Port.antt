@@ -13,7 +13,6 @@ use Rattle.share_turns.specs.declared.traffic.Traffic.{Traffic}
 use Rattle.share_turns.specs.declared.traffic.Traffic.TheVariants.{Received, Sent}
 use Rattle.share_runs.specs.declared.view_port.Handing.{Handing}
 use Rattle.share_runs.specs.declared.view_port.Handing.TheVariants.{Nothing, Dropped, Handed}
-use Rattle.share_runs.specs.declared.viewer_run.Early.{Early}
 use Rattle.share_runs.specs.declared.viewer_run.ViewerRun.{ViewerRun}
 use Rattle.share_runs.specs.Hearing.{IsHeard, IsTaken, KnowsMore, early_said}
 use Rattle.share_runs.specs.Steps.{step_of}

@@ -1,5 +1,5 @@
 -- What a viewer of a run sends (our choice).
-use Rattle.std.specs.Prelude.{◌≡◌, ◌⊎◌, ℕ, ◌-◌, List, Option, None, Some, Result, Ok, Err}
+use Rattle.std.specs.Prelude.{◌≡◌, ◌⊎◌, ℕ, ◌-◌, List, Option, None, Result, Ok, Err}
 use Rattle.std.specs.Option.{option_map}
 use Rattle.share_wire.specs.Messages.{PieceView}
 use Rattle.share_wire.specs.declared.fault.WireFault.{WireFault}
