@@ -14,6 +14,7 @@ use share_turns::{Bytes, Datagram, FakePort, Port, RECEIVED};
 use share_wire::{Ask, Body, Message, decode as decode_1, encode as encode_1};
 use std::alloc::AllocError;
 use std::test::Fail;
+use x3d_values::Stamped;
 
 const OWN: Run = [9; 16];
 
@@ -91,6 +92,18 @@ fn clock(chain: Chain, number: u64, time: i64) -> Input2
     }
 }
 
+fn number_of(input: Stamped) -> u32 {
+    input.number()
+}
+
+/// Returns the number of an input.
+fn number_in(body: Body) -> Option<u32> {
+    match body {
+        Body::Input(input) => Some(number_of(input)),
+        _ => None,
+    }
+}
+
 /// Receives a datagram, and returns the number of its input, if it is one of version 1.
 fn received<P: Port>(port: &mut P) -> Option<u32> {
     let mut bytes = [0; RECEIVED];
@@ -98,10 +111,7 @@ fn received<P: Port>(port: &mut P) -> Option<u32> {
         return None;
     };
     match decode_1(&bytes[..count]) {
-        Ok(message) => match message.body {
-            Body::Input(input) => Some(input.number()),
-            _ => None,
-        },
+        Ok(message) => number_in(message.body),
         Err(_) => None,
     }
 }
