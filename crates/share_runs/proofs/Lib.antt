@@ -1,1 +1,4 @@
-pub mod Stays
+pub mod Knowing
+pub mod ListLaws
+pub mod Porting
+mod Stays

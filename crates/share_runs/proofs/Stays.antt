@@ -1,8 +1,7 @@
 -- A viewer that has applied an input or made an offer stays in its run.
 use Rattle.std.proofs.Common.{◌≡◌, ℕ, Bool, true, false, cond, List, [], ◌∷◌, Option, Some, None, refl, sym, ap, ◌∙◌}
-use Rattle.std.specs.Prelude.{◌&&◌, not, nat_eq}
-use Rattle.std.specs.Cmp.Lexicographic.{pointwise, bytes_decides}
-use Rattle.share_session.specs.declared.message.Welcome.{Welcome}
+use Rattle.std.specs.Prelude.{◌&&◌, not}
+use Rattle.std.specs.Cmp.Lexicographic.{bytes_decides}
 use Rattle.share_runs.specs.declared.arrival.Arrival.{Arrival}
 use Rattle.share_runs.specs.declared.arrival.ArrivalEvent.{ArrivalEvent}
 use Rattle.share_runs.specs.declared.arrival.ArrivalEvent.TheVariants.{Drawn, Passed, Welcomed, Heard, Bound}

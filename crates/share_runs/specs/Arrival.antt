@@ -2,7 +2,6 @@
 use Rattle.std.specs.Prelude.{◌≡◌, ℕ, ◌+◌, ◌&&◌, not, min, Bool, true, false, List, Option, None, Some, nat_eq, nat_le, if◌then◌else◌}
 use Rattle.std.specs.List.{fold}
 use Rattle.std.specs.Cmp.Lexicographic.{pointwise}
-use Rattle.share_session.specs.declared.message.Hello.{Hello}
 use Rattle.share_session.specs.declared.message.Welcome.{Welcome}
 use Rattle.share_session.specs.Welcomes.{answers}
 use Rattle.share_runs.specs.declared.arrival.Arrival.{Arrival}

@@ -1,1 +1,9 @@
 pub mod Arrival
+pub mod Arrive
+pub mod Known
+pub mod Laws
+pub mod Greetings
+pub mod Port
+pub mod Hearing
+pub mod Saying
+pub mod Steps

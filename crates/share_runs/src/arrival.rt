@@ -43,14 +43,14 @@ pub enum ArrivalEvent {
     Bound,
 }
 
-fn later(time: u32, millis: u32) -> u32
+pub(crate) fn later(time: u32, millis: u32) -> u32
     ensures { result ≡ spec.later time millis }
 {
     let sum = u64::from(time) + u64::from(millis);
     sum.min(u64::from(MAX_SILENCE)) as u32
 }
 
-fn is_own(own: &Option<Run>, run: &Run) -> bool
+pub(crate) fn is_own(own: &Option<Run>, run: &Run) -> bool
     ensures { result ≡ spec.is_own own.now run.now }
 {
     match own {
@@ -59,7 +59,7 @@ fn is_own(own: &Option<Run>, run: &Run) -> bool
     }
 }
 
-fn is_taken(arrival: &Arrival, welcome: &Welcome) -> bool
+pub(crate) fn is_taken(arrival: &Arrival, welcome: &Welcome) -> bool
     ensures { result ≡ spec.is_taken arrival.now welcome.now }
 {
     arrival.age <= MAX_AGE && welcome.answers(&arrival.hello)

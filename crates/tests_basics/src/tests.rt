@@ -10,7 +10,6 @@ mod parts;
 mod passing;
 mod reaction_growths;
 mod reactions;
-mod runs;
 mod seals;
 mod sending;
 mod sessions;

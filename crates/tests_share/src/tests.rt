@@ -24,6 +24,7 @@ mod cable;
 mod given;
 mod loading;
 mod pacing;
+mod runs;
 mod stored;
 mod turning;
 mod viewers;
