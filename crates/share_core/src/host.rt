@@ -95,6 +95,7 @@ fn packet_of(mark: [u8; 32], input: Option<Stamped>) -> Option<Packet>
 
 impl Host {
     ghost use Rattle.std.specs.Prelude.{◌≡◌, ◌<◌, ◌≤◌, ◌^◌, Ok, Some, IfOk, length, slice_get};
+    ghost use Rattle.std.specs.Prelude.{pos, ◌≤ℤ◌};
     ghost use Rattle.std.specs.Option.{option_map};
     ghost use Rattle.x3d_values.specs.Ranges.{max_viewers};
     ghost use Rattle.share_wire.specs.Datagram.{datagram};
@@ -199,6 +200,14 @@ impl Host {
         ensures most { result ≤ max_inputs }
     {
         self.inputs.len()
+    }
+
+    /// Returns the time of the last input in microseconds, or 0 before the first.
+    pub fn last(&self) -> i64
+        ensures value { result ≡ self.now.part.last }
+        ensures from { pos 0 ≤ℤ self.now.part.last }
+    {
+        self.inputs.last()
     }
 
     /// Returns the mark of the host's scene.

@@ -1,6 +1,6 @@
 //! The inputs that a host numbered.
 
-ghost use Rattle.std.specs.Prelude.{◌≡◌, ◌≤◌, ◌+◌, ◌^◌, [], drop, slice_get, pos, ◌+ℤ◌};
+ghost use Rattle.std.specs.Prelude.{◌≡◌, ◌≤◌, ◌+◌, ◌^◌, [], drop, slice_get, pos, ◌+ℤ◌, ◌≤ℤ◌};
 ghost use Rattle.x3d_values.specs.Ranges.{max_inputs, max_time};
 ghost use Rattle.share_law.specs.Parts.{fault_behind};
 ghost use Rattle.share_core.specs.Host.{dropped, entry};
@@ -78,6 +78,14 @@ impl HostInputs {
         ensures fits { self.now.count ≤ max_inputs }
     {
         self.count
+    }
+
+    /// Returns the time of the last input in microseconds, or 0.
+    pub(crate) fn last(&self) -> i64
+        ensures value { result ≡ self.now.last }
+        ensures from { pos 0 ≤ℤ self.now.last }
+    {
+        self.last
     }
 
     /// Returns the number of the first input that is there, or else of the next input.
