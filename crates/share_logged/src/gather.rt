@@ -16,8 +16,8 @@ use share_law::{HostFault, HostReply, NumberFault};
 use share_turns::{Heard, MOST, Port, RECEIVED, TurnFault, after_clock, hear, sender_of, take};
 use share_wire::{Body, Message, WireFault, decode};
 
-/// Returns the entry of a clock, if it was numbered.
-fn clock_entry(time: i64, answer: Result<u32, NumberFault>) -> Option<Entry>
+/// Returns the entry of a clock at a time in microseconds, if a host numbered it.
+pub fn clock_entry(time: i64, answer: Result<u32, NumberFault>) -> Option<Entry>
     requires fits { AllFit (clock_entries time answer) }
     ensures { listed result ≡ clock_entries time answer }
 {
@@ -83,8 +83,9 @@ fn is_numbered(answer: Result<HostReply, HostFault>) -> bool
     matches!(answer, Ok(HostReply::Numbered(_)))
 }
 
-/// Returns the entry of an offer that was numbered.
-fn read_entry(
+/// Returns the entry of a decoded datagram, if it is an offer that a host numbered: 1 microsecond
+/// after the host's input before, at time `last`.
+pub fn read_entry(
     last: i64,
     read: &Result<Message, WireFault>,
     answer: Result<HostReply, HostFault>,

@@ -34,6 +34,19 @@ impl LoggedHost {
     ghost use Rattle.std.specs.Prelude.{◌≡◌};
     ghost use Rattle.share_turns.specs.Runs.{hosting, is_over};
 
+    /// Returns the host, without what it knows of its log.
+    pub fn into_host(self) -> Host
+        ensures { result ≡ record { mark = self.mark; part = self.part } }
+    {
+        let LoggedHost {
+            host,
+            attendance: _,
+            last: _,
+            rested: _,
+        } = self;
+        host
+    }
+
     /// Returns the number of entries, which are the inputs of the world: at most 2^20.
     pub fn len(&self) -> u32
         ensures { result ≡ self.now.part.count }

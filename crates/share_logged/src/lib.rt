@@ -19,6 +19,7 @@ mod turn;
 
 pub use beginning::resume;
 pub use fault::{LoggedFault, ResumeFault};
+pub use gather::{clock_entry, read_entry};
 pub use hosting::LoggedHost;
 pub use turn::logged_turn;
 
