@@ -1,5 +1,6 @@
 -- What a host has numbered and its program hasn't stored, and what the calls on it do.
-use Rattle.std.specs.Prelude.{◌≡◌, ◌⊎◌, ◌==◌, ◌&&◌, ℕ, ◌+◌, ◌-◌, ◌^◌, ℤ, min, Bool, true, false, List, [], ◌++◌}
+use Rattle.std.specs.Prelude.{◌≡◌, ◌⊎◌, ◌==◌, ◌&&◌, ℕ, ◌+◌, ◌-◌, ◌^◌, ℤ, min}
+use Rattle.std.specs.Prelude.{Bool, true, false, List, [], ◌++◌}
 use Rattle.std.specs.Prelude.{length, nat_lt, if◌then◌else◌, Option, None, Some, Result, Ok, Err}
 use Rattle.share_wire.specs.declared.fault.WireFault.{WireFault}
 use Rattle.share_wire.specs.declared.message.Message.{Message}

@@ -1,6 +1,7 @@
 //! The entries that a host has numbered and its program hasn't stored.
 
-ghost use Rattle.std.specs.Prelude.{◌≡◌, ◌++◌, ◌<◌, IsTrue, List, false, true, vec_capacity, vec_len};
+ghost use Rattle.std.specs.Prelude.{◌≡◌, ◌++◌, ◌<◌, IsTrue, List, false, true};
+ghost use Rattle.std.specs.Prelude.{vec_capacity, vec_len};
 ghost use Rattle.share_entries.specs.Entry.{EntryView};
 ghost use Rattle.share_law.specs.Calls.{IsPartClocked, IsPartTakeOf};
 ghost use Rattle.share_turns.specs.HostTurn.{listed};
