@@ -39,7 +39,7 @@ host-dropped v es fl f q log one low false false ea eb is =
     let within : f ≤ length (inputs_of (logged es)) + 1 = grind (arith, nat_tests) in
     of-floor v es q f log (omega (arith, one, above)) (omega (arith, within, many)) is
 
-dropped-of : (v : ℕ) (es : List EntryView) (p : HostPart) (f : ℕ) → IsOfLog v es p → IsOfLog v es (part_drop_below p f).1
+pub dropped-of : (v : ℕ) (es : List EntryView) (p : HostPart) (f : ℕ) → IsOfLog v es p → IsOfLog v es (part_drop_below p f).1
 dropped-of v es p f is =
     let h : HostState = host_of v (logged es) p.floor in
     let by = by-part v p.floor es is.from_one is.to_next in

@@ -1,0 +1,4 @@
+pub mod Offers
+pub mod Ahead
+pub mod Shows
+pub mod Views
