@@ -1,4 +1,4 @@
--- What a host sends in the place of a datagram of version 1.
+-- What a host sends for a datagram of version 1.
 use Rattle.std.specs.Prelude.{ℕ, Bool, false, List, Option, None, Some, Result, Ok, Err, is_err, if◌then◌else◌, ⊤}
 use Rattle.std.specs.Option.{option_map}
 use Rattle.share_wire.specs.Datagram.{datagram}

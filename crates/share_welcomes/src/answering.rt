@@ -1,4 +1,4 @@
-//! What a host sends in the place of a datagram of version 1.
+//! What a host sends for a datagram of version 1.
 
 ghost use Rattle.std.specs.Prelude.{◌≡◌, ◌≤◌, ◌∷◌, [], IfSome, length};
 ghost use Rattle.std.specs.Option.{option_map};

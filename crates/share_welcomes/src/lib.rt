@@ -5,11 +5,12 @@
 //! | `host_run` | the run of a host, and what it makes of a datagram |
 //! | `learned` | the entries of a log that a port has learned, with their chains |
 //! | `versions` | the version of each peer |
-//! | `answering` | what is sent in the place of a datagram of version 1 |
-//! | `port` | the port |
+//! | `answering` | what is sent for a datagram of version 1 |
+//! | `port`, `front` | the port, and the datagram that it hands on |
 #![tactic(auto)]
 
 mod answering;
+mod front;
 mod host_run;
 mod learned;
 mod port;

@@ -1,11 +1,11 @@
 //! The port of a host in its run.
 
-ghost use Rattle.std.specs.Prelude.{◌≡◌, ◌≤◌, ℕ, IfOk, false, length, take};
-ghost use Rattle.share_wire.specs.Datagram.{datagram};
-ghost use Rattle.share_turns.specs.Told.{max_received, one_more};
+ghost use Rattle.std.specs.Prelude.{◌≡◌, ℕ, IfOk, false};
+ghost use Rattle.share_turns.specs.Told.{one_more};
 ghost use Rattle.share_welcomes.specs.Versions.{is_two};
 
 use crate::answering::{in_two, is_plain};
+use crate::front::put_message;
 use crate::host_run::{Coming, HostRun};
 use crate::learned::Learned;
 use crate::versions::Versions;
@@ -13,13 +13,12 @@ use share_entries::Entry;
 use share_logged::Learns;
 use share_session::{Hello, Message2, encode as encode_two};
 use share_turns::{Port, PortFault, RECEIVED};
-use share_wire::{Message, encode};
 use std::alloc::{AllocError, Global};
 
-/// The port of a host in its run. Above it all is in version 1. What came in version 2 is handed on
-/// in version 1, if it is of the host's session, and the peer's answers are then sent in version 2.
-/// A Hello to the host is answered with a Welcome at once. What isn't to the host is handed on as it
-/// came, and a host takes none of it.
+/// The port of a host in its run. Above it all is in version 1. What came in version 2 is handed
+/// on in version 1, if it is of the host's session, and the peer's answers are then sent in version
+/// 2. A Hello to the host is answered with a Welcome at once. What isn't to the host is handed on
+/// as it came, and a host takes none of it.
 ///
 /// A send fails if the port below fails, and also if there is nothing to send: the bytes aren't a
 /// datagram of version 1, or the peer is answered in version 2 and the port hasn't learned the
@@ -31,24 +30,6 @@ pub struct HostPort<P> {
     learned: Learned,
     versions: Versions,
     failed: u64,
-}
-
-/// Copies bytes to the front of `into`, and returns their number.
-fn put_front(into: &mut [u8; RECEIVED], bytes: &[u8]) -> usize
-    requires { length bytes.now ≤ max_received }
-    ensures count { result ≡ length bytes.now }
-    ensures front { take (length bytes.now) into.new ≡ bytes.now }
-{
-    into[..bytes.len()].copy_from_slice(bytes);
-    bytes.len()
-}
-
-/// Puts the datagram of a message in the place of what came, and returns its number of bytes.
-fn put_message(into: &mut [u8; RECEIVED], message: &Message) -> usize
-    ensures most { result ≤ max_received }
-    ensures front { take result into.new ≡ datagram message.now }
-{
-    put_front(into, encode(message).as_slice())
 }
 
 impl<P: Drop> HostPort<P> {
@@ -103,7 +84,8 @@ impl<P: Port> HostPort<P> {
     ghost use Rattle.share_session.specs.Decoding as two;
     ghost use Rattle.share_turns.specs.Told.{Grows, counted, max_received};
     ghost use Rattle.share_turns.specs.declared.traffic.Traffic.{Traffic};
-    ghost use Rattle.share_turns.specs.declared.traffic.Traffic.TheVariants.{Nothing, Received, Sent};
+    ghost use Rattle.share_turns.specs.declared.traffic.Traffic.TheVariants.{Nothing, Received};
+    ghost use Rattle.share_turns.specs.declared.traffic.Traffic.TheVariants.{Sent};
     ghost use Rattle.share_welcomes.specs.Answers.{in_two, is_plain};
     ghost use Rattle.share_welcomes.specs.Passing.{Welcomes, coming_in, handed_on, said_in};
     ghost use Rattle.share_welcomes.specs.Passing.{versions_after};
@@ -247,7 +229,8 @@ impl<P: Port> Port for HostPort<P> {
     ghost use Rattle.std.specs.Prelude.{◌≡◌, ◌≤◌, ◌∷◌, [], List, ℕ, MatchOption, MatchResult};
     ghost use Rattle.std.specs.Prelude.{OnErr, OnOk, Some, length, take};
     ghost use Rattle.share_turns.specs.Told.{Grows, counted, max_received};
-    ghost use Rattle.share_turns.specs.declared.traffic.Traffic.TheVariants.{Nothing, Received, Sent};
+    ghost use Rattle.share_turns.specs.declared.traffic.Traffic.TheVariants.{Nothing, Received};
+    ghost use Rattle.share_turns.specs.declared.traffic.Traffic.TheVariants.{Sent};
     ghost use Rattle.share_welcomes.specs.Answers.{sent_as};
     ghost use Rattle.share_welcomes.specs.Passing.{IsHandedOn, told_in_one};
     ghost use Rattle.share_welcomes.specs.Versions.{is_two};
