@@ -7,6 +7,8 @@ ghost use Rattle.share_turns.specs.Told.{max_received};
 
 use crate::brief::{Brief, brief_of};
 use crate::pace::Pace;
+use share_entries::Entry;
+use share_logged::Learns;
 use share_turns::{Port, PortFault, RECEIVED};
 use std::thread;
 use std::time::{Clock, Duration};
@@ -243,5 +245,11 @@ impl<P: Port, C: Clock> Port for PatientPort<P, C> {
         }
         let now = millis_at(&self.clock);
         self.end_rest(now)
+    }
+}
+
+impl<P: Learns, C: Clock> Learns for PatientPort<P, C> {
+    fn learn(&mut self, entries: &[Entry]) -> Result<(), PortFault> {
+        self.port.learn(entries)
     }
 }

@@ -3,6 +3,8 @@
 ghost use Rattle.std.specs.Prelude.{◌≡◌};
 
 use crate::watch::{Counts, Note, Watch};
+use share_entries::Entry;
+use share_logged::Learns;
 use share_turns::{Port, PortFault, RECEIVED};
 use std::io::Eprint;
 
@@ -82,5 +84,11 @@ impl<P: Port, R: Eprint> Port for TellingPort<P, R> {
 
     fn wait(&mut self, millis: u32) {
         self.port.wait(millis);
+    }
+}
+
+impl<P: Learns, R: Eprint> Learns for TellingPort<P, R> {
+    fn learn(&mut self, entries: &[Entry]) -> Result<(), PortFault> {
+        self.port.learn(entries)
     }
 }

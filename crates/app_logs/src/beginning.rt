@@ -30,6 +30,8 @@ pub struct Begun<D: Disk> {
     pub cut: u64,
     /// The time of the last entry in microseconds, or 0.
     pub last: i64,
+    /// The entries that the log had.
+    pub entries: Vec<Entry>,
 }
 
 /// Creates the host that the entries of a log make.
@@ -57,6 +59,7 @@ fn with_host<D: Disk>(alloc: Global, opened: Opened<D>) -> Result<Begun<D>, (Log
     ensures host { IfOk result (λ b. b.hosting ≡ host_with opened.head opened.entries.items) }
     ensures made { OnOk result (IsLogOf opened.head.viewers opened.entries.items) }
     ensures last { IfOk result (λ b. b.last ≡ last_of opened.entries.items) }
+    ensures entries { IfOk result (λ b. b.entries.items ≡ opened.entries.items) }
     // Whatever a crash leaves has the entries that the log knows.
     ensures lasts { IfOk result (λ b. IsTrue (⟦<FileLog<D> as share_store::Log>⟧.is_clean b.log)
         → Last (⟦<FileLog<D> as share_store::Log>⟧.may_leave b.log)
@@ -74,13 +77,13 @@ fn with_host<D: Disk>(alloc: Global, opened: Opened<D>) -> Result<Begun<D>, (Log
     match resumed(alloc, &head, &entries) {
         Ok(hosting) => {
             let last = last_of(&entries);
-            drop(entries);
             Ok(Begun {
                 log,
                 hosting,
                 head,
                 cut,
                 last,
+                entries,
             })
         }
         Err(fault) => {
@@ -115,6 +118,8 @@ pub fn go_on<D: Disk>(
         → IsLogOf b.head.viewers (⟦<FileLog<D> as share_store::Log>⟧.known b.log)) }
     ensures last { IfOk result (λ b. IsTrue (⟦<FileLog<D> as share_store::Log>⟧.is_clean b.log)
         → b.last ≡ last_of (⟦<FileLog<D> as share_store::Log>⟧.known b.log)) }
+    ensures entries { IfOk result (λ b. IsTrue (⟦<FileLog<D> as share_store::Log>⟧.is_clean b.log)
+        → b.entries.items ≡ ⟦<FileLog<D> as share_store::Log>⟧.known b.log) }
     // Whatever a crash leaves has the entries that the log knows.
     ensures lasts { IfOk result (λ b. IsTrue (⟦<FileLog<D> as share_store::Log>⟧.is_clean b.log)
         → Last (⟦<FileLog<D> as share_store::Log>⟧.may_leave b.log)
@@ -145,6 +150,7 @@ pub fn make_log<D: Disk>(alloc: Global, disk: D, head: &Head) -> Result<Begun<D>
     ensures host { IfOk result (λ b. b.hosting ≡ host_with head.now []) }
     ensures head { IfOk result (λ b. b.head ≡ head.now) }
     ensures last { IfOk result (λ b. (b.last ≡ pos 0) × (b.cut ≡ 0)) }
+    ensures entries { IfOk result (λ b. b.entries.items ≡ []) }
     // Whatever a crash leaves has the entries that the log knows.
     ensures lasts { IfOk result (λ b. IsTrue (⟦<FileLog<D> as share_store::Log>⟧.is_clean b.log)
         → Last (⟦<FileLog<D> as share_store::Log>⟧.may_leave b.log)
@@ -175,6 +181,7 @@ fn with_new_host<D: Disk>(
     ensures host { IfOk result (λ b. b.hosting ≡ host_with head.now []) }
     ensures head { IfOk result (λ b. b.head ≡ head.now) }
     ensures last { IfOk result (λ b. (b.last ≡ pos 0) × (b.cut ≡ 0)) }
+    ensures entries { IfOk result (λ b. b.entries.items ≡ []) }
     // Whatever a crash leaves has the entries that the log knows.
     ensures lasts { IfOk result (λ b. IsTrue (⟦<FileLog<D> as share_store::Log>⟧.is_clean b.log)
         → Last (⟦<FileLog<D> as share_store::Log>⟧.may_leave b.log)
@@ -188,6 +195,7 @@ fn with_new_host<D: Disk>(
             head: *head,
             cut: 0,
             last: 0,
+            entries: Vec::new(alloc),
         }),
         Err(_fault) => Err((LogFault::Memory, log.into_disk())),
     }

@@ -12,9 +12,9 @@ ghost use Rattle.app_logs.specs.declared.fault.RunFault.TheVariants.{TurnsUsedUp
 
 use crate::clocks::{Beat, clock_for, due_after, first_due};
 use crate::fault::RunFault;
-use share_logged::{LoggedFault, LoggedHost, logged_turn};
+use share_logged::{Learns, LoggedFault, LoggedHost, logged_turn};
 use share_store::Log;
-use share_turns::{HostPlan, Port};
+use share_turns::HostPlan;
 
 /// What a host over a log does, and when it is done.
 #[derive(Clone, Copy, Debug, PartialEq, Eq)]
@@ -52,7 +52,7 @@ fn next_due(hosting: &LoggedHost, job: Option<i64>, every: Option<u32>, due: u64
 }
 
 /// Runs a turn.
-fn taken_turn<L: Log, P: Port>(
+fn taken_turn<L: Log, P: Learns>(
     hosting: LoggedHost,
     clock: Option<i64>,
     keep: Option<u32>,
@@ -99,7 +99,7 @@ fn used_up(until: Option<u32>) -> Result<(), RunFault>
 ///
 /// Fails with `TurnsUsedUp` if the host isn't done after the last turn. A turn that ends early ends
 /// the run.
-pub fn log_run<L: Log, P: Port>(
+pub fn log_run<L: Log, P: Learns>(
     hosting: LoggedHost,
     clocks: &[i64],
     plan: &LogPlan,

@@ -8,6 +8,7 @@ use Rattle.share_core.specs.Host.{AreNumbered}
 use Rattle.share_turns.specs.declared.traffic.Traffic.{Traffic}
 use Rattle.share_turns.specs.declared.traffic.Traffic.TheVariants.{Sent}
 use Rattle.share_turns.specs.Exchanges.{AreSent, sent_to}
+use Rattle.share_turns.specs.Told.{Grows}
 use Rattle.share_turns.specs.HostTurn.{bodies_for, datagrams_of}
 use Rattle.share_turns.proofs.Sending.{grows_none, grows_then}
 use Rattle.share_logged.specs.declared.pending.Note.{Note}
@@ -16,6 +17,20 @@ use Rattle.share_logged.proofs.Resuming.{take-push}
 
 pub sent_none : (a : Option (List Traffic)) → IsSentInTurn true a a []
 sent_none a = record { sent = []; lost = []; front = refl; all = λ e. refl; told = grows_none a }
+
+-- the port failed before anything was sent
+pub sent_nothing : (a b : Option (List Traffic)) (wanted : List Traffic) → b ≡ a → IsSentInTurn false a b wanted
+sent_nothing a b wanted same = record {
+  sent = [];
+  lost = wanted;
+  front = refl;
+  all = λ e. absurd (cc);
+  told = subst (λ (z : Option (List Traffic)). Grows a z []) (sym same) (grows_none a);
+}
+
+-- what was sent after a step that sent nothing
+pub sent_after : (whole : Bool) (a b c : Option (List Traffic)) (wanted : List Traffic) → b ≡ a → IsSentInTurn whole b c wanted → IsSentInTurn whole a c wanted
+sent_after whole a b c wanted same so = subst (λ (z : Option (List Traffic)). IsSentInTurn whole z c wanted) same so
 
 peer-append : (peer : ℕ) (xs ys : List (List ℕ)) → sent_to peer (xs ++ ys) ≡ sent_to peer xs ++ sent_to peer ys
 peer-append peer xs ys = map-append (λ (bytes : List ℕ). Sent (record { peer = peer; bytes = bytes })) xs ys

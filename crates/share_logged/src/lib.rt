@@ -6,6 +6,7 @@
 //! | `beginning` | a host that begins with the entries of a log |
 //! | `entries`, `pending`, `gather` | what a turn takes, and the entries that it numbers |
 //! | `turn` | a turn: it stores what was numbered, and then answers |
+//! | `learning` | a port that learns the stored entries |
 //! | `hosting`, `fault` | a host over a log, and why it ends |
 #![tactic(auto)]
 
@@ -14,6 +15,7 @@ mod entries;
 mod fault;
 mod gather;
 mod hosting;
+mod learning;
 mod pending;
 mod turn;
 
@@ -21,6 +23,7 @@ pub use beginning::resume;
 pub use fault::{LoggedFault, ResumeFault};
 pub use gather::{clock_entry, read_entry};
 pub use hosting::LoggedHost;
+pub use learning::Learns;
 pub use turn::logged_turn;
 
 #[cfg(test)]

@@ -20,6 +20,7 @@ ghost use Rattle.share_logged.specs.Turn.{IsLoggedEnd, IsLoggedTurn, failures_af
 use crate::fault::LoggedFault;
 use crate::gather::gather;
 use crate::hosting::LoggedHost;
+use crate::learning::Learns;
 use crate::pending::{Note, Pending};
 use share_core::Host;
 use share_entries::Entry;
@@ -71,17 +72,34 @@ fn answer_all<P: Port>(host: &Host, notes: &[Note], port: &mut P) -> Result<(), 
     Ok(())
 }
 
-/// Sends the answers to the datagrams that were taken, like `answer_all`.
-fn answer<P: Port>(host: &Host, notes: &[Note], port: &mut P) -> Result<(), LoggedFault>
-    requires { AllNumbered host.now.part notes.now }
+/// Lets the port learn the entries that were stored, and then sends the answers to the datagrams
+/// that were taken, like `answer_all`.
+fn learn_and_answer<P: Learns>(
+    host: &Host,
+    pending: &Pending,
+    port: &mut P,
+) -> Result<(), PortFault>
+    requires { AllNumbered host.now.part pending.now.notes.items }
     ensures sent { IsSentInTurn (is_ok result) (P.told port.old) (P.told port.new)
-        (sent_for_all host.now.mark host.now.part notes.now) }
+        (sent_for_all host.now.mark host.now.part pending.now.notes.items) }
+    ensures failures { P.failure_count port.new ≡ counted result (P.failure_count port.old) }
+    ensures time { P.rested port.new ≡ P.rested port.old }
+{
+    port.learn(pending.entries.as_slice())?;
+    answer_all(host, pending.notes.as_slice(), port)
+}
+
+/// Sends the answers to the datagrams that were taken, like `learn_and_answer`.
+fn answer<P: Learns>(host: &Host, pending: &Pending, port: &mut P) -> Result<(), LoggedFault>
+    requires { AllNumbered host.now.part pending.now.notes.items }
+    ensures sent { IsSentInTurn (is_ok result) (P.told port.old) (P.told port.new)
+        (sent_for_all host.now.mark host.now.part pending.now.notes.items) }
     ensures fault { OnErr result (result ≡ Err (logged_fault.Turn turn_fault.Port)) }
     ensures failures { P.failure_count port.new
         ≡ failures_after result (P.failure_count port.old) }
     ensures time { P.rested port.new ≡ P.rested port.old }
 {
-    match answer_all(host, notes, port) {
+    match learn_and_answer(host, pending, port) {
         Ok(()) => Ok(()),
         Err(_failed) => Err(LoggedFault::Turn(TurnFault::Port)),
     }
@@ -89,7 +107,7 @@ fn answer<P: Port>(host: &Host, notes: &[Note], port: &mut P) -> Result<(), Logg
 
 /// Runs a turn. What is numbered is stored before anything is sent. `last` is the time of the last
 /// input.
-fn turn<L: Log, P: Port>(
+fn turn<L: Log, P: Learns>(
     host: &mut Host,
     heard: &mut Heard,
     last: &mut i64,
@@ -121,7 +139,7 @@ fn turn<L: Log, P: Port>(
     gather(host, clock, heard, &mut pending, port)?;
     store(log, pending.entries.as_slice())?;
     *last = pending.last;
-    answer(host, pending.notes.as_slice(), port)
+    answer(host, &pending, port)
 }
 
 /// Notes which viewers asked in a turn, drops the inputs that the host doesn't keep, and lets the
@@ -152,17 +170,17 @@ fn settle<P: Port>(
 
 /// Runs a turn of a host over a log, and returns the host. First it numbers the clock, at a time in
 /// microseconds, if there is one, and takes at most 64 datagrams, like `host_turn`. Then it appends
-/// the entries of what it numbered to the log, at once. Only if they are stored it sends the
-/// answers to each datagram's peer, by what the host then holds: to an ask the inputs that were
+/// the entries of what it numbered to the log, at once. Only if they are stored the port learns
+/// them, and the turn sends the answers to each datagram's peer, by what the host then holds: to an ask the inputs that were
 /// asked for, or the floor if they are below it, and an ack; to an offer an ack. At last it drops
 /// the inputs that it doesn't keep, like `drop_counted`, and lets the port rest.
 ///
 /// Fails with `Turn` and `Memory`, if memory was refused to a clock or to an offer, or `Port`, if a
 /// receive failed: then nothing was stored and nothing was sent. Fails with `Log` if the log
-/// refused the entries or didn't answer: then nothing was sent. Fails with `Turn` and `Port` if a
-/// send failed: then the entries are stored. After each failure the host is dropped, as it may be
+/// refused the entries or didn't answer: then nothing was sent. Fails with `Turn` and `Port` if the
+/// port didn't learn the entries, or a send failed: then the entries are stored. After each failure the host is dropped, as it may be
 /// ahead of the log: read on, and begin again with `resume`.
-pub fn logged_turn<L: Log, P: Port>(
+pub fn logged_turn<L: Log, P: Learns>(
     hosting: LoggedHost,
     clock: Option<i64>,
     keep: Option<u32>,

@@ -31,7 +31,7 @@ pub returns-clause-done : goal.returns-clause-done
 returns-clause-done g c =
     let known = g.L.Log.known c.args.log.now in
     let stored = g.L.Log.known c.store.new.log in
-    let sent = rw (c.in_ok-gather.ensures.mark, c.as_slice-2.ensures.value) at c.answer.ensures.sent in
+    let sent = rw c.in_ok-gather.ensures.mark at c.answer.ensures.sent in
     turn_answered c.args.host.now.mark c.args.clock (g.L.Log.is_clean c.store.new.log) known stored (g.P.Port.told c.args.port.now) (g.P.Port.told c.gather.new.port) (g.P.Port.told c.answer.new.port)
     c.args.host.now.part c.gather.new.host.part c.args.heard.now c.gather.new.heard c.gather.new.pending.entries c.gather.new.pending.notes.items c.answer.result
     c.in_ok-gather.ensures.gathered (λ clean. c.in_ok-store.ensures.stored clean ∙ ap (λ (l : List EntryView). known ++ l) c.as_slice.ensures.items) sent
@@ -40,7 +40,7 @@ pub returns-clause-ended : goal.returns-clause-ended
 returns-clause-ended g c =
     let known = g.L.Log.known c.args.log.now in
     let stored = g.L.Log.known c.store.new.log in
-    let sent = rw (c.in_ok-gather.ensures.mark, c.as_slice-2.ensures.value) at c.answer.ensures.sent in
+    let sent = rw c.in_ok-gather.ensures.mark at c.answer.ensures.sent in
     turn_ended c.args.host.now.mark c.args.clock (g.L.Log.is_clean c.store.new.log) known stored (g.P.Port.told c.args.port.now) (g.P.Port.told c.gather.new.port) (g.P.Port.told c.answer.new.port)
     c.args.host.now.part c.gather.new.host.part c.args.heard.now c.gather.new.heard c.gather.new.pending.entries c.gather.new.pending.notes.items c.answer.result
     c.in_ok-gather.ensures.gathered (λ clean. c.in_ok-store.ensures.stored clean ∙ ap (λ (l : List EntryView). known ++ l) c.as_slice.ensures.items) sent c.answer.ensures.fault

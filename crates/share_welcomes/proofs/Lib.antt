@@ -1,0 +1,3 @@
+mod Links
+mod Telling
+mod Unheard

@@ -1,0 +1,5 @@
+pub mod Learned
+pub mod Versions
+pub mod Coming
+pub mod Answers
+pub mod Passing
