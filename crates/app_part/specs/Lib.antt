@@ -1,3 +1,5 @@
+pub mod Apart
+pub mod Judging
 pub mod Kept
 pub mod Laws
 pub mod Listing
