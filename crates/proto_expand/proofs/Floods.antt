@@ -18,7 +18,7 @@ use Rattle.proto_parts.proofs.Settling.{parts_settle_in_turn, settle-then}
 use Rattle.proto_meaning.specs.Sizes.{IsSized}
 use Rattle.proto_meaning.specs.Rows.{Known, MetIn, add_root, bare, mets, stated_of, times}
 use Rattle.proto_meaning.proofs.InRows.{bare_instances_stand_in_rows, rows_are_sums}
-use Rattle.proto_meaning.specs.Meaning.{item_step, node, node_step, statement}
+use Rattle.proto_meaning.specs.trees.Meaning.{item_step, node, node_step, statement}
 use Rattle.proto_meaning.specs.declared.tree.BodyTree.{BodyTree}
 use Rattle.proto_meaning.specs.declared.tree.BodyTree.TheVariants as body
 use Rattle.proto_meaning.specs.declared.tree.ItemTree.{ItemTree}

@@ -10,7 +10,7 @@ use Rattle.proto_flat.specs.declared.flat.Flat.{Flat}
 use Rattle.proto_meaning.specs.Flat.{flat, header_of}
 use Rattle.proto_meaning.specs.Limits.{limited}
 use Rattle.proto_meaning.specs.Sight.{Prototype}
-use Rattle.proto_meaning.specs.Meaning.{stand_together}
+use Rattle.proto_meaning.specs.trees.Meaning.{stand_together}
 use Rattle.proto_meaning.specs.declared.tree.BodyTree.{BodyTree}
 use Rattle.proto_meaning.specs.declared.tree.ProtoTree.{ProtoTree}
 use Rattle.proto_resolver.specs.Laws.{IsTreeOf}

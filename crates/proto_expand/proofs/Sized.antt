@@ -14,9 +14,9 @@ use Rattle.proto_meaning.specs.Sizes.{AreSized, IsSized}
 use Rattle.proto_meaning.proofs.SizeWalks.{none_sized}
 use Rattle.proto_meaning.proofs.SizeNodes.{OwnerSized, meant_sized}
 use Rattle.proto_meaning.proofs.SizeWhole.{prototypes_are_sized}
-use Rattle.proto_meaning.specs.Meaning.{owner}
-use Rattle.proto_meaning.specs.Resolved as rule
-use Rattle.proto_meaning.specs.Resolved.{AreStatements, IsNode, Seen}
+use Rattle.proto_meaning.specs.trees.Meaning.{owner}
+use Rattle.proto_meaning.specs.trees.Resolved as rule
+use Rattle.proto_meaning.specs.trees.Resolved.{AreStatements, IsNode, Seen}
 use Rattle.proto_meaning.proofs.Whole.{node_means}
 use Rattle.proto_meaning.specs.declared.tree.BodyTree.{BodyTree}
 use Rattle.proto_meaning.specs.declared.tree.BodyTree.TheVariants as body

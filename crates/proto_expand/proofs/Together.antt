@@ -23,7 +23,7 @@ use Rattle.proto_parts.proofs.Settling.{limits_are_settled, settle-then, see-ass
 use Rattle.proto_parts.specs.Ends.{few}
 use Rattle.proto_nodes.specs.Shown.{Sound, Steps, shown, before}
 use Rattle.proto_nodes.specs.declared.walker.Walker.{Walker}
-use Rattle.proto_meaning.specs.Meaning.{instance, node, stand_together}
+use Rattle.proto_meaning.specs.trees.Meaning.{instance, node, stand_together}
 use Rattle.proto_meaning.specs.declared.tree.BodyTree.{BodyTree}
 use Rattle.proto_meaning.specs.declared.tree.BodyTree.TheVariants as body
 use Rattle.proto_meaning.specs.declared.tree.NodeTree.{NodeTree}

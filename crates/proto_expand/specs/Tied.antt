@@ -4,7 +4,7 @@ use Rattle.classic_tree.specs.declared.tree.ProtoText.{out-ProtoText}
 use Rattle.proto_meaning.specs.Flat.{field}
 use Rattle.proto_meaning.specs.Names.{Field, Filled}
 use Rattle.proto_meaning.specs.Sight.{Put, Prototype}
-use Rattle.proto_meaning.specs.Meaning.{instance}
+use Rattle.proto_meaning.specs.trees.Meaning.{instance}
 use Rattle.proto_meaning.specs.declared.tree.ProtoTree.{ProtoTree}
 use Rattle.proto_nodes.specs.declared.frames.Proto.{Proto}
 

@@ -10,7 +10,7 @@ use Rattle.proto_meaning.specs.Flat.{Does, ◌>>=◌, pure, through, Stated}
 use Rattle.proto_meaning.specs.Sight.{Prototype, Put, and_see}
 use Rattle.proto_parts.specs.Settled.{State, doing}
 use Rattle.proto_parts.specs.Ends.{few}
-use Rattle.proto_meaning.specs.Meaning.{statement}
+use Rattle.proto_meaning.specs.trees.Meaning.{statement}
 use Rattle.proto_meaning.specs.declared.tree.BodyTree.{BodyTree}
 use Rattle.proto_expand.specs.declared.whole.Content.{Content}
 use Rattle.proto_nodes.specs.Does.{Comes}

@@ -10,7 +10,7 @@ ghost use Rattle.proto_parts.specs.Settled.{doing};
 ghost use Rattle.proto_parts.specs.Put as put;
 ghost use Rattle.proto_parts.specs.Ends.{few};
 ghost use Rattle.proto_parts.specs.Scope as scope;
-ghost use Rattle.proto_meaning.specs.Meaning.{stand_together};
+ghost use Rattle.proto_meaning.specs.trees.Meaning.{stand_together};
 ghost use Rattle.proto_nodes.specs.Shown as shown;
 ghost use Rattle.proto_nodes.specs.Protos.{Knows};
 ghost use Rattle.proto_nodes.specs.Frames.{Ends, MachineSound};

@@ -18,13 +18,13 @@ use Rattle.proto_meaning.specs.Flat as flat
 use Rattle.proto_meaning.specs.Flat.{Walk, Does, ◌>>=◌, pure, see, through, put_in, leave_out, Node}
 use Rattle.proto_meaning.proofs.SightLaw.{Any, After, Free, Follows, GoodNode, bare, bared, each_free, then_follows, then_still, see_follows, aside_free}
 use Rattle.proto_meaning.specs.declared.tree.DefaultTree.{DefaultTree}
-use Rattle.proto_meaning.specs.Given.{GivenTree}
+use Rattle.proto_meaning.specs.trees.Given.{GivenTree}
 use Rattle.proto_meaning.specs.declared.tree.GivenTree.TheVariants as tree
 use Rattle.proto_meaning.specs.declared.tree.NodeTree.{NodeTree}
-use Rattle.proto_meaning.specs.Values.{plain}
-use Rattle.proto_meaning.specs.Meaning.{node, value_in, with_given, default}
-use Rattle.proto_meaning.specs.Resolved as rule
-use Rattle.proto_meaning.specs.Resolved.{Seen, IsGiven, AreDefaults, is_value, is_plain, given_sees}
+use Rattle.proto_meaning.specs.trees.Values.{plain}
+use Rattle.proto_meaning.specs.trees.Meaning.{node, value_in, with_given, default}
+use Rattle.proto_meaning.specs.trees.Resolved as rule
+use Rattle.proto_meaning.specs.trees.Resolved.{Seen, IsGiven, AreDefaults, is_value, is_plain, given_sees}
 use Rattle.proto_meaning.proofs.Same.{Same, in_bared, never, same_then, same_last, same_seen}
 use Rattle.proto_meaning.proofs.Good.{every_given}
 use Rattle.proto_meaning.proofs.Given.{put_next, put_next_follows, given_free, sees_given}

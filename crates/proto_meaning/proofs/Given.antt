@@ -21,11 +21,11 @@ use Rattle.proto_meaning.specs.Sight.{Sight, Look, Prototype, Owner, OfType, OfP
 use Rattle.proto_meaning.specs.Flat as flat
 use Rattle.proto_meaning.specs.Flat.{Walk, Does, ◌>>=◌, pure, refuse, see, through, put_in, leave_out, Node, Inside, give, give_is, join, fits, fill, met_field, is_node}
 use Rattle.proto_meaning.proofs.SightLaw.{Any, Free, GoodNode, Follows, bared, each_free, aside_free, then_still}
-use Rattle.proto_meaning.specs.Given.{GivenTree}
+use Rattle.proto_meaning.specs.trees.Given.{GivenTree}
 use Rattle.proto_meaning.specs.declared.tree.GivenTree.TheVariants as tree
-use Rattle.proto_meaning.specs.Values.{left_by, plain, value_at}
-use Rattle.proto_meaning.specs.Meaning.{holds, gives}
-use Rattle.proto_meaning.specs.Resolved.{Seen, given_sees, wrong_in, is_plain, taking}
+use Rattle.proto_meaning.specs.trees.Values.{left_by, plain, value_at}
+use Rattle.proto_meaning.specs.trees.Meaning.{holds, gives}
+use Rattle.proto_meaning.specs.trees.Resolved.{Seen, given_sees, wrong_in, is_plain, taking}
 use Rattle.proto_meaning.proofs.Same.{Same, never, in_bared, same_then, same_first, same_last, same_seen, same_wrong, same_if, same_chosen, same_other}
 use Rattle.proto_meaning.proofs.Good.{every_given}
 

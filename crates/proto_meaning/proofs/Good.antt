@@ -20,7 +20,7 @@ use Rattle.proto_meaning.proofs.Trees.{item-field, item-declaration, item-route,
 use Rattle.proto_meaning.proofs.SightLaw.{Any, After, GoodNode, GoodItem, GoodProto, GoodStated, field_good, declaration_good, route_good, proto_item_good}
 use Rattle.proto_meaning.proofs.SightNodes.{prototype_good}
 use Rattle.proto_meaning.proofs.SightWhole.{every_good}
-use Rattle.proto_meaning.specs.Resolved.{Seen}
+use Rattle.proto_meaning.specs.trees.Resolved.{Seen}
 
 node_after : (met : List Met) (c : Result (ℕ × Walk) ExpandFault) (r : Seen) → After Any (follow met c (λ p. pure (p.0 ∷ []) p.1)).comes r → After Any c r
 node_after met (Ok p) r h = (tt, h.1)

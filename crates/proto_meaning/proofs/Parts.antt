@@ -24,7 +24,7 @@ use Rattle.proto_meaning.specs.Flat as flat
 use Rattle.proto_meaning.specs.Flat.{Walk, Does, ◌>>=◌, pure, refuse, meet, note, see, through, close, renamed, Node, Item, Inside, is_one, unless_twice, inside, fields_of, flat_node, close_node, close_instance, full_node, note_route, numbered_from, is_filled, is_script, field, give}
 use Rattle.proto_meaning.proofs.SightLaw.{Any, Owned, After, Follows, GoodItem, bared, still}
 use Rattle.proto_meaning.proofs.Trees.{item-field, item-declaration, item-route, item-proto, node-use, node-full}
-use Rattle.proto_meaning.specs.Given.{GivenTree}
+use Rattle.proto_meaning.specs.trees.Given.{GivenTree}
 use Rattle.proto_meaning.specs.declared.tree.GivenTree.TheVariants as tree
 use Rattle.proto_meaning.specs.declared.tree.ItemTree.{ItemTree, fold-roll-ItemTree}
 use Rattle.proto_meaning.specs.declared.tree.ItemTree.TheVariants as tree_item
@@ -32,8 +32,8 @@ use Rattle.proto_meaning.specs.declared.tree.ItemTree.TheOpen.{ItemTree-F, NodeT
 use Rattle.proto_meaning.specs.declared.tree.NodeTree.{NodeTree, fold-roll-NodeTree}
 use Rattle.proto_meaning.specs.declared.tree.NodeTree.TheVariants as tree_node
 use Rattle.proto_meaning.specs.declared.tree.Word.{Word}
-use Rattle.proto_meaning.specs.Meaning.{owner, item, node, item_step, node_step, gives}
-use Rattle.proto_meaning.specs.Resolved.{Seen}
+use Rattle.proto_meaning.specs.trees.Meaning.{owner, item, node, item_step, node_step, gives}
+use Rattle.proto_meaning.specs.trees.Resolved.{Seen}
 use Rattle.proto_meaning.proofs.Same.{Same, hide, hidden, never, in_bared, same_then, same_first, same_last, same_wrong, same_passed, same_if, same_when}
 use Rattle.proto_meaning.proofs.Good.{every_proto, proto_does}
 use Rattle.proto_meaning.proofs.Given.{GivenSame, NodeSame}

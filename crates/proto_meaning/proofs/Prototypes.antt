@@ -17,9 +17,9 @@ use Rattle.proto_meaning.specs.Flat as flat
 use Rattle.proto_meaning.specs.Flat.{Walk, Does, ◌>>=◌, pure, note, through, begin, made, field, in_body, Item, Node, Stated, Proto, item_step, node_step, statement_step, proto_step, declare, declare_body, body_sees, body_finds, instance_of, prototype}
 use Rattle.proto_meaning.proofs.SightLaw.{Any, Free, Follows, bared, each_free, then_follows}
 use Rattle.proto_meaning.specs.declared.tree.ProtoTree.{ProtoTree}
-use Rattle.proto_meaning.specs.Meaning.{statement, default}
-use Rattle.proto_meaning.specs.Resolved.{Seen, IsProto}
-use Rattle.proto_meaning.specs.TreeLaws.{PrototypesAreTheSame}
+use Rattle.proto_meaning.specs.trees.Meaning.{statement, default}
+use Rattle.proto_meaning.specs.trees.Resolved.{Seen, IsProto}
+use Rattle.proto_meaning.specs.trees.TreeLaws.{PrototypesAreTheSame}
 use Rattle.proto_meaning.proofs.Same.{Same, hide, hid, ok, in_bared, never, same_then, same_first}
 use Rattle.proto_meaning.proofs.Good.{every_given}
 use Rattle.proto_meaning.proofs.Given.{given_free}

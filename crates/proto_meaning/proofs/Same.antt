@@ -7,7 +7,7 @@ use Rattle.proto_meaning.specs.Limits.{Met, Outcome, behind, follow, and_then}
 use Rattle.proto_meaning.specs.Sight.{Sight, Look, no_names}
 use Rattle.proto_meaning.specs.Flat.{Walk, Does, ◌>>=◌, pure, see, comes}
 use Rattle.proto_meaning.proofs.SightLaw.{bare, bared, Free, After, Follows}
-use Rattle.proto_meaning.specs.Resolved.{Seen}
+use Rattle.proto_meaning.specs.trees.Resolved.{Seen}
 
 abbrev pub hide : Walk → Walk
 hide w = record w { sight = record { here = []; outside = []; taken = no_names } }

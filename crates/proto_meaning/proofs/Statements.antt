@@ -12,8 +12,8 @@ use Rattle.proto_meaning.specs.Flat as flat
 use Rattle.proto_meaning.specs.Flat.{Walk, Does, ◌>>=◌, pure, comes, see, through, part, nothing_found, Node, Stated, Proto, in_body}
 use Rattle.proto_meaning.proofs.SightLaw.{Any, Follows, GoodStated, bared, then_still}
 use Rattle.proto_meaning.proofs.Trees.{statement-proto}
-use Rattle.proto_meaning.specs.Meaning.{quiet}
-use Rattle.proto_meaning.specs.Resolved.{Seen}
+use Rattle.proto_meaning.specs.trees.Meaning.{quiet}
+use Rattle.proto_meaning.specs.trees.Resolved.{Seen}
 use Rattle.proto_meaning.proofs.Same.{Same, seen, hidden, never, in_bared, same_then, same_last, same_wrong, same_passed}
 use Rattle.proto_meaning.proofs.Good.{every_proto, proto_does}
 

@@ -21,13 +21,13 @@ use Rattle.proto_meaning.proofs.SightLaw.{GoodItem}
 use Rattle.proto_meaning.proofs.SightWhole.{every_good}
 use Rattle.proto_meaning.proofs.Trees.{statement-node, statement-route}
 use Rattle.proto_meaning.specs.declared.tree.BodyTree.{BodyTree}
-use Rattle.proto_meaning.specs.Given.{GivenTree}
+use Rattle.proto_meaning.specs.trees.Given.{GivenTree}
 use Rattle.proto_meaning.specs.declared.tree.ItemTree.{ItemTree}
 use Rattle.proto_meaning.specs.declared.tree.NodeTree.{NodeTree}
-use Rattle.proto_meaning.specs.Meaning.{item, node, statement}
-use Rattle.proto_meaning.specs.Resolved as rule
-use Rattle.proto_meaning.specs.Resolved.{Seen, IsNode, AreNodes, IsGiven, IsItem, AreItems, AreStatements}
-use Rattle.proto_meaning.specs.TreeLaws.{TextsStandForTheSame}
+use Rattle.proto_meaning.specs.trees.Meaning.{item, node, statement}
+use Rattle.proto_meaning.specs.trees.Resolved as rule
+use Rattle.proto_meaning.specs.trees.Resolved.{Seen, IsNode, AreNodes, IsGiven, IsItem, AreItems, AreStatements}
+use Rattle.proto_meaning.specs.trees.TreeLaws.{TextsStandForTheSame}
 use Rattle.proto_meaning.proofs.Same.{Same, hid}
 use Rattle.proto_meaning.proofs.Good.{every_node, every_field, every_declaration, every_route, every_item_proto}
 use Rattle.proto_meaning.proofs.Given.{NodeSame, NodesSame, GivenSame, no_nodes_same, next_nodes_same, last_nodes_same, nothing_same, is_same, plain_same, one_same, many_same, left_out_given}

@@ -18,8 +18,8 @@ use Rattle.proto_meaning.specs.declared.tree.NodeTree.{NodeTree}
 use Rattle.proto_meaning.specs.declared.tree.NodeTree.TheVariants as tree_node
 use Rattle.proto_meaning.specs.declared.tree.ProtoTree.{ProtoTree}
 use Rattle.proto_meaning.specs.declared.tree.Word.TheVariants as word
-use Rattle.proto_meaning.specs.Resolved as rule
-use Rattle.proto_meaning.specs.Resolved.{AreStatements, IsNode, IsItem, IsProto}
+use Rattle.proto_meaning.specs.trees.Resolved as rule
+use Rattle.proto_meaning.specs.trees.Resolved.{AreStatements, IsNode, IsItem, IsProto}
 
 abbrev lent : {A : Type 0} → A → Bor A
 lent a = record { ref_ptr = (0, 0); now = a }

@@ -2,13 +2,9 @@ pub mod Limits
 pub mod Names
 pub mod Sight
 pub mod Flat
-pub mod Values
+pub mod trees
 pub mod Laws
 pub mod Sizes
 pub mod Rows
 pub mod SizeLaws
 pub mod Texts
-pub mod Given
-pub mod Meaning
-pub mod Resolved
-pub mod TreeLaws

@@ -1,6 +1,6 @@
 //! What resolved trees stand for; each law is the contract of a function that does nothing.
 
-ghost use Rattle.proto_meaning.specs.TreeLaws.{PrototypesAreTheSame, TextsStandForTheSame};
+ghost use Rattle.proto_meaning.specs.trees.TreeLaws.{PrototypesAreTheSame, TextsStandForTheSame};
 
 /// The statements of a text and its resolved tree give the same: nodes, roots, helpers, routes,
 /// what is counted on the way, and the fault with its line.

@@ -27,7 +27,7 @@ use Rattle.proto_parts.specs.Scope as scope
 use Rattle.proto_parts.specs.Scope.{nothing}
 use Rattle.proto_parts.specs.declared.scope.Scope as scopes
 use Rattle.proto_nodes.specs.Steps.{opening}
-use Rattle.proto_meaning.specs.Meaning.{item, owner, default}
+use Rattle.proto_meaning.specs.trees.Meaning.{item, owner, default}
 use Rattle.proto_meaning.specs.declared.tree.DefaultTree.{DefaultTree}
 use Rattle.proto_meaning.specs.declared.tree.ItemTree.{ItemTree}
 use Rattle.proto_meaning.specs.declared.tree.ProtoTree.{ProtoTree}

@@ -15,11 +15,11 @@ use Rattle.proto_meaning.specs.Flat.{Does, ◌>>=◌, pure, put_in, put_default}
 use Rattle.proto_meaning.specs.Names.{Name, Filled, value_of}
 use Rattle.proto_meaning.specs.Sight.{Prototype}
 use Rattle.proto_parts.specs.Given as table
-use Rattle.proto_meaning.specs.Values as values
+use Rattle.proto_meaning.specs.trees.Values as values
 use Rattle.proto_parts.specs.Settled.{State, doing}
-use Rattle.proto_meaning.specs.Meaning.{node, default, value_in, with_given}
+use Rattle.proto_meaning.specs.trees.Meaning.{node, default, value_in, with_given}
 use Rattle.proto_meaning.specs.declared.tree.DefaultTree.{DefaultTree}
-use Rattle.proto_meaning.specs.Given.{GivenTree}
+use Rattle.proto_meaning.specs.trees.Given.{GivenTree}
 use Rattle.proto_meaning.specs.declared.tree.GivenTree.TheVariants as tree
 use Rattle.proto_meaning.specs.declared.tree.NodeTree.{NodeTree}
 use Rattle.proto_nodes.specs.declared.frames.Around.{Around}

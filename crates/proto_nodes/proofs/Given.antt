@@ -21,7 +21,7 @@ use Rattle.proto_parts.specs.Fields.{numbered}
 use Rattle.proto_parts.specs.declared.fields.KnownField.{KnownField}
 use Rattle.proto_parts.specs.Inside as braces
 use Rattle.proto_parts.specs.Inside.{fields_in, filled_in}
-use Rattle.proto_meaning.specs.Values as values
+use Rattle.proto_meaning.specs.trees.Values as values
 use Rattle.proto_parts.specs.declared.inside.Inside.{Inside}
 use Rattle.proto_parts.specs.declared.inside.Owner as holder
 use Rattle.proto_parts.specs.declared.inside.Owner.TheVariants as held
@@ -31,9 +31,9 @@ use Rattle.proto_nodes.specs.Giving.{Gives, inside_of, is_type}
 use Rattle.proto_nodes.specs.Scripts.{is_script, declares}
 use Rattle.proto_nodes.specs.Shown.{Steps, shown}
 use Rattle.proto_nodes.specs.declared.walker.Walker.{Walker}
-use Rattle.proto_meaning.specs.Meaning as meaning
-use Rattle.proto_meaning.specs.Meaning.{item, node}
-use Rattle.proto_meaning.specs.Given.{GivenTree}
+use Rattle.proto_meaning.specs.trees.Meaning as meaning
+use Rattle.proto_meaning.specs.trees.Meaning.{item, node}
+use Rattle.proto_meaning.specs.trees.Given.{GivenTree}
 use Rattle.proto_meaning.specs.declared.tree.GivenTree.TheVariants as tree
 use Rattle.proto_meaning.specs.declared.tree.ItemTree.{ItemTree}
 use Rattle.proto_meaning.specs.declared.tree.ItemTree.TheVariants as tree_item

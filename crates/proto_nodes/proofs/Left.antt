@@ -19,7 +19,7 @@ use Rattle.proto_meaning.specs.Sight.{Prototype}
 use Rattle.proto_parts.specs.Settled.{State, doing}
 use Rattle.proto_nodes.specs.Shown.{Steps, shown}
 use Rattle.proto_nodes.specs.declared.walker.Walker.{Walker}
-use Rattle.proto_meaning.specs.Meaning.{node, statement}
+use Rattle.proto_meaning.specs.trees.Meaning.{node, statement}
 use Rattle.proto_meaning.specs.declared.tree.BodyTree.{BodyTree}
 use Rattle.proto_meaning.specs.declared.tree.BodyTree.TheVariants as body
 use Rattle.proto_meaning.specs.declared.tree.DefaultTree.{DefaultTree}

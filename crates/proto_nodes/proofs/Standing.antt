@@ -20,7 +20,7 @@ use Rattle.proto_nodes.specs.declared.walker.Walker.{Walker}
 use Rattle.proto_nodes.specs.Shown.{Steps, shown}
 use Rattle.proto_nodes.proofs.Stepping.{in-turn}
 use Rattle.proto_nodes.specs.Scripts.{declares}
-use Rattle.proto_meaning.specs.Values.{value_at}
+use Rattle.proto_meaning.specs.trees.Values.{value_at}
 use Rattle.proto_nodes.specs.Giving.{MayHold, aside, inside_of, is_type}
 use Rattle.proto_nodes.proofs.GivingGiven.{any-owner, stops}
 

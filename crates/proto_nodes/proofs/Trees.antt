@@ -8,7 +8,7 @@ use Rattle.proto_meaning.specs.Flat as flat
 use Rattle.proto_meaning.specs.Flat.{◌>>=◌, Node, Item, pure, comes, full_node, note_route}
 use Rattle.proto_meaning.specs.Sight.{Prototype}
 use Rattle.proto_nodes.specs.Steps.{using}
-use Rattle.proto_meaning.specs.Given.{GivenTree}
+use Rattle.proto_meaning.specs.trees.Given.{GivenTree}
 use Rattle.proto_meaning.specs.declared.tree.GivenTree.TheVariants as tree
 use Rattle.proto_meaning.specs.declared.tree.ItemTree.{ItemTree, fold-roll-ItemTree}
 use Rattle.proto_meaning.specs.declared.tree.ItemTree.TheVariants as tree_item
@@ -16,7 +16,7 @@ use Rattle.proto_meaning.specs.declared.tree.ItemTree.TheOpen.{ItemTree-F, NodeT
 use Rattle.proto_meaning.specs.declared.tree.NodeTree.{NodeTree, fold-roll-NodeTree}
 use Rattle.proto_meaning.specs.declared.tree.NodeTree.TheVariants as tree_node
 use Rattle.proto_meaning.specs.declared.tree.Word.{Word}
-use Rattle.proto_meaning.specs.Meaning.{owner, item, node, item_step, node_step, declares}
+use Rattle.proto_meaning.specs.trees.Meaning.{owner, item, node, item_step, node_step, declares}
 use Rattle.proto_nodes.specs.Does.{given_by, field_does}
 
 module _ (ps : List Prototype) where

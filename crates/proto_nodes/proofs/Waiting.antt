@@ -10,7 +10,7 @@ use Rattle.proto_meaning.specs.Sight.{Prototype}
 use Rattle.proto_parts.specs.Settled.{State, doing}
 use Rattle.proto_nodes.specs.Shown.{shown, Sound}
 use Rattle.proto_nodes.specs.declared.walker.Walker.{Walker}
-use Rattle.proto_meaning.specs.Meaning.{node}
+use Rattle.proto_meaning.specs.trees.Meaning.{node}
 use Rattle.std.specs.declared.alloc.AllocError.{AllocError}
 use Rattle.proto_meaning.specs.declared.tree.DefaultTree.{DefaultTree}
 use Rattle.proto_meaning.specs.declared.tree.NodeTree.{NodeTree}

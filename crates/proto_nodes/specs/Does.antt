@@ -21,10 +21,10 @@ use Rattle.proto_parts.specs.Settled.{State, doing}
 use Rattle.proto_parts.specs.Scope as scope
 use Rattle.proto_nodes.specs.Giving.{inside_of}
 use Rattle.proto_nodes.specs.Steps.{standing_in}
-use Rattle.proto_meaning.specs.Meaning.{item, node, statement, default, gives, value_in, with_given}
+use Rattle.proto_meaning.specs.trees.Meaning.{item, node, statement, default, gives, value_in, with_given}
 use Rattle.proto_meaning.specs.declared.tree.BodyTree.{BodyTree}
 use Rattle.proto_meaning.specs.declared.tree.DefaultTree.{DefaultTree}
-use Rattle.proto_meaning.specs.Given.{GivenTree}
+use Rattle.proto_meaning.specs.trees.Given.{GivenTree}
 use Rattle.proto_meaning.specs.declared.tree.GivenTree.TheVariants as tree
 use Rattle.proto_meaning.specs.declared.tree.ItemTree.{ItemTree}
 use Rattle.proto_meaning.specs.declared.tree.NodeTree.{NodeTree}

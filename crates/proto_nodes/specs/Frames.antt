@@ -14,8 +14,8 @@ use Rattle.proto_parts.specs.Inside as inside
 use Rattle.proto_parts.specs.Fields.{numbered}
 use Rattle.proto_parts.specs.Settled.{State, doing}
 use Rattle.proto_parts.specs.Scope as scope
-use Rattle.proto_meaning.specs.Meaning.{node, gives}
-use Rattle.proto_meaning.specs.Given.{GivenTree}
+use Rattle.proto_meaning.specs.trees.Meaning.{node, gives}
+use Rattle.proto_meaning.specs.trees.Given.{GivenTree}
 use Rattle.proto_meaning.specs.declared.tree.NodeTree.{NodeTree}
 use Rattle.proto_nodes.specs.Shown as shown
 use Rattle.proto_nodes.specs.declared.walker.Walker.{Walker}

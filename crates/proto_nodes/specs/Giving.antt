@@ -5,7 +5,7 @@ use Rattle.proto_flat.specs.Fault.{memory}
 use Rattle.proto_flat.specs.declared.fault.ExpandFault.{ExpandFault}
 use Rattle.proto_meaning.specs.Flat as flat
 use Rattle.proto_meaning.specs.Flat.{Does, ◌>>=◌, pure, fill, met_field}
-use Rattle.proto_meaning.specs.Values.{left_by, value_at}
+use Rattle.proto_meaning.specs.trees.Values.{left_by, value_at}
 use Rattle.proto_meaning.specs.Names.{Name, Field, value_of}
 use Rattle.proto_meaning.specs.Sight.{Owner}
 use Rattle.proto_parts.specs.Inside as braces

@@ -7,7 +7,7 @@ use Rattle.proto_meaning.specs.Names.{Field, Filled}
 use Rattle.proto_meaning.specs.Sight.{Put, Prototype, Owner, OfType, OfProto, no_names}
 use Rattle.proto_parts.specs.declared.inside.Owner as holder
 use Rattle.proto_parts.specs.declared.inside.Owner.TheVariants.{Node, Instance}
-use Rattle.proto_meaning.specs.Meaning.{instance}
+use Rattle.proto_meaning.specs.trees.Meaning.{instance}
 use Rattle.proto_meaning.specs.declared.tree.ProtoTree.{ProtoTree}
 use Rattle.proto_meaning.specs.declared.tree.Word.{Word}
 use Rattle.proto_meaning.specs.declared.tree.Word.TheVariants as word

@@ -6,7 +6,7 @@ ghost use Rattle.proto_meaning.specs.Sight.{Prototype, OfType, OfProto};
 ghost use Rattle.proto_parts.specs.Inside as braces;
 ghost use Rattle.proto_parts.specs.Settled.{doing};
 ghost use Rattle.proto_parts.specs.Put.{flat_of};
-ghost use Rattle.proto_meaning.specs.Meaning as meaning;
+ghost use Rattle.proto_meaning.specs.trees.Meaning as meaning;
 ghost use Rattle.proto_nodes.specs.Shown as shown;
 ghost use Rattle.proto_nodes.specs.Steps.{using};
 ghost use Rattle.proto_nodes.specs.Protos.{IsKnown, Knows, proto_by};

@@ -4,7 +4,7 @@ ghost use Rattle.std.specs.Prelude.{◌≡◌, ◌++◌, List, false, is_none, o
 ghost use Rattle.proto_meaning.specs.Names.{value_of};
 ghost use Rattle.proto_meaning.specs.Sight.{Prototype};
 ghost use Rattle.proto_parts.specs.Given as table;
-ghost use Rattle.proto_meaning.specs.Values as values;
+ghost use Rattle.proto_meaning.specs.trees.Values as values;
 ghost use Rattle.proto_parts.specs.Settled.{State};
 ghost use Rattle.proto_nodes.specs.Does.{default_comes, default_value, filled_now, filling_comes};
 ghost use Rattle.proto_nodes.specs.Frames.{DefaultGoes, DefaultSound, FillingSound, HasFilled, IsSplit};

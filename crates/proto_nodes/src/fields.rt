@@ -5,7 +5,7 @@ ghost use Rattle.proto_meaning.specs.Sight.{Prototype};
 ghost use Rattle.proto_parts.specs.Given as table;
 ghost use Rattle.proto_parts.specs.Inside as braces;
 ghost use Rattle.proto_parts.specs.Settled.{State, doing};
-ghost use Rattle.proto_meaning.specs.Meaning as meaning;
+ghost use Rattle.proto_meaning.specs.trees.Meaning as meaning;
 ghost use Rattle.proto_meaning.specs.declared.tree.GivenTree.TheVariants as tree;
 ghost use Rattle.proto_nodes.specs.Shown as shown;
 ghost use Rattle.proto_nodes.specs.Does.{field_does, given_by, inside_now, open_does, route_does, with_value};

@@ -3,7 +3,7 @@
 ghost use Rattle.std.specs.Prelude.{◌≡◌, [], List, IfOk, IfSome};
 ghost use Rattle.proto_meaning.specs.Sight.{Prototype};
 ghost use Rattle.proto_parts.specs.Settled.{doing};
-ghost use Rattle.proto_meaning.specs.Meaning as meaning;
+ghost use Rattle.proto_meaning.specs.trees.Meaning as meaning;
 ghost use Rattle.proto_nodes.specs.Shown as shown;
 ghost use Rattle.proto_nodes.specs.Protos.{Knows};
 ghost use Rattle.proto_nodes.specs.Does.{after};

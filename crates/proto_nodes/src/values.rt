@@ -9,7 +9,7 @@ ghost use Rattle.proto_parts.specs.Fields.{numbered};
 ghost use Rattle.proto_parts.specs.Inside as braces;
 ghost use Rattle.proto_parts.specs.Settled.{doing};
 ghost use Rattle.proto_nodes.specs.Shown as shown;
-ghost use Rattle.proto_meaning.specs.Values.{value_at};
+ghost use Rattle.proto_meaning.specs.trees.Values.{value_at};
 ghost use Rattle.proto_nodes.specs.Giving.{Gives, MayHold, MayStand, aside, inside_of, is_type};
 
 use crate::giving::meet_field;

@@ -2,7 +2,7 @@
 
 ghost use Rattle.std.specs.Prelude.{◌≡◌, IfOk};
 ghost use Rattle.proto_meaning.specs.Limits.{item_count};
-ghost use Rattle.proto_meaning.specs.Values.{plain};
+ghost use Rattle.proto_meaning.specs.trees.Values.{plain};
 
 use classic_tree::{NodeText, RawValue};
 use std::alloc::{AllocError, Global};

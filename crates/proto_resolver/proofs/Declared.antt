@@ -18,7 +18,7 @@ use Rattle.proto_meaning.specs.Flat as flat
 use Rattle.proto_meaning.specs.Texts.{closed, has_node, finds_inside, unless_found, checked, enters, declares, sees_inside}
 use Rattle.proto_meaning.proofs.Equations.{proto-sees}
 use Rattle.proto_meaning.specs.declared.tree.ProtoTree.{ProtoTree}
-use Rattle.proto_meaning.specs.Resolved.{Seen}
+use Rattle.proto_meaning.specs.trees.Resolved.{Seen}
 use Rattle.proto_resolver.specs.declared.scopes.KnownProto.{KnownProto}
 use Rattle.proto_resolver.specs.declared.scopes.Table.{Table}
 use Rattle.proto_resolver.specs.declared.scopes.TakenNames.{TakenNames}

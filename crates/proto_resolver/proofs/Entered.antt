@@ -12,8 +12,8 @@ use Rattle.proto_meaning.specs.Texts.{prototype_of, closed, checked}
 use Rattle.proto_meaning.specs.declared.tree.BodyTree.{BodyTree}
 use Rattle.proto_meaning.specs.declared.tree.DefaultTree.{DefaultTree}
 use Rattle.proto_meaning.specs.declared.tree.ProtoTree.{ProtoTree}
-use Rattle.proto_meaning.specs.Meaning.{instance}
-use Rattle.proto_meaning.specs.Resolved.{Seen, AreDefaults, IsProto}
+use Rattle.proto_meaning.specs.trees.Meaning.{instance}
+use Rattle.proto_meaning.specs.trees.Resolved.{Seen, AreDefaults, IsProto}
 use Rattle.proto_meaning.proofs.Prototypes.{prototypes_are_the_same}
 use Rattle.proto_resolver.specs.declared.scopes.KnownProto.{KnownProto}
 use Rattle.proto_resolver.specs.declared.scopes.Scopes.{Scopes}

@@ -12,12 +12,12 @@ use Rattle.proto_meaning.specs.Sight.{Names, Prototype, Sight, Look, no_names, a
 use Rattle.proto_meaning.specs.Flat as flat
 use Rattle.proto_meaning.specs.Texts as texts
 use Rattle.proto_meaning.specs.Texts.{sees_inside}
-use Rattle.proto_meaning.specs.Given.{GivenTree}
+use Rattle.proto_meaning.specs.trees.Given.{GivenTree}
 use Rattle.proto_meaning.specs.declared.tree.NodeTree.{NodeTree}
 use Rattle.proto_meaning.specs.declared.tree.BodyTree.{BodyTree}
 use Rattle.proto_meaning.specs.declared.tree.DefaultTree.{DefaultTree}
-use Rattle.proto_meaning.specs.Resolved as rule
-use Rattle.proto_meaning.specs.Resolved.{Seen, wrong_in, is_value, IsGiven, AreStatements, AreDefaults}
+use Rattle.proto_meaning.specs.trees.Resolved as rule
+use Rattle.proto_meaning.specs.trees.Resolved.{Seen, wrong_in, is_value, IsGiven, AreStatements, AreDefaults}
 use Rattle.proto_meaning.proofs.Same.{in_bared, never}
 use Rattle.proto_resolver.specs.declared.scopes.TakenNames.{TakenNames}
 use Rattle.proto_resolver.specs.declared.resolver.Resolver.{Resolver}

@@ -4,7 +4,7 @@ use Rattle.std.specs.Prelude.{is_some}
 use Rattle.std.proofs.lemmas.List.{append-nil, append_assoc}
 use Rattle.proto_flat.specs.declared.fault.ExpandFault.{ExpandFault}
 use Rattle.proto_meaning.specs.Sight.{Prototype, Sight}
-use Rattle.proto_meaning.specs.Resolved.{Seen, wrong_in}
+use Rattle.proto_meaning.specs.trees.Resolved.{Seen, wrong_in}
 use Rattle.proto_resolver.specs.declared.resolver.Resolver.{Resolver}
 use Rattle.proto_resolver.specs.Standing.{Resolves}
 use Rattle.proto_resolver.specs.Parts.{Before}

@@ -5,7 +5,7 @@ use Prim.Native.Nat.{zero}
 use Rattle.proto_flat.specs.declared.fault.ExpandFault.{ExpandFault}
 use Rattle.proto_meaning.specs.Sight.{Names, Prototype, Sight, declared}
 use Rattle.proto_meaning.specs.declared.tree.ProtoTree.{ProtoTree}
-use Rattle.proto_meaning.specs.Resolved.{Seen, wrong_in}
+use Rattle.proto_meaning.specs.trees.Resolved.{Seen, wrong_in}
 use Rattle.proto_resolver.specs.declared.scopes.KnownProto.{KnownProto}
 use Rattle.proto_resolver.specs.declared.scopes.Scopes.{Scopes}
 use Rattle.proto_resolver.specs.declared.scopes.Table.{Table}

@@ -22,7 +22,7 @@ use Rattle.proto_meaning.specs.Flat as flat
 use Rattle.proto_meaning.specs.Flat.{Stated}
 use Rattle.proto_meaning.specs.Texts as texts
 use Rattle.proto_meaning.proofs.Equations.{each-map, given-sees}
-use Rattle.proto_meaning.specs.Given.{GivenTree}
+use Rattle.proto_meaning.specs.trees.Given.{GivenTree}
 use Rattle.proto_meaning.specs.declared.tree.GivenTree.TheVariants as tree_given
 use Rattle.proto_meaning.specs.declared.tree.ItemTree.{ItemTree}
 use Rattle.proto_meaning.specs.declared.tree.ItemTree.TheVariants as tree_item
@@ -31,9 +31,9 @@ use Rattle.proto_meaning.specs.declared.tree.NodeTree.TheVariants as tree_node
 use Rattle.proto_meaning.specs.declared.tree.BodyTree.{BodyTree}
 use Rattle.proto_meaning.specs.declared.tree.BodyTree.TheVariants as body
 use Rattle.proto_meaning.specs.declared.tree.Word.{Word}
-use Rattle.proto_meaning.specs.Meaning.{owner}
-use Rattle.proto_meaning.specs.Resolved as rule
-use Rattle.proto_meaning.specs.Resolved.{Seen, wrong_in, given_sees, is_plain, IsNode, AreNodes, IsGiven, IsItem, AreItems, AreStatements}
+use Rattle.proto_meaning.specs.trees.Meaning.{owner}
+use Rattle.proto_meaning.specs.trees.Resolved as rule
+use Rattle.proto_meaning.specs.trees.Resolved.{Seen, wrong_in, given_sees, is_plain, IsNode, AreNodes, IsGiven, IsItem, AreItems, AreStatements}
 use Rattle.proto_meaning.proofs.Given.{sees_given}
 use Rattle.proto_meaning.proofs.Statements.{put_root, puts_roots}
 use Rattle.proto_meaning.proofs.Whole.{given_means, statements_mean}

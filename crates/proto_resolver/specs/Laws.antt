@@ -8,7 +8,7 @@ use Rattle.proto_meaning.specs.Sight.{Put, Prototype}
 use Rattle.proto_meaning.specs.Flat as flat
 use Rattle.proto_meaning.specs.declared.tree.BodyTree.{BodyTree}
 use Rattle.proto_meaning.specs.declared.tree.ProtoTree.{ProtoTree}
-use Rattle.proto_meaning.specs.Meaning.{instance, stand_together}
+use Rattle.proto_meaning.specs.trees.Meaning.{instance, stand_together}
 use Rattle.proto_resolver.specs.Parts.{IsResolved}
 
 -- the statements of the text and of the tree give the same

@@ -9,7 +9,7 @@ use Rattle.proto_meaning.specs.Texts.{sees_given, sees_interface, sees_inside}
 use Rattle.proto_meaning.specs.declared.tree.BodyTree.{BodyTree}
 use Rattle.proto_meaning.specs.declared.tree.DefaultTree.{DefaultTree}
 use Rattle.proto_meaning.specs.declared.tree.ProtoTree.{ProtoTree}
-use Rattle.proto_meaning.specs.Resolved.{Seen, AreDefaults, AreStatements}
+use Rattle.proto_meaning.specs.trees.Resolved.{Seen, AreDefaults, AreStatements}
 use Rattle.proto_resolver.specs.Standing.{TreesStand}
 use Rattle.proto_resolver.specs.Steps.{defaults_taken}
 

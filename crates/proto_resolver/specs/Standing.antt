@@ -6,8 +6,8 @@ use Rattle.proto_meaning.specs.Flat.{field}
 use Rattle.proto_meaning.specs.Names.{Name, Filled}
 use Rattle.proto_meaning.specs.Sight.{Put, Prototype, Sight, declared}
 use Rattle.proto_meaning.specs.declared.tree.ProtoTree.{ProtoTree}
-use Rattle.proto_meaning.specs.Meaning.{instance}
-use Rattle.proto_meaning.specs.Resolved.{Seen}
+use Rattle.proto_meaning.specs.trees.Meaning.{instance}
+use Rattle.proto_meaning.specs.trees.Resolved.{Seen}
 use Rattle.proto_resolver.specs.declared.scopes.KnownProto.{KnownProto}
 use Rattle.proto_resolver.specs.declared.scopes.Scopes.{Scopes}
 use Rattle.proto_resolver.specs.declared.resolver.Resolver.{Resolver}

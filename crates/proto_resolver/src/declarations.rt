@@ -5,7 +5,7 @@ ghost use Rattle.classic_tree.specs.declared.tree.Statement.{Statement};
 ghost use Rattle.proto_meaning.specs.Flat as flat;
 ghost use Rattle.proto_meaning.specs.Sight.{Prototype, Sight};
 ghost use Rattle.proto_meaning.specs.Texts.{checked};
-ghost use Rattle.proto_meaning.specs.Resolved.{AreStatements};
+ghost use Rattle.proto_meaning.specs.trees.Resolved.{AreStatements};
 ghost use Rattle.proto_resolver.specs.Standing.{Resolves, Shows};
 ghost use Rattle.proto_resolver.specs.Parts.{AreAllDefaults, AreDefaultsAside, Before};
 ghost use Rattle.proto_resolver.specs.Parts.{IsInterior};

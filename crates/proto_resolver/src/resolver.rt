@@ -3,7 +3,7 @@
 ghost use Rattle.std.specs.Prelude.{◌≡◌, ◌∷◌, ◌++◌, [], List, IfOk, if◌then◌else◌};
 ghost use Rattle.proto_meaning.specs.Sight.{Prototype, Sight, meant, taken_by};
 ghost use Rattle.proto_meaning.specs.Texts as spec;
-ghost use Rattle.proto_meaning.specs.Meaning.{owner};
+ghost use Rattle.proto_meaning.specs.trees.Meaning.{owner};
 ghost use Rattle.proto_resolver.specs.declared.scopes.Table.{Table};
 ghost use Rattle.proto_resolver.specs.Held.{names_of, taken_names};
 ghost use Rattle.proto_resolver.specs.Standing.{Extends, Shows};

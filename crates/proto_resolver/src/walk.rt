@@ -2,7 +2,7 @@
 
 ghost use Rattle.std.specs.Prelude.{◌≡◌, ◌∷◌, ◌++◌, IfOk, List, false, option_map, true};
 ghost use Rattle.classic_tree.specs.declared.tree.BodyItem.{BodyItem};
-ghost use Rattle.proto_meaning.specs.Resolved.{AreItems, AreNodes, IsGiven, IsNode};
+ghost use Rattle.proto_meaning.specs.trees.Resolved.{AreItems, AreNodes, IsGiven, IsNode};
 ghost use Rattle.proto_resolver.specs.Held.{taken_names};
 ghost use Rattle.proto_resolver.specs.Standing.{Resolves};
 ghost use Rattle.proto_resolver.specs.Parts.{Before, one_or_none};

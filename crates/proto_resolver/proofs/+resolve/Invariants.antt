@@ -1,5 +1,5 @@
 use Rattle.std.proofs.Common.{◌+◌, ◌*◌, None, drop}
-use Rattle.proto_meaning.specs.Resolved.{AreItems, AreNodes, AreStatements}
+use Rattle.proto_meaning.specs.trees.Resolved.{AreItems, AreNodes, AreStatements}
 use Rattle.proto_resolver.specs.Held.{taken_names}
 use Rattle.proto_resolver.specs.Standing.{Resolves}
 use Rattle.proto_resolver.specs.Parts.{Before, AreAllDefaults}

@@ -1,7 +1,7 @@
 use Rattle.std.proofs.Common.{map, ap, sym, ◌∙◌}
 use Rattle.proto_parts.specs.Settled.{doing}
 use Rattle.proto_meaning.specs.Flat.{full_node}
-use Rattle.proto_meaning.specs.Meaning.{item, node, owner}
+use Rattle.proto_meaning.specs.trees.Meaning.{item, node, owner}
 use Rattle.proto_nodes.specs.Shown.{shown}
 use Rattle.proto_nodes.specs.Steps.{using}
 use Rattle.proto_nodes.proofs.Trees.{node-full, node-use}

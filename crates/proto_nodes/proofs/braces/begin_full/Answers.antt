@@ -2,7 +2,7 @@ use Rattle.std.proofs.Common.{Some, map, ap, sym, ◌∙◌}
 use Rattle.proto_parts.specs.Settled.{doing}
 use Rattle.proto_meaning.specs.Flat.{full_node}
 use Rattle.proto_meaning.specs.Sight.{OfProto, OfType}
-use Rattle.proto_meaning.specs.Meaning.{item, owner}
+use Rattle.proto_meaning.specs.trees.Meaning.{item, owner}
 use Rattle.proto_meaning.specs.declared.tree.Word.TheVariants as word
 use Rattle.proto_nodes.specs.Shown.{shown}
 use Rattle.proto_nodes.specs.Protos.{proto_by}

@@ -2,7 +2,7 @@ use Rattle.std.proofs.Common.{◌≡◌, Err, Some, map, rules, subst, sym}
 use Rattle.proto_parts.specs.Settled.{doing}
 use Rattle.proto_meaning.specs.Flat.{full_node}
 use Rattle.proto_meaning.specs.Sight.{OfProto}
-use Rattle.proto_meaning.specs.Meaning.{item}
+use Rattle.proto_meaning.specs.trees.Meaning.{item}
 use Rattle.proto_nodes.specs.Shown.{shown}
 use Rattle.proto_nodes.specs.Protos.{proto_by}
 use Rattle.proto_nodes.specs.Does.{instance_do}

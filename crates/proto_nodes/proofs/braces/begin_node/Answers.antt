@@ -3,7 +3,7 @@ use Rattle.proto_parts.specs.Settled.{doing}
 use Rattle.proto_parts.specs.declared.inside.Owner.TheVariants as held
 use Rattle.proto_meaning.specs.Flat as flat
 use Rattle.proto_meaning.specs.Sight.{OfType}
-use Rattle.proto_meaning.specs.Meaning.{item}
+use Rattle.proto_meaning.specs.trees.Meaning.{item}
 use Rattle.std.proofs.Common.{map, Some}
 use Rattle.proto_nodes.specs.Shown.{shown}
 use Rattle.proto_nodes.specs.Does.{braces_do}

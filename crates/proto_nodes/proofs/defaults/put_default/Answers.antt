@@ -1,6 +1,6 @@
 use Rattle.std.proofs.Common.{refl, ap, sym, ◌∙◌}
 use Rattle.proto_meaning.specs.declared.tree.GivenTree.TheVariants as tree
-use Rattle.proto_meaning.specs.Values.{plain}
+use Rattle.proto_meaning.specs.trees.Values.{plain}
 use Rattle.proto_nodes.specs.Does.{default_value}
 use Rattle.proto_nodes.proofs.Fillings.{default-many, default-none, default-one, plain-goes, plain-sound}
 use Rattle.proto_nodes.proofs.defaults.put_default.Goals as goal

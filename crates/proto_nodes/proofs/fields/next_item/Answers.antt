@@ -1,6 +1,6 @@
 use Rattle.std.proofs.Common.{◌∙◌, ap, sym}
 use Rattle.proto_parts.specs.Settled.{doing}
-use Rattle.proto_meaning.specs.Meaning.{item}
+use Rattle.proto_meaning.specs.trees.Meaning.{item}
 use Rattle.proto_nodes.specs.Shown.{shown}
 use Rattle.proto_nodes.specs.Does.{inside_now, open_does}
 use Rattle.proto_nodes.specs.Frames.{item_comes}

@@ -1,6 +1,6 @@
 use Rattle.std.proofs.Common.{◌≡◌, Err, refl, rules, subst, sym}
 use Rattle.proto_parts.specs.Fields.{numbered}
-use Rattle.proto_meaning.specs.Meaning.{declares, gives}
+use Rattle.proto_meaning.specs.trees.Meaning.{declares, gives}
 use Rattle.proto_nodes.specs.Shown.{shown}
 use Rattle.proto_nodes.specs.Does.{given_by, inside_now, open_does}
 use Rattle.proto_nodes.specs.Protos.{owner_by}

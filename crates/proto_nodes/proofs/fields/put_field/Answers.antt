@@ -1,5 +1,5 @@
 use Rattle.proto_parts.specs.Fields.{numbered}
-use Rattle.proto_meaning.specs.Meaning.{gives}
+use Rattle.proto_meaning.specs.trees.Meaning.{gives}
 use Rattle.proto_nodes.specs.Shown.{shown}
 use Rattle.proto_nodes.specs.Does.{field_does, given_by}
 use Rattle.proto_nodes.specs.Frames.{item_comes}

@@ -4,7 +4,7 @@ use Rattle.proto_meaning.specs.Flat.{give}
 use Rattle.proto_parts.specs.Settled.{doing}
 use Rattle.proto_parts.specs.Fields.{numbered}
 use Rattle.proto_nodes.specs.Giving.{Gives}
-use Rattle.proto_meaning.specs.Meaning as meaning
+use Rattle.proto_meaning.specs.trees.Meaning as meaning
 use Rattle.proto_meaning.specs.declared.tree.GivenTree.TheVariants as tree
 use Rattle.proto_nodes.specs.Shown.{shown}
 use Rattle.proto_nodes.specs.Does.{inside_now}

@@ -1,5 +1,5 @@
 use Rattle.std.proofs.Common.{inr}
-use Rattle.proto_meaning.specs.Meaning.{declares}
+use Rattle.proto_meaning.specs.trees.Meaning.{declares}
 use Rattle.proto_meaning.specs.declared.tree.ItemTree.TheVariants as tree_item
 use Rattle.proto_nodes.specs.Shown.{shown}
 use Rattle.proto_nodes.specs.Does.{field_does, given_by, route_does}

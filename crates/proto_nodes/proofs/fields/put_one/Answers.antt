@@ -1,6 +1,6 @@
 use Rattle.std.proofs.Common.{◌≡◌, Err, rules}
 use Rattle.proto_parts.specs.Fields.{numbered}
-use Rattle.proto_meaning.specs.Meaning.{holds, node}
+use Rattle.proto_meaning.specs.trees.Meaning.{holds, node}
 use Rattle.classic_tree.specs.declared.tree.RawValue.TheVariants as value
 use Rattle.proto_nodes.specs.Shown.{shown}
 use Rattle.proto_nodes.specs.Does.{inside_now}

@@ -1,7 +1,7 @@
 use Rattle.std.proofs.Common.{◌≡◌, Err, rules}
 use Rattle.proto_parts.specs.Fields.{numbered}
-use Rattle.proto_meaning.specs.Values.{plain}
-use Rattle.proto_meaning.specs.Meaning.{holds}
+use Rattle.proto_meaning.specs.trees.Values.{plain}
+use Rattle.proto_meaning.specs.trees.Meaning.{holds}
 use Rattle.proto_nodes.specs.Shown.{shown}
 use Rattle.proto_nodes.specs.Does.{inside_now}
 use Rattle.proto_nodes.specs.Protos.{owner_by}

@@ -1,6 +1,6 @@
 use Rattle.std.proofs.Common.{◌≡◌, ◌∙◌, ℕ, Err, rules, subst, sym}
 use Rattle.proto_parts.specs.Settled.{doing}
-use Rattle.proto_meaning.specs.Meaning.{node}
+use Rattle.proto_meaning.specs.trees.Meaning.{node}
 use Rattle.proto_nodes.specs.Shown.{shown}
 use Rattle.proto_nodes.specs.Frames.{Ends, all_comes, task_comes}
 use Rattle.proto_nodes.proofs.Waiting.{ends-as, no-frames}

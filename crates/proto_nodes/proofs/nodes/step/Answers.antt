@@ -3,7 +3,7 @@ use Rattle.std.proofs.lemmas.Grind.{common_steps}
 use Rattle.std.proofs.Common.{arith}
 use Rattle.proto_nodes.specs.Shown.{shown}
 use Rattle.proto_parts.specs.Settled.{doing}
-use Rattle.proto_meaning.specs.Meaning.{node}
+use Rattle.proto_meaning.specs.trees.Meaning.{node}
 use Rattle.proto_nodes.specs.Does.{after, body_comes, first_of}
 use Rattle.proto_nodes.specs.Frames.{all_comes, frame_comes, frames_come, holder_comes, list_comes}
 use Rattle.proto_nodes.proofs.Waiting.{all-goes-as, body-task-comes, list-comes, listing-sound, machine-kept, machine-popped, machine-walks, number-given, number-stays, on-comes, on-sound, statements-sound, waiting-comes, waiting-sound, wholly}

@@ -1,5 +1,5 @@
 use Rattle.proto_parts.specs.Settled.{doing}
-use Rattle.proto_meaning.specs.Meaning.{node}
+use Rattle.proto_meaning.specs.trees.Meaning.{node}
 use Rattle.proto_nodes.specs.Shown.{shown}
 use Rattle.proto_nodes.proofs.Waiting.{machine-pushed, waits}
 use Rattle.proto_nodes.proofs.nodes.wait.Goals as goal

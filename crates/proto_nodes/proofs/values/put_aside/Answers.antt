@@ -2,7 +2,7 @@ use Rattle.std.proofs.Common.{◌≡◌, ◌∙◌, Err, inr, rules}
 use Rattle.proto_parts.specs.Fields.{numbered}
 use Rattle.proto_parts.specs.Settled.{doing}
 use Rattle.proto_nodes.specs.Shown.{shown}
-use Rattle.proto_meaning.specs.Values.{value_at}
+use Rattle.proto_meaning.specs.trees.Values.{value_at}
 use Rattle.proto_nodes.specs.Giving.{aside, inside_of}
 use Rattle.proto_nodes.proofs.GivingGiven.{gives-refused}
 use Rattle.proto_nodes.proofs.Standing.{aside-put, aside-wrong}

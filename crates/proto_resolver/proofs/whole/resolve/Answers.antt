@@ -1,5 +1,5 @@
 use Rattle.std.proofs.Common.{subst}
-use Rattle.proto_meaning.specs.Resolved.{AreStatements}
+use Rattle.proto_meaning.specs.trees.Resolved.{AreStatements}
 use Rattle.proto_resolver.specs.Standing.{Resolves}
 use Rattle.proto_resolver.proofs.Interiors.{whole_text}
 use Rattle.proto_resolver.proofs.whole.resolve.Goals as goal

@@ -8,8 +8,8 @@ use Rattle.proto_meaning.specs.Sight.{Put, Prototype, Sight, no_names}
 use Rattle.proto_meaning.specs.Flat as flat
 use Rattle.proto_meaning.specs.declared.tree.BodyTree.{BodyTree}
 use Rattle.proto_meaning.specs.declared.tree.ProtoTree.{ProtoTree}
-use Rattle.proto_meaning.specs.Meaning.{instance, stand_together}
-use Rattle.proto_meaning.specs.Resolved.{Seen, AreStatements, IsProto}
+use Rattle.proto_meaning.specs.trees.Meaning.{instance, stand_together}
+use Rattle.proto_meaning.specs.trees.Resolved.{Seen, AreStatements, IsProto}
 
 -- a text and its resolved tree give the same outcome
 abbrev pub TextsStandForTheSame : Type 0

@@ -18,11 +18,11 @@ use Rattle.proto_meaning.specs.Names.{Field, Filled, value_of}
 use Rattle.proto_meaning.specs.Sight.{Put, Instance, Prototype, Look, Owner, OfType, OfProto}
 use Rattle.proto_meaning.specs.Flat as flat
 use Rattle.proto_meaning.specs.Flat.{Does, ◌>>=◌, comes, pure, refuse, note, through, part, nothing_found, Node, Item, Stated, Inside, put_in, field, numbered_from, is_filled, is_script, fill, give, full_node, in_body, begin, made}
-use Rattle.proto_meaning.specs.Values.{left_by, plain, value_at}
+use Rattle.proto_meaning.specs.trees.Values.{left_by, plain, value_at}
 use Rattle.proto_meaning.specs.declared.tree.BodyTree.{BodyTree}
 use Rattle.proto_meaning.specs.declared.tree.BodyTree.TheVariants as body
 use Rattle.proto_meaning.specs.declared.tree.DefaultTree.{DefaultTree}
-use Rattle.proto_meaning.specs.Given.{GivenTree}
+use Rattle.proto_meaning.specs.trees.Given.{GivenTree}
 use Rattle.proto_meaning.specs.declared.tree.GivenTree.TheVariants.{Nothing, Is, Plain, One, Many, LeftOut}
 use Rattle.proto_meaning.specs.declared.tree.ItemTree.{ItemTree, fold-ItemTree}
 use Rattle.proto_meaning.specs.declared.tree.ItemTree.TheOpen.{ItemTree-F, NodeTree-F}

@@ -25,7 +25,7 @@ use Rattle.proto_meaning.specs.Flat as flat
 use Rattle.proto_meaning.specs.declared.tree.BodyTree.{BodyTree}
 use Rattle.proto_meaning.specs.declared.tree.BodyTree.TheVariants as body
 use Rattle.proto_meaning.specs.declared.tree.DefaultTree.{DefaultTree}
-use Rattle.proto_meaning.specs.Given.{GivenTree}
+use Rattle.proto_meaning.specs.trees.Given.{GivenTree}
 use Rattle.proto_meaning.specs.declared.tree.GivenTree.TheVariants as tree_given
 use Rattle.proto_meaning.specs.declared.tree.ItemTree.{ItemTree}
 use Rattle.proto_meaning.specs.declared.tree.ItemTree.TheVariants as tree_item
@@ -33,7 +33,7 @@ use Rattle.proto_meaning.specs.declared.tree.NodeTree.{NodeTree}
 use Rattle.proto_meaning.specs.declared.tree.NodeTree.TheVariants as tree_node
 use Rattle.proto_meaning.specs.declared.tree.ProtoTree.{ProtoTree}
 use Rattle.proto_meaning.specs.declared.tree.Word.{Word}
-use Rattle.proto_meaning.specs.Meaning.{owner}
+use Rattle.proto_meaning.specs.trees.Meaning.{owner}
 
 abbrev pub Seen : Type 0
 Seen = Result Sight ExpandFault

@@ -1,0 +1,5 @@
+pub mod Given
+pub mod Values
+pub mod Meaning
+pub mod Resolved
+pub mod TreeLaws
