@@ -1,11 +1,13 @@
 -- One fault after another, for each of which what is at fault is left out.
 use Rattle.std.proofs.Common.{List, ℕ, ◌≡◌, ◌⊎◌, ◌++◌, [], ◌∙◌, Some, None, inl, inr, ap, sym, subst, map}
+use Rattle.std.specs.Prelude.{Bool, true, false, not, Option, ◌∷◌, if◌then◌else◌}
+use Rattle.std.specs.List.{list_any}
 use Rattle.std.proofs.lemmas.List.{map-append}
 use Rattle.classic_tree.specs.declared.tree.Document.{Document}
 use Rattle.app_jobs.specs.declared.fault.JobFault.{JobFault}
 use Rattle.app_jobs.specs.declared.fault.JobFault.TheVariants.{Memory}
 use Rattle.scene_faults.specs.declared.blame.Blame.{Blame}
-use Rattle.app_part.specs.Mends.{mends, place, places}
+use Rattle.app_part.specs.Mends.{blame_of, is_gone, mends, place, places, with_first}
 use Rattle.app_part.specs.Parts.{Mending, begun, more, IsMade, IsNoTry, IsTurnedDown, no_part}
 use Rattle.app_part.specs.Whole.{AreMends, IsLast, IsMended, IsMending, IsMore, IsStuck, IsUnmended}
 use Rattle.app_part.specs.declared.part.Mends.{Mends}
@@ -18,6 +20,48 @@ none_some e = cc
 no_mend : (refused : List ℕ) (fault : JobFault) (blames made : List Blame) → IsNoTry fault → mends refused fault blames ≡ Some made → ⊥
 no_mend refused fault blames made (inl is) found = none_some (ap (λ f. mends refused f blames) (sym is) ∙ found)
 no_mend refused fault blames made (inr is) found = none_some (ap (λ f. mends refused f blames) (sym is) ∙ found)
+
+-- ---- what is left out for a first fault
+
+abbrev any_left : List ℕ → List Blame → Bool
+any_left refused blames = list_any (λ b. not (is_gone refused (place b))) blames
+
+by_asking : (refused : List ℕ) (fault : JobFault) (blames seen : List Blame) (first : Blame) (asked : Bool) → blame_of fault ≡ Some first
+    → seen ≡ blames → asked ≡ any_left refused seen → mends refused fault blames
+    ≡ (if asked then Some blames else if is_gone refused first.line then None else Some (first ∷ []))
+by_asking refused fault blames seen first asked is same by =
+    ap (with_first refused blames) is
+    ∙ ap (λ b. if b then Some blames else if is_gone refused first.line then None else Some (first ∷ []))
+    (ap (any_left refused) (sym same) ∙ sym by)
+
+pub some_left : (refused : List ℕ) (fault : JobFault) (blames seen : List Blame) (first : Blame) (asked : Bool) → blame_of fault ≡ Some first
+    → seen ≡ blames → asked ≡ any_left refused seen → asked ≡ true → Some blames ≡ mends refused fault blames
+some_left refused fault blames seen first asked is same by on =
+    sym (by_asking refused fault blames seen first asked is same by
+    ∙ ap (λ b. if b then Some blames else if is_gone refused first.line then None else Some (first ∷ [])) on)
+
+by_first : (refused : List ℕ) (fault : JobFault) (blames seen : List Blame) (first : Blame) (asked was : Bool) → blame_of fault ≡ Some first
+    → seen ≡ blames → asked ≡ any_left refused seen → asked ≡ false → was ≡ is_gone refused first.line
+    → mends refused fault blames ≡ (if was then None else Some (first ∷ []))
+by_first refused fault blames seen first asked was is same by off gone =
+    by_asking refused fault blames seen first asked is same by
+    ∙ ap (λ b. if b then Some blames else if is_gone refused first.line then None else Some (first ∷ [])) off
+    ∙ ap (λ b. if b then None else Some (first ∷ [])) (sym gone)
+
+pub all_gone : (refused : List ℕ) (fault : JobFault) (blames seen : List Blame) (first : Blame) (asked was : Bool) → blame_of fault ≡ Some first
+    → seen ≡ blames → asked ≡ any_left refused seen → asked ≡ false → was ≡ is_gone refused first.line → was ≡ true
+    → None ≡ mends refused fault blames
+all_gone refused fault blames seen first asked was is same by off gone on =
+    sym (by_first refused fault blames seen first asked was is same by off gone ∙ ap (λ b. if b then None else Some (first ∷ [])) on)
+
+pub the_first : (refused : List ℕ) (fault : JobFault) (blames seen made : List Blame) (first : Blame) (asked was : Bool) → blame_of fault ≡ Some first
+    → seen ≡ blames → asked ≡ any_left refused seen → asked ≡ false → was ≡ is_gone refused first.line → was ≡ false → made ≡ first ∷ []
+    → Some made ≡ mends refused fault blames
+the_first refused fault blames seen made first asked was is same by off gone not_gone_is one =
+    ap (λ m. Some m) one
+    ∙ sym (by_first refused fault blames seen first asked was is same by off gone ∙ ap (λ b. if b then None else Some (first ∷ [])) not_gone_is)
+
+-- ---- tries
 
 -- a try without what begins at the places that are refused
 down_at : (d : Document) (old : Mends) (seen : List ℕ) (fault : JobFault) (blames : List Blame)

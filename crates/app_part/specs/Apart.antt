@@ -11,7 +11,7 @@ use Rattle.classic_tree.specs.declared.tree.Document.{Document}
 use Rattle.classic_lenient.specs.Lenient.{IsLenient}
 use Rattle.classic_lenient.specs.VrmlHeader.{as_x3d}
 use Rattle.classic_lenient.specs.declared.reading.Lenient.{Lenient}
-use Rattle.app_part.specs.Kept.{AreTokens, placed}
+use Rattle.app_part.specs.Tokens.{AreTokens, placed}
 use Rattle.app_part.specs.declared.apart.Apart.{Apart}
 use Rattle.app_part.specs.declared.places.Placed.{Placed}
 
@@ -50,7 +50,7 @@ pub record IsApart (text : List ℕ) (made : Apart) : Type 0 where
   pub versioned : version_of text ≡ Ok version
   pub tokens : List Token
   pub are : AreTokens text tokens
-  pub text : made.text.items ≡ apart_text version text tokens
+  pub written : made.text.items ≡ apart_text version text tokens
   pub lines : made.lines.items ≡ apart_lines text tokens
 
 -- the tree of a text whose tokens are apart, which is a document's but for its lines
@@ -64,11 +64,11 @@ pub record IsOfApart (apart : Apart) (document : Document) (made : Placed) : Typ
 pub record IsNumberedAs (text : List ℕ) (document : Document) (made : Placed) : Type 0 where
   pub apart : Apart
   pub is : IsApart text apart
-  pub of : IsOfApart apart document made
+  pub tree : IsOfApart apart document made
 
 -- the tree of the text itself, if that with its tokens apart is another: places are its lines
 pub record IsAsRead (text : List ℕ) (lenient : Lenient) (made : Placed) : Type 0 where
-  pub lenient : made.lenient ≡ lenient
+  pub tree : made.lenient ≡ lenient
   pub source : made.source.items ≡ as_x3d text
   pub lines : made.lines.items ≡ []
 

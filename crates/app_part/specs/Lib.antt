@@ -7,6 +7,7 @@ pub mod Mends
 pub mod Order
 pub mod Parts
 pub mod Streams
+pub mod Tokens
 pub mod Told
 pub mod Whole
 pub mod Words

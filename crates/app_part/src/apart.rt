@@ -5,7 +5,7 @@ ghost use Rattle.std.specs.List.{flat_map};
 ghost use Rattle.classic_lex.specs.Header.{version_of};
 ghost use Rattle.classic_tree.specs.Writing.{header_line};
 ghost use Rattle.app_part.specs.Apart as spec;
-ghost use Rattle.app_part.specs.Kept.{placed};
+ghost use Rattle.app_part.specs.Tokens.{placed};
 
 use crate::kept::tokens_of;
 use app_jobs::JobFault;
@@ -133,7 +133,7 @@ fn version_in(text: &[u8]) -> Result<Version, JobFault>
 
 /// Returns a text with each token on a line of its own. Fails with the fault of its tokens, or with
 /// `Memory` if memory runs out.
-pub(crate) fn apart(alloc: Global, text: &[u8]) -> Result<Apart, JobFault>
+pub(crate) fn apart_of(alloc: Global, text: &[u8]) -> Result<Apart, JobFault>
     ensures made { IfOk result (spec.IsApart text.now) }
 {
     let version = version_in(text)?;

@@ -50,7 +50,7 @@ fn built(alloc: Global, flat: &Flat) -> Result<OpenedScene, JobFault>
 }
 
 /// Returns a refusal with the blames for all that a node or a route alone tells.
-fn refused(alloc: Global, flat: &Flat, fault: JobFault) -> Refused
+fn refusal(alloc: Global, flat: &Flat, fault: JobFault) -> Refused
     ensures { (result.fault ≡ Memory)
         ⊎ ((result.fault ≡ fault) × (result.blames ≡ flat_blames flat.now)) }
 {
@@ -73,7 +73,7 @@ fn judged_flat(alloc: Global, flat: &Flat) -> Result<(), Refused>
             drop(opened);
             Ok(())
         }
-        Err(fault) => Err(refused(alloc, flat, fault)),
+        Err(fault) => Err(refusal(alloc, flat, fault)),
     }
 }
 

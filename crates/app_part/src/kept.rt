@@ -5,6 +5,7 @@ ghost use Rattle.std.specs.Str.{bytes_eq};
 ghost use Rattle.std.specs.Str.Lines.{lines};
 ghost use Rattle.app_jobs.specs.declared.fault.JobFault.TheVariants.{Memory};
 ghost use Rattle.app_part.specs.Kept as spec;
+ghost use Rattle.app_part.specs.Tokens.{AreTokens, HasNoTokens, placed};
 
 use crate::part::ScenePart;
 use crate::told::push_note;
@@ -19,8 +20,8 @@ use std::alloc::{AllocError, Global};
 
 /// Returns the tokens of a text.
 pub(crate) fn tokens_of(alloc: Global, text: &[u8]) -> Result<Vec<Token>, JobFault>
-    ensures tokens { IfOk result (λ v. spec.AreTokens text.now v.items) }
-    ensures refused { IfErr result (λ f. (f ≡ Memory) ⊎ spec.HasNoTokens text.now f) }
+    ensures tokens { IfOk result (λ v. AreTokens text.now v.items) }
+    ensures refused { IfErr result (λ f. (f ≡ Memory) ⊎ HasNoTokens text.now f) }
 {
     match lex(alloc, text) {
         Ok(tokens) => Ok(tokens),
@@ -36,7 +37,7 @@ fn is(word: &[u8], other: &[u8]) -> bool
 
 /// Returns the line of the first `DEF name` among the tokens of a text.
 fn defined_at(text: &[u8], tokens: &[Token], name: &[u8]) -> Option<u32>
-    ensures { result ≡ spec.defined_at name.now false (map (spec.placed text.now) tokens.now) }
+    ensures { result ≡ spec.defined_at name.now false (map (placed text.now) tokens.now) }
 {
     let mut behind = false;
     for token in tokens {
@@ -50,7 +51,7 @@ fn defined_at(text: &[u8], tokens: &[Token], name: &[u8]) -> Option<u32>
 }
 
 fn is_lost(text: &[u8], tokens: &[Token], name: &[u8]) -> bool
-    ensures { result ≡ spec.is_lost (map (spec.placed text.now) tokens.now) name.now }
+    ensures { result ≡ spec.is_lost (map (placed text.now) tokens.now) name.now }
 {
     if name.is_empty() {
         return false;
@@ -60,7 +61,7 @@ fn is_lost(text: &[u8], tokens: &[Token], name: &[u8]) -> bool
 
 fn first_among<'n>(text: &[u8], tokens: &[Token], names: &'n [u8]) -> Option<&'n [u8]>
     ensures { option_map (λ n. n.now) result
-        ≡ spec.first_lost (map (spec.placed text.now) tokens.now) (lines names.now) }
+        ≡ spec.first_lost (map (placed text.now) tokens.now) (lines names.now) }
 {
     let mut rest = names;
     while !rest.is_empty() {
@@ -82,7 +83,7 @@ pub fn first_lost<'n>(
 ) -> Result<Option<&'n [u8]>, JobFault>
     ensures lost { IfOk result
         (λ lost. spec.IsFirstLost text.now names.now (option_map (λ n. n.now) lost)) }
-    ensures refused { IfErr result (λ f. (f ≡ Memory) ⊎ spec.HasNoTokens text.now f) }
+    ensures refused { IfErr result (λ f. (f ≡ Memory) ⊎ HasNoTokens text.now f) }
 {
     let tokens = tokens_of(alloc, text)?;
     Ok(first_among(text, tokens.as_slice(), names))

@@ -10,7 +10,7 @@ ghost use Rattle.app_part.specs.Whole as whole;
 use crate::checks::{answer, checked};
 use crate::judging::Refused;
 use crate::mends::mends as mend;
-use crate::places::{Placed, is_memory, placed};
+use crate::places::{Placed, is_memory, placed_of};
 use crate::tries::{Made, no_part, text_of, tried};
 use app_jobs::JobFault;
 use app_program::open_scene;
@@ -139,7 +139,7 @@ fn part_of_lenient(alloc: Global, text: &[u8], lenient: Lenient) -> Result<Scene
     ensures made { IfOk result (whole.IsPartOfLenient text.now lenient) }
     ensures refused { IfErr result (whole.HasNoPartOf text.now lenient) }
 {
-    let placed = placed(alloc, text, lenient)?;
+    let placed = placed_of(alloc, text, lenient)?;
     part_of_tree(alloc, placed)
 }
 

@@ -8,7 +8,7 @@ ghost use Rattle.classic_tree.specs.Writing.{document_text};
 ghost use Rattle.app_part.specs.Apart as spec;
 ghost use Rattle.app_part.specs.Whole.{says_memory};
 
-use crate::apart::{Apart, apart};
+use crate::apart::{Apart, apart_of};
 use crate::tries::text_of;
 use app_jobs::JobFault;
 use classic_lenient::{Lenient, as_x3d, read_lenient};
@@ -44,7 +44,7 @@ fn are_same(alloc: Global, one: &Document, other: &Document) -> Result<bool, All
 fn apart_if(alloc: Global, text: &[u8]) -> Result<Option<Apart>, AllocError>
     ensures { IfOk result (λ r. IfSome r (spec.IsApart text.now)) }
 {
-    match apart(alloc, text) {
+    match apart_of(alloc, text) {
         Ok(made) => Ok(Some(made)),
         Err(fault) => {
             if is_memory(fault) {
@@ -106,7 +106,7 @@ fn numbered(alloc: Global, text: &[u8], document: &Document) -> Result<Option<Pl
 
 /// Returns the tree of a text, which was read as `lenient`, with the places of its parts. Fails if
 /// memory runs out.
-pub(crate) fn placed(alloc: Global, text: &[u8], lenient: Lenient) -> Result<Placed, AllocError>
+pub(crate) fn placed_of(alloc: Global, text: &[u8], lenient: Lenient) -> Result<Placed, AllocError>
     ensures { IfOk result (spec.IsPlaced text.now lenient) }
 {
     let Ok(source) = as_x3d(alloc, text) else {

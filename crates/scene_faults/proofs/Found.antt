@@ -1,9 +1,8 @@
 -- What calls found, as the definitions have it.
-use Rattle.std.proofs.Common.{◌≡◌, ◌⊎◌, ℕ, ◌<◌, List, [], ◌∷◌, ◌++◌, Bool, true, false, Option, Some, None, Result, Ok, Err, IfOk, OnOk, get_or, length, map, inl, inr, ap, sym, refl, subst, ◌∙◌}
+use Rattle.std.proofs.Common.{◌≡◌, ◌⊎◌, ℕ, ◌<◌, List, [], ◌∷◌, ◌++◌, true, false, Some, Result, Ok, Err, OnOk, get_or, length, map, inl, inr, ap, sym, refl, ◌∙◌}
 use Rattle.std.specs.Prelude.{slice_get}
 use Rattle.std.specs.Option.{option_map}
 use Rattle.std.proofs.lemmas.Option.{slice_get-map, slice_get_read}
-use Rattle.x3d_lists.specs.Answers.{Gives}
 use Rattle.x3d_values.specs.declared.rows.Field.{Field}
 use Rattle.x3d_values.specs.Tables.{FieldRowView, entry}
 use Rattle.scene_core.specs.declared.fault.SceneFault.{SceneFault}

@@ -1,7 +1,7 @@
 use Rattle.std.proofs.Common.{◌≡◌, ◌++◌, take}
 use Rattle.std.specs.List.{flat_map}
 use Rattle.app_part.specs.Apart.{lines_of}
-use Rattle.app_part.specs.Kept.{placed}
+use Rattle.app_part.specs.Tokens.{placed}
 use Rattle.app_part.proofs.apart.push_all_lines.Given as goal
 
 abbrev pub invariant-loop-token : goal.invariant-loop-token
