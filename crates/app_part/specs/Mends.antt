@@ -47,7 +47,7 @@ blame_of (job.Scene fault) = blame_if (of_scene fault.kind) fault.line (reason.S
 blame_of (job.Route fault) = blame_if (of_route fault.kind) fault.line (reason.Route fault.kind)
 blame_of _ = None
 
--- ---- what is left out
+-- ---- what goes
 
 -- where the parts begin that are at fault
 abbrev pub place : Blame → ℕ
@@ -72,7 +72,7 @@ abbrev pub with_first : List ℕ → List Blame → Option Blame → Option (Lis
 with_first refused blames None = None
 with_first refused blames (Some first) = not_gone refused blames first
 
--- what is left out of a part that has this first fault, besides what begins at these places
+-- what goes of a part that has this first fault, besides what begins at these places
 abbrev pub mends : List ℕ → JobFault → List Blame → Option (List Blame)
 mends refused fault blames = with_first refused blames (blame_of fault)
 

@@ -49,7 +49,7 @@ pub record IsTurnedDown (document : Document) (refused : List ℕ) (fault : JobF
 abbrev pub IsNoTry : JobFault → Type 0
 IsNoTry fault = (fault ≡ Memory) ⊎ (fault ≡ no_part)
 
--- What is left out of a document: nothing; or more, which is at fault in the part without the
+-- What goes of a document: nothing; or more, which is at fault in the part without the
 -- others.
 pub data Mending (document : Document) : List Blame → Type 0 where
   begun : Mending document []

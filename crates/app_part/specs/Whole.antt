@@ -21,11 +21,11 @@ use Rattle.app_part.specs.declared.part.ScenePart.{ScenePart}
 use Rattle.app_part.specs.declared.places.Placed.{Placed}
 use Rattle.app_part.specs.declared.tries.Made.{Made}
 
--- the places are those of what is left out
+-- the places are those of what goes
 abbrev pub AreMends : Mends → Type 0
 AreMends mends = mends.refused ≡ places mends.blames
 
--- what is left out of a document
+-- what goes of a document
 abbrev pub IsMending : Document → Mends → Type 0
 IsMending document mends = AreMends mends × Mending document mends.blames
 

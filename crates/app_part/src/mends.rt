@@ -87,7 +87,7 @@ fn only(alloc: Global, blame: Blame) -> Result<Items<Blame>, AllocError>
     Items::from_slice(alloc, &[blame])
 }
 
-/// Returns what is left out of a part that has this first fault, besides what begins at these
+/// Returns what goes of a part that has this first fault, besides what begins at these
 /// places, if anything is: what a node or a route alone tells, or else what the first fault is of.
 /// Fails if memory runs out.
 pub(crate) fn mends(

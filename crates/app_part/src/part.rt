@@ -38,7 +38,7 @@ pub struct ScenePart {
     pub blames: Items<Blame>,
 }
 
-/// What is left out of a document, and where that begins.
+/// What goes of a document, and where that begins.
 #[derive(Drop)]
 pub(crate) struct Mends {
     pub refused: Items<u32>,

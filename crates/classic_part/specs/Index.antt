@@ -1,4 +1,5 @@
--- The names of notes and the lines that are refused in an index, so that each is found in few steps.
+-- The names of notes and the lines that are refused in an index, so that each is found in few
+-- steps.
 use Rattle.std.specs.Prelude.{◌≡◌, Bool, List, ℕ}
 use Rattle.std.specs.BTreeSet.{contains_by}
 use Rattle.std.specs.Cmp.Lexicographic.{slice_cmp}

@@ -74,11 +74,7 @@ pub fn one_round(alloc: Global, document: &Document, known: &Known) -> Result<Ro
 
 /// Returns what stays in the first round, which takes each name for one that is there. Fails if
 /// memory runs out.
-pub fn first_round(
-    alloc: Global,
-    document: &Document,
-    refused: &[u32],
-) -> Result<Round, AllocError>
+pub fn first_round(alloc: Global, document: &Document, refused: &[u32]) -> Result<Round, AllocError>
     ensures { IfOk result (λ r. r ≡ spec.first refused.now document.now) }
 {
     let known = Known {
