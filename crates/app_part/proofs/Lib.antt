@@ -1,3 +1,4 @@
+pub mod Judged
 pub mod Mended
 pub mod Names
 pub mod Parting

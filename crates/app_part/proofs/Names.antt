@@ -10,7 +10,8 @@ use Rattle.app_jobs.specs.declared.fault.JobFault.{JobFault}
 use Rattle.app_jobs.specs.declared.fault.JobFault.TheVariants.{Memory}
 use Rattle.share_rules.specs.Lines.{first_line, behind_line}
 use Rattle.app_jobs.proofs.LineLemmas.{cut}
-use Rattle.app_part.specs.Kept.{HasNoTokens, is_lost, first_lost}
+use Rattle.app_part.specs.Kept.{is_lost, first_lost}
+use Rattle.app_part.specs.Tokens.{HasNoTokens}
 
 abbrev choose : List Tok → Bool → List ℕ → List (List ℕ) → Option (List ℕ)
 choose toks lost name names = if lost then Some name else first_lost toks names

@@ -8,36 +8,51 @@ use Rattle.classic_part.specs.declared.notes.Note.{Note}
 use Rattle.app_jobs.specs.declared.fault.JobFault.{JobFault}
 use Rattle.app_jobs.specs.declared.fault.JobFault.TheVariants.{Memory}
 use Rattle.app_part.specs.Mends.{is_limit}
-use Rattle.app_part.specs.Order.{AreByLine, IsOrdered, note_line}
+use Rattle.app_part.specs.Apart.{IsPlaced}
+use Rattle.app_part.specs.Order.{AreByPlace, IsOrdered, note_place}
 use Rattle.app_part.specs.Parts.{no_part}
 use Rattle.app_part.specs.Kept.{IsFirstLost, IsLostOf, IsSaid}
 use Rattle.app_part.specs.Streams.{AreKeptTexts, AreShown, ArePartTexts, IsOrderedPart}
-use Rattle.app_part.specs.Whole.{IsLessPart, IsPartOf, IsPartOfText, IsScene, IsNoScene, IsRefused, IsUnmended}
+use Rattle.app_part.specs.Whole.{HasNoPartOf, IsLessPart, IsPartOf, IsPartOfLenient, IsPartOfText, IsScene, IsNoScene, IsRefused, IsUnmended}
 use Rattle.app_part.specs.declared.part.ScenePart.{ScenePart}
+use Rattle.app_part.specs.declared.places.Placed.{Placed}
 use Rattle.app_part.specs.declared.streams.KeptTexts.{KeptTexts}
 use Rattle.app_part.specs.declared.streams.PartTexts.{PartTexts}
 
 -- the notes as a list, sorted as a list, as notes again
-pub by_line_of : (notes old new made : List Note) → old ≡ notes → made ≡ new
-    → IsPermutation old new → IsNonDecreasingBy note_line new → AreByLine notes made
-by_line_of notes old new made from is same order =
-    subst (λ r. AreByLine notes r) (sym is)
-    (subst (λ o. AreByLine o new) from (record { same = same; order = order }))
+pub by_place_of : (notes old new made : List Note) → old ≡ notes → made ≡ new
+    → IsPermutation old new → IsNonDecreasingBy note_place new → AreByPlace notes made
+by_place_of notes old new made from is same order =
+    subst (λ r. AreByPlace notes r) (sym is)
+    (subst (λ o. AreByPlace o new) from (record { same = same; order = order }))
 
 -- a text of whose part something is left out, or that has no part
 pub lesser : (text : List ℕ) (first : JobFault) (lenient : Lenient) (r : Result ScenePart JobFault) → IsLenient text lenient
-    → IfOk r (IsPartOf lenient) → IfOk r (λ p. IsNoScene text first → IsLessPart text p)
+    → IfOk r (IsPartOfLenient text lenient) → IfOk r (λ p. IsNoScene text first → IsLessPart text p)
 lesser text first lenient (Ok part) read is =
     λ bad. record { first = first; bad = bad; lenient = lenient; read = read; part = is }
 lesser text first lenient (Err f) read is = tt
 
 pub unmended : (text : List ℕ) (first : JobFault) (lenient : Lenient) (r : Result ScenePart JobFault) → IsLenient text lenient
-    → IfErr r (IsUnmended lenient.document) → IfErr r (λ f. IsNoScene text first → IsRefused text f)
+    → IfErr r (HasNoPartOf text lenient) → IfErr r (λ f. IsNoScene text first → IsRefused text f)
 unmended text first lenient (Ok part) read why = tt
 unmended text first lenient (Err f) read (inl none) = λ bad. inl none
 unmended text first lenient (Err f) read (inr (inl none)) = λ bad. inr (inl none)
 unmended text first lenient (Err f) read (inr (inr stuck)) =
     λ bad. inr (inr (inr (inl (record { first = first; bad = bad; lenient = lenient; read = read; stuck = stuck }))))
+
+-- the part of a tree with places, or why it has none
+pub lenient_made : (text : List ℕ) (lenient : Lenient) (placed : Placed) (r : Result ScenePart JobFault) → IsPlaced text lenient placed
+    → IfOk r (IsPartOf placed) → IfOk r (IsPartOfLenient text lenient)
+lenient_made text lenient placed (Ok part) has is = record { placed = placed; has = has; part = is }
+lenient_made text lenient placed (Err f) has is = tt
+
+pub lenient_refused : (text : List ℕ) (lenient : Lenient) (placed : Placed) (r : Result ScenePart JobFault) → IsPlaced text lenient placed
+    → IfErr r (IsUnmended placed.lenient.document) → IfErr r (HasNoPartOf text lenient)
+lenient_refused text lenient placed (Ok part) has why = tt
+lenient_refused text lenient placed (Err f) has (inl none) = inl none
+lenient_refused text lenient placed (Err f) has (inr (inl none)) = inr (inl none)
+lenient_refused text lenient placed (Err f) has (inr (inr stuck)) = inr (inr (record { placed = placed; has = has; stuck = stuck }))
 
 -- a part whose text is refused
 pub refused_check : (text : List ℕ) (part : ScenePart) (r : Result ScenePart JobFault) → IsPartOfText text part
@@ -68,23 +83,23 @@ ordered_part bytes part shown is scene ordered = record {
 
 -- the texts of a part whose text is a scene
 pub part_texts : (bytes : List ℕ) (shown : ScenePart) (r : Result PartTexts JobFault) → IsOrderedPart bytes shown
-    → IfOk r (AreShown bytes shown) → IfOk r (ArePartTexts bytes)
+    → IfOk r (AreShown shown) → IfOk r (ArePartTexts bytes)
 part_texts bytes shown (Err f) part texts = tt
 part_texts bytes shown (Ok made) part texts = record { shown = shown; part = part; texts = texts }
 
 pub kept_texts : (bytes names : List ℕ) (shown : ScenePart) (told : Option (List ℕ)) (r : Result KeptTexts JobFault) → IsOrderedPart bytes shown
-    → IsLostOf bytes shown names told → IfOk r (λ k. AreShown bytes shown k.texts)
+    → IsLostOf shown names told → IfOk r (λ k. AreShown shown k.texts)
     → IfOk r (λ k. option_map (λ v. v.items) k.lost ≡ told) → IfOk r (AreKeptTexts bytes names)
 kept_texts bytes names shown told (Err f) part lost texts same = tt
 kept_texts bytes names shown told (Ok made) part lost texts same = record {
   shown = shown;
   part = part;
   texts = texts;
-  lost = subst (λ t. IsLostOf bytes shown names t) (sym same) lost;
+  lost = subst (λ t. IsLostOf shown names t) (sym same) lost;
 }
 
-pub lost_of : {V : Type 0} (view : V → List ℕ) (text names : List ℕ) (part : ScenePart) (lost : Option (List ℕ)) (r : Result (Option V) JobFault)
-    → IsFirstLost part.text.items names lost → IfOk r (λ told. IsSaid text part lost (option_map view told))
-    → IfOk r (λ told. IsLostOf text part names (option_map view told))
-lost_of view text names part lost (Err f) first said = tt
-lost_of view text names part lost (Ok told) first said = record { lost = lost; first = first; said = said }
+pub lost_of : {V : Type 0} (view : V → List ℕ) (names : List ℕ) (part : ScenePart) (lost : Option (List ℕ)) (r : Result (Option V) JobFault)
+    → IsFirstLost part.text.items names lost → IfOk r (λ told. IsSaid part lost (option_map view told))
+    → IfOk r (λ told. IsLostOf part names (option_map view told))
+lost_of view names part lost (Err f) first said = tt
+lost_of view names part lost (Ok told) first said = record { lost = lost; first = first; said = said }

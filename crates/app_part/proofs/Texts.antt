@@ -134,5 +134,5 @@ pub refusals_are_limits : RefusalsAreLimits
 refusals_are_limits text fault (inl none) = inr (ap is_limit none)
 refusals_are_limits text fault (inr (inl none)) = inr (ap is_limit none)
 refusals_are_limits text fault (inr (inr (inl none))) = inl none
-refusals_are_limits text fault (inr (inr (inr (inl has)))) = inr has.stuck.limit
+refusals_are_limits text fault (inr (inr (inr (inl has)))) = inr has.stuck.stuck.limit
 refusals_are_limits text fault (inr (inr (inr (inr no_text)))) = inr no_text.limit

@@ -1,39 +1,14 @@
 -- Names of nodes that have to stay in a part (our choice).
-use Rattle.std.specs.Prelude.{◌≡◌, ℕ, Bool, false, not, ◌&&◌, ◌++◌, List, [], ◌∷◌, Option, Some, None, Ok, Err, map, codes, is_none, nat_le, if◌then◌else◌}
+use Rattle.std.specs.Prelude.{◌≡◌, ℕ, Bool, false, not, ◌&&◌, ◌++◌, List, [], ◌∷◌, Option, Some, None, map, codes, is_none, nat_le, if◌then◌else◌}
 use Rattle.std.specs.Str.{bytes_eq}
 use Rattle.std.specs.Str.Lines.{lines}
-use Rattle.classic_lex.specs.Lexed.{Tok, lexed, seen}
-use Rattle.classic_lex.specs.Header.{mark_len}
-use Rattle.classic_lex.specs.Spans.{AreSpans}
-use Rattle.classic_lex.specs.declared.fault.LexFault.{LexFault}
+use Rattle.classic_lex.specs.Lexed.{Tok}
 use Rattle.classic_lex.specs.declared.token.Token.{Token}
-use Rattle.classic_text.specs.Reading.{of_tokens}
-use Rattle.classic_lenient.specs.Pieces.{bytes_at}
-use Rattle.classic_lenient.specs.VrmlHeader.{as_x3d}
 use Rattle.classic_part.specs.declared.notes.Note.{Note}
-use Rattle.app_jobs.specs.Faults.{of_read}
-use Rattle.app_jobs.specs.declared.fault.JobFault.{JobFault}
 use Rattle.app_part.specs.Listing.{is_group}
 use Rattle.app_part.specs.Told.{note_line}
+use Rattle.app_part.specs.Tokens.{AreTokens, placed}
 use Rattle.app_part.specs.declared.part.ScenePart.{ScenePart}
-
--- the tokens of a text, in their places
-pub record AreTokens (text : List ℕ) (tokens : List Token) : Type 0 where
-  pub lexed : lexed text ≡ Ok (map (seen text) tokens)
-  pub spans : AreSpans text (mark_len text) tokens
-
-abbrev pub placed : List ℕ → Token → Tok
-placed text token =
-    record {
-      kind = token.kind;
-      text = bytes_at text token.start token.end;
-      line = token.line;
-    }
-
--- a text has no tokens, for this reason
-abbrev pub HasNoTokens : List ℕ → JobFault → Type 0
-HasNoTokens text fault =
-    (lex : LexFault) × (lexed text ≡ Err lex) × (fault ≡ of_read (of_tokens lex))
 
 -- the line of the first `DEF name` among tokens, given whether the token before them is DEF
 abbrev pub defined_at : List ℕ → Bool → List Tok → Option ℕ
@@ -61,46 +36,45 @@ IsFirstLost text names lost =
 
 -- ---- which rule took a name
 
--- something went that begins on the line or before it
+-- something went that begins at the place or before it
 abbrev pub may_take : ℕ → Note → Bool
-may_take line note = not (is_group note) && nat_le note.line line
+may_take place note = not (is_group note) && nat_le note.line place
 
--- the last of notes in the order of their lines on what went up to a line: what went has no notes
--- inside
+-- the last of notes in the order of their places on what went up to a place: what went has no
+-- notes inside
 abbrev pub taker : ℕ → Option Note → List Note → Option Note
-taker line found [] = found
-taker line found (note ∷ notes) =
-    taker line (if may_take line note then Some note else found) notes
+taker place found [] = found
+taker place found (note ∷ notes) =
+    taker place (if may_take place note then Some note else found) notes
 
-abbrev pub taken_by : List JobFault → Option Note → List ℕ
-taken_by faults None = codes "no node has this name" ++ 10 ∷ []
-taken_by faults (Some note) = note_line faults note
+abbrev pub taken_by : ScenePart → Option Note → List ℕ
+taken_by part None = codes "no node has this name" ++ 10 ∷ []
+taken_by part (Some note) = note_line part.lines.items part.blames note
 
 abbrev pub reason_at : ScenePart → Option ℕ → List ℕ
-reason_at part None = taken_by part.faults None
-reason_at part (Some line) = taken_by part.faults (taker line None part.left)
+reason_at part None = taken_by part None
+reason_at part (Some place) = taken_by part (taker place None part.left)
 
--- the line on which a text names a node so
-pub record IsDefLine (text name : List ℕ) (line : Option ℕ) : Type 0 where
+-- where a text, which has places as lines, names a node so
+pub record IsDefPlace (source name : List ℕ) (place : Option ℕ) : Type 0 where
   pub tokens : List Token
-  pub are : AreTokens (as_x3d text) tokens
-  pub is : line ≡ defined_at name false (map (placed (as_x3d text)) tokens)
+  pub are : AreTokens source tokens
+  pub is : place ≡ defined_at name false (map (placed source) tokens)
 
 -- `Pot: line 2: node Teapot left out`, for a name that the part of a text lacks
-pub record IsLostLine (text : List ℕ) (part : ScenePart) (name told : List ℕ) : Type 0 where
-  pub line : Option ℕ
-  pub at : IsDefLine text name line
-  pub is : told ≡ name ++ codes ": " ++ reason_at part line
+pub record IsLostLine (part : ScenePart) (name told : List ℕ) : Type 0 where
+  pub place : Option ℕ
+  pub at : IsDefPlace part.source.items name place
+  pub is : told ≡ name ++ codes ": " ++ reason_at part place
 
 -- what is said of the first name that the part of a text lacks, if it lacks one
-abbrev pub IsSaid : List ℕ → ScenePart → Option (List ℕ) → Option (List ℕ) → Type 0
-IsSaid text part None None = Unit {0}
-IsSaid text part (Some name) (Some told) = IsLostLine text part name told
-IsSaid text part None (Some told) = ⊥
-IsSaid text part (Some name) None = ⊥
+abbrev pub IsSaid : ScenePart → Option (List ℕ) → Option (List ℕ) → Type 0
+IsSaid part None None = Unit {0}
+IsSaid part (Some name) (Some told) = IsLostLine part name told
+IsSaid part None (Some told) = ⊥
+IsSaid part (Some name) None = ⊥
 
-pub record IsLostOf (text : List ℕ) (part : ScenePart) (names : List ℕ) (told : Option (List ℕ))
-    : Type 0 where
+pub record IsLostOf (part : ScenePart) (names : List ℕ) (told : Option (List ℕ)) : Type 0 where
   pub lost : Option (List ℕ)
   pub first : IsFirstLost part.text.items names lost
-  pub said : IsSaid text part lost told
+  pub said : IsSaid part lost told

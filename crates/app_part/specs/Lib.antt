@@ -1,3 +1,5 @@
+pub mod Apart
+pub mod Judging
 pub mod Kept
 pub mod Laws
 pub mod Listing
@@ -5,6 +7,7 @@ pub mod Mends
 pub mod Order
 pub mod Parts
 pub mod Streams
+pub mod Tokens
 pub mod Told
 pub mod Whole
 pub mod Words

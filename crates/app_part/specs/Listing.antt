@@ -25,8 +25,8 @@ last unread notes =
     counts (min (length unread + (length notes - count_by is_group notes)) (2 ^ 64 - 1))
     (count_by is_group notes)
 
--- a line for each thing that was left out of a text, and the line of counts
-abbrev pub told_text : List ℕ → ScenePart → List ℕ
-told_text text part =
-    flat_map (unread_line text) part.unread ++ flat_map (note_line part.faults) part.left
-    ++ last part.unread part.left
+-- a line for each thing that was left out, and the line of counts
+abbrev pub told_text : ScenePart → List ℕ
+told_text part =
+    flat_map (unread_line part.source.items part.lines.items) part.unread
+    ++ flat_map (note_line part.lines.items part.blames) part.left ++ last part.unread part.left

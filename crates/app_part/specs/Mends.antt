@@ -1,14 +1,10 @@
--- Which parts of a fault's line are left out (our choice): the part that the fault is of; if that
--- was left out before, another that begins on the line.
-use Rattle.std.specs.Prelude.{ℕ, Bool, false, not, List, [], ◌∷◌, Option, Some, None, ◌&&◌, ◌==◌, length, if◌then◌else◌}
+-- Which part of a text is left out for a fault (our choice): the one that begins where the fault
+-- is. In a text with its tokens apart, no other part begins there.
+use Rattle.std.specs.Prelude.{ℕ, Bool, true, false, not, List, [], ◌∷◌, ◌++◌, map, Option, Some, None, is_none, ◌&&◌, ◌==◌, if◌then◌else◌}
 use Rattle.std.specs.List.{list_any}
 use denote.Enum.Bare.{sameb}
 use Rattle.classic_text.specs.contracts.fault.ReadFaultKind as reads
 use Rattle.classic_text.specs.declared.fault.ReadFaultKind.TheVariants.{Unsupported}
-use Rattle.classic_part.specs.declared.knowing.Level.{Level}
-use Rattle.classic_part.specs.declared.knowing.Level.TheVariants as level
-use Rattle.classic_part.specs.declared.knowing.Refusal.{Refusal}
-use Rattle.classic_part.specs.Notes.{is_at}
 use Rattle.proto_flat.specs.declared.fault.ExpandFaultKind.{ExpandFaultKind}
 use Rattle.proto_flat.specs.declared.fault.ExpandFaultKind.TheVariants as expand
 use Rattle.scene_core.specs.declared.fault.SceneFaultKind.{SceneFaultKind}
@@ -17,72 +13,68 @@ use Rattle.route_core.specs.declared.fault.RouteFaultKind.{RouteFaultKind}
 use Rattle.route_core.specs.declared.fault.RouteFaultKind.TheVariants as route
 use Rattle.app_jobs.specs.declared.fault.JobFault.{JobFault}
 use Rattle.app_jobs.specs.declared.fault.JobFault.TheVariants as job
-use Rattle.app_program.specs.Refusal.{job_fault_line}
+use Rattle.scene_faults.specs.declared.blame.Blame.{Blame}
+use Rattle.scene_faults.specs.declared.blame.Reason.{Reason}
+use Rattle.scene_faults.specs.declared.blame.Reason.TheVariants as reason
 
-abbrev pub field_first : List Level
-field_first = level.Field ∷ level.Use ∷ level.Route ∷ level.Node ∷ level.Proto ∷ []
+-- ---- faults of a part of a text, and no limit
 
-abbrev pub use_first : List Level
-use_first = level.Use ∷ level.Field ∷ level.Route ∷ level.Node ∷ level.Proto ∷ []
+abbrev pub of_expand : ExpandFaultKind → Bool
+of_expand expand.TooLarge = false
+of_expand expand.Memory = false
+of_expand _ = true
 
-abbrev pub route_first : List Level
-route_first = level.Route ∷ level.Field ∷ level.Use ∷ level.Node ∷ level.Proto ∷ []
+abbrev pub of_scene : SceneFaultKind → Bool
+of_scene scene.TooDeep = false
+of_scene scene.TooMany = false
+of_scene scene.Memory = false
+of_scene _ = true
 
-abbrev pub node_first : List Level
-node_first = level.Node ∷ level.Use ∷ level.Field ∷ level.Route ∷ level.Proto ∷ []
+abbrev pub of_route : RouteFaultKind → Bool
+of_route route.TooMany = false
+of_route route.Memory = false
+of_route _ = true
 
-abbrev pub proto_first : List Level
-proto_first = level.Proto ∷ level.Node ∷ level.Field ∷ level.Use ∷ level.Route ∷ []
+abbrev pub blame_if : Bool → ℕ → Reason → Option Blame
+blame_if is_blamed line reason =
+    if is_blamed then Some (record { line = line; reason = reason }) else None
 
-abbrev pub expand_levels : ExpandFaultKind → List Level
-expand_levels expand.UnknownNode = node_first
-expand_levels expand.UnknownField = field_first
-expand_levels expand.ProtoTwice = proto_first
-expand_levels expand.ProtoItself = node_first
-expand_levels expand.EmptyBody = proto_first
-expand_levels expand.BadIs = field_first
-expand_levels expand.UseWithoutDef = use_first
-expand_levels expand.FieldTwice = field_first
-expand_levels expand.TooLarge = []
-expand_levels expand.Memory = []
+-- the part that is at fault; none for a limit, for memory, or for a fault of reading
+abbrev pub blame_of : JobFault → Option Blame
+blame_of (job.Expand fault) =
+    blame_if (of_expand fault.kind) fault.line (reason.Expand fault.kind)
+blame_of (job.Scene fault) = blame_if (of_scene fault.kind) fault.line (reason.Scene fault.kind)
+blame_of (job.Route fault) = blame_if (of_route fault.kind) fault.line (reason.Route fault.kind)
+blame_of _ = None
 
-abbrev pub scene_levels : SceneFaultKind → List Level
-scene_levels scene.WrongType = field_first
-scene_levels scene.ValueRange = field_first
-scene_levels scene.RotationUnsupported = field_first
-scene_levels scene.NotInitial = field_first
-scene_levels scene.BadChild = field_first
-scene_levels scene.TooDeep = []
-scene_levels scene.TooMany = []
-scene_levels scene.Memory = []
+-- ---- what goes
 
-abbrev pub route_levels : RouteFaultKind → List Level
-route_levels route.NoSuchNode = route_first
-route_levels route.NoSuchField = route_first
-route_levels route.NotOutput = route_first
-route_levels route.NotInput = route_first
-route_levels route.TypesDiffer = route_first
-route_levels route.NodeEvent = route_first
-route_levels route.TooMany = []
-route_levels route.Memory = []
+-- where the parts begin that are at fault
+abbrev pub place : Blame → ℕ
+place blame = blame.line
 
--- nothing is left out for a limit, for memory, or for a fault of reading
-abbrev pub levels_of : JobFault → List Level
-levels_of (job.Expand fault) = expand_levels fault.kind
-levels_of (job.Scene fault) = scene_levels fault.kind
-levels_of (job.Route fault) = route_levels fault.kind
-levels_of _ = []
+abbrev pub places : List Blame → List ℕ
+places blames = map place blames
 
--- the first of these levels that isn't refused on the line
-abbrev pub first_left : ℕ → List Refusal → List Level → Option Refusal
-first_left line refused [] = None
-first_left line refused (l ∷ ls) =
-    if list_any (is_at l line) refused then first_left line refused ls
-    else Some (record { line = line; level = l })
+-- what begins there was left out before
+abbrev pub is_gone : List ℕ → ℕ → Bool
+is_gone refused at = list_any (λ r. r == at) refused
 
--- what to refuse besides these for a fault, if anything is left to refuse
-abbrev pub mend : List Refusal → JobFault → Option Refusal
-mend refused fault = first_left (job_fault_line fault) refused (levels_of fault)
+-- what a node or a route alone tells, if some of it was not left out before; or else the first
+-- fault, if that was not
+abbrev pub not_gone : List ℕ → List Blame → Blame → Option (List Blame)
+not_gone refused blames first =
+    if list_any (λ b. not (is_gone refused (place b))) blames then Some blames
+    else if is_gone refused first.line then None
+    else Some (first ∷ [])
+
+abbrev pub with_first : List ℕ → List Blame → Option Blame → Option (List Blame)
+with_first refused blames None = None
+with_first refused blames (Some first) = not_gone refused blames first
+
+-- what goes of a part that has this first fault, besides what begins at these places
+abbrev pub mends : List ℕ → JobFault → List Blame → Option (List Blame)
+mends refused fault blames = with_first refused blames (blame_of fault)
 
 -- ---- which faults a part is refused for
 
@@ -92,4 +84,4 @@ is_unsupported _ = false
 
 -- a limit, memory, a device, or a fault of the characters or the grammar of a text
 abbrev pub is_limit : JobFault → Bool
-is_limit fault = length (levels_of fault) == 0 && not (is_unsupported fault)
+is_limit fault = is_none (blame_of fault) && not (is_unsupported fault)

@@ -1,48 +1,57 @@
 -- The part of a text that is a scene.
-use Rattle.std.specs.Prelude.{◌≡◌, ◌⊎◌, ℕ, Bool, true, false, List, [], ◌∷◌, ◌++◌, Ok, Err, Some, None}
+use Rattle.std.specs.Prelude.{◌≡◌, ◌⊎◌, ℕ, Bool, true, false, List, [], ◌++◌, Ok, Err, Some}
 use Rattle.classic_tree.specs.Writing.{document_text}
 use Rattle.classic_tree.specs.declared.tree.Document.{Document}
 use Rattle.classic_text.specs.Reading.{read_text}
 use Rattle.classic_text.specs.declared.fault.ReadFault.{ReadFault}
 use Rattle.classic_lenient.specs.Lenient.{IsLenient, IsUnreadable}
+use Rattle.classic_lenient.specs.VrmlHeader.{as_x3d}
 use Rattle.classic_lenient.specs.declared.reading.Lenient.{Lenient}
-use Rattle.classic_part.specs.declared.knowing.Refusal.{Refusal}
 use Rattle.app_jobs.specs.Faults.{of_read}
 use Rattle.app_jobs.specs.declared.fault.JobFault.{JobFault}
 use Rattle.app_jobs.specs.declared.fault.JobFault.TheVariants.{Memory}
 use Rattle.app_program.specs.Opening.{opened}
 use Rattle.app_program.specs.declared.open.OpenedScene.{OpenedScene}
-use Rattle.app_part.specs.Mends.{mend, is_limit}
+use Rattle.scene_faults.specs.declared.blame.Blame.{Blame}
+use Rattle.app_part.specs.Apart.{IsPlaced}
+use Rattle.app_part.specs.Mends.{is_limit, mends, places}
 use Rattle.app_part.specs.Parts.{Mending, IsMade, IsTurnedDown, no_part}
 use Rattle.app_part.specs.declared.part.Mends.{Mends}
 use Rattle.app_part.specs.declared.part.ScenePart.{ScenePart}
+use Rattle.app_part.specs.declared.places.Placed.{Placed}
 use Rattle.app_part.specs.declared.tries.Made.{Made}
 
--- one thing more is refused for a fault
-pub record IsOneMore (old new : Mends) (fault : JobFault) : Type 0 where
-  pub refusal : Refusal
-  pub found : mend old.refused fault ≡ Some refusal
-  pub refused : new.refused ≡ old.refused ++ refusal ∷ []
-  pub faults : new.faults ≡ old.faults ++ fault ∷ []
+-- the places are those of what goes
+abbrev pub AreMends : Mends → Type 0
+AreMends mends = mends.refused ≡ places mends.blames
 
--- nothing is left to refuse for a fault, which is answered: a limit
-pub record IsLast (old : Mends) (fault answer : JobFault) : Type 0 where
-  pub none : mend old.refused fault ≡ None
+-- what goes of a document
+abbrev pub IsMending : Document → Mends → Type 0
+IsMending document mends = AreMends mends × Mending document mends.blames
+
+-- what is at fault is left out too
+pub record IsMore (old new : Mends) (fault : JobFault) (blames : List Blame) : Type 0 where
+  pub more : List Blame
+  pub found : mends old.refused fault blames ≡ Some more
+  pub left : new.blames ≡ old.blames ++ more
+  pub gone : new.refused ≡ old.refused ++ places more
+
+-- a fault that is answered: a limit
+pub record IsLast (fault answer : JobFault) : Type 0 where
   pub limit : is_limit fault ≡ true
   pub is : answer ≡ fault
 
--- the part of a document without what was refused for one fault after another is a scene
+-- the part of a document without what was at fault, again and again, is a scene
 pub record IsMended (document : Document) (mends : Mends) (made : Made) : Type 0 where
-  pub mending : Mending document mends.refused mends.faults
-  pub good : IsMade document mends.refused made.text.items made.left
+  pub mending : Mending document mends.blames
+  pub good : IsMade document (places mends.blames) made.text.items made.left
 
--- the part without what was refused is no scene for a limit, for which nothing is left to refuse
+-- the part without what was at fault is no scene for a limit
 pub record IsStuck (document : Document) (fault : JobFault) : Type 0 where
-  pub refused : List Refusal
-  pub faults : List JobFault
-  pub mending : Mending document refused faults
-  pub turned_down : IsTurnedDown document refused fault
-  pub none : mend refused fault ≡ None
+  pub left : List Blame
+  pub blames : List Blame
+  pub mending : Mending document left
+  pub turned_down : IsTurnedDown document (places left) fault blames
   pub limit : is_limit fault ≡ true
 
 -- memory ran out, or no part was found, or a limit is passed
@@ -50,12 +59,13 @@ abbrev pub IsUnmended : Document → JobFault → Type 0
 IsUnmended document fault =
     (fault ≡ Memory) ⊎ ((fault ≡ no_part) ⊎ IsStuck document fault)
 
--- the part of a text's document, and what was left out
-pub record IsPartOf (lenient : Lenient) (part : ScenePart) : Type 0 where
-  pub refused : List Refusal
-  pub mending : Mending lenient.document refused part.faults
-  pub good : IsMade lenient.document refused part.text.items part.left
-  pub unread : part.unread ≡ lenient.unread
+-- the part of the tree of a text, and what was left out, with the lines of its places
+pub record IsPartOf (placed : Placed) (part : ScenePart) : Type 0 where
+  pub mending : Mending placed.lenient.document part.blames
+  pub good : IsMade placed.lenient.document (places part.blames) part.text.items part.left
+  pub unread : part.unread ≡ placed.lenient.unread
+  pub source : part.source.items ≡ placed.source.items
+  pub lines : part.lines.items ≡ placed.lines.items
 
 -- the text of a document that stays the same when it is read and written again
 pub record IsWrittenText (text : List ℕ) : Type 0 where
@@ -91,7 +101,8 @@ pub record IsWhole (text : List ℕ) (made : ScenePart) : Type 0 where
   pub written : made.text.items ≡ document_text document
   pub unread : made.unread ≡ []
   pub left : made.left ≡ []
-  pub faults : made.faults ≡ []
+  pub blames : made.blames ≡ []
+  pub source : made.source.items ≡ as_x3d text
 
 -- a scene is its own part
 pub record IsScenesPart (text : List ℕ) (made : ScenePart) : Type 0 where
@@ -99,13 +110,20 @@ pub record IsScenesPart (text : List ℕ) (made : ScenePart) : Type 0 where
   pub opened : opened text ≡ Ok scene
   pub whole : IsWhole text made
 
+-- the part of a text that was read so
+pub record IsPartOfLenient (text : List ℕ) (lenient : Lenient) (made : ScenePart)
+    : Type 0 where
+  pub placed : Placed
+  pub has : IsPlaced text lenient placed
+  pub part : IsPartOf placed made
+
 -- something is left out of a text that is no scene
 pub record IsLessPart (text : List ℕ) (made : ScenePart) : Type 0 where
   pub first : JobFault
   pub bad : IsNoScene text first
   pub lenient : Lenient
   pub read : IsLenient text lenient
-  pub part : IsPartOf lenient made
+  pub part : IsPartOfLenient text lenient made
 
 abbrev pub IsPartOfText : List ℕ → ScenePart → Type 0
 IsPartOfText text made = IsScenesPart text made ⊎ IsLessPart text made
@@ -118,13 +136,24 @@ pub record IsNoDocument (text : List ℕ) (fault : JobFault) : Type 0 where
   pub unreadable : IsUnreadable text read_fault
   pub is : fault ≡ of_read read_fault
 
+-- the tree of a text that was read so has no part that is a scene
+pub record IsStuckText (text : List ℕ) (lenient : Lenient) (fault : JobFault) : Type 0 where
+  pub placed : Placed
+  pub has : IsPlaced text lenient placed
+  pub stuck : IsStuck placed.lenient.document fault
+
+-- memory ran out, or no part was found, or a limit is passed
+abbrev pub HasNoPartOf : List ℕ → Lenient → JobFault → Type 0
+HasNoPartOf text lenient fault =
+    (fault ≡ Memory) ⊎ ((fault ≡ no_part) ⊎ IsStuckText text lenient fault)
+
 -- the text is no scene, and its document has no part that is one
 pub record HasNoPart (text : List ℕ) (fault : JobFault) : Type 0 where
   pub first : JobFault
   pub bad : IsNoScene text first
   pub lenient : Lenient
   pub read : IsLenient text lenient
-  pub stuck : IsStuck lenient.document fault
+  pub stuck : IsStuckText text lenient fault
 
 -- the part of its document is too long for a text, or nests too deep as one
 pub record IsNoText (text : List ℕ) (fault : JobFault) : Type 0 where

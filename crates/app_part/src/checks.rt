@@ -10,8 +10,9 @@ ghost use Rattle.app_part.specs.Whole as whole;
 
 use crate::mends::is_limit;
 use crate::part::ScenePart;
-use crate::tries::{judged, no_part, text_of};
+use crate::tries::{no_part, text_of};
 use app_jobs::JobFault;
+use app_program::open_document;
 use classic_text::read;
 use classic_tree::Document;
 use std::alloc::{AllocError, Global};
@@ -24,6 +25,20 @@ pub(crate) fn answer(fault: JobFault) -> JobFault
         return fault;
     }
     no_part()
+}
+
+/// Tells whether a document is a scene.
+fn judged(alloc: Global, document: Document) -> Result<(), JobFault>
+    ensures good { OnOk result (spec.IsGood document) }
+    ensures bad { IfErr result (λ f. (f ≡ Memory) ⊎ spec.IsBad document f) }
+{
+    match open_document(alloc, document) {
+        Ok(opened) => {
+            drop(opened);
+            Ok(())
+        }
+        Err(fault) => Err(fault),
+    }
 }
 
 /// Reports whether this is the text of a document.

@@ -5,12 +5,13 @@ ghost use Rattle.std.specs.Str.{bytes_eq};
 ghost use Rattle.std.specs.Str.Lines.{lines};
 ghost use Rattle.app_jobs.specs.declared.fault.JobFault.TheVariants.{Memory};
 ghost use Rattle.app_part.specs.Kept as spec;
+ghost use Rattle.app_part.specs.Tokens.{AreTokens, HasNoTokens, placed};
 
 use crate::part::ScenePart;
 use crate::told::push_note;
 use crate::words::is_grouped;
 use app_jobs::JobFault;
-use classic_lenient::{as_x3d, bytes_at};
+use classic_lenient::bytes_at;
 use classic_lex::{Token, lex};
 use classic_part::Note;
 use classic_text::ReadFault;
@@ -18,9 +19,9 @@ use share_rules::cut_line;
 use std::alloc::{AllocError, Global};
 
 /// Returns the tokens of a text.
-fn tokens_of(alloc: Global, text: &[u8]) -> Result<Vec<Token>, JobFault>
-    ensures tokens { IfOk result (λ v. spec.AreTokens text.now v.items) }
-    ensures refused { IfErr result (λ f. (f ≡ Memory) ⊎ spec.HasNoTokens text.now f) }
+pub(crate) fn tokens_of(alloc: Global, text: &[u8]) -> Result<Vec<Token>, JobFault>
+    ensures tokens { IfOk result (λ v. AreTokens text.now v.items) }
+    ensures refused { IfErr result (λ f. (f ≡ Memory) ⊎ HasNoTokens text.now f) }
 {
     match lex(alloc, text) {
         Ok(tokens) => Ok(tokens),
@@ -36,7 +37,7 @@ fn is(word: &[u8], other: &[u8]) -> bool
 
 /// Returns the line of the first `DEF name` among the tokens of a text.
 fn defined_at(text: &[u8], tokens: &[Token], name: &[u8]) -> Option<u32>
-    ensures { result ≡ spec.defined_at name.now false (map (spec.placed text.now) tokens.now) }
+    ensures { result ≡ spec.defined_at name.now false (map (placed text.now) tokens.now) }
 {
     let mut behind = false;
     for token in tokens {
@@ -50,7 +51,7 @@ fn defined_at(text: &[u8], tokens: &[Token], name: &[u8]) -> Option<u32>
 }
 
 fn is_lost(text: &[u8], tokens: &[Token], name: &[u8]) -> bool
-    ensures { result ≡ spec.is_lost (map (spec.placed text.now) tokens.now) name.now }
+    ensures { result ≡ spec.is_lost (map (placed text.now) tokens.now) name.now }
 {
     if name.is_empty() {
         return false;
@@ -60,7 +61,7 @@ fn is_lost(text: &[u8], tokens: &[Token], name: &[u8]) -> bool
 
 fn first_among<'n>(text: &[u8], tokens: &[Token], names: &'n [u8]) -> Option<&'n [u8]>
     ensures { option_map (λ n. n.now) result
-        ≡ spec.first_lost (map (spec.placed text.now) tokens.now) (lines names.now) }
+        ≡ spec.first_lost (map (placed text.now) tokens.now) (lines names.now) }
 {
     let mut rest = names;
     while !rest.is_empty() {
@@ -82,37 +83,38 @@ pub fn first_lost<'n>(
 ) -> Result<Option<&'n [u8]>, JobFault>
     ensures lost { IfOk result
         (λ lost. spec.IsFirstLost text.now names.now (option_map (λ n. n.now) lost)) }
-    ensures refused { IfErr result (λ f. (f ≡ Memory) ⊎ spec.HasNoTokens text.now f) }
+    ensures refused { IfErr result (λ f. (f ≡ Memory) ⊎ HasNoTokens text.now f) }
 {
     let tokens = tokens_of(alloc, text)?;
     Ok(first_among(text, tokens.as_slice(), names))
 }
 
-fn may_take(note: &Note, line: u32) -> bool
-    ensures { result ≡ spec.may_take line note.now }
+fn may_take(note: &Note, place: u32) -> bool
+    ensures { result ≡ spec.may_take place note.now }
 {
-    !is_grouped(note.kind) && note.line <= line
+    !is_grouped(note.kind) && note.line <= place
 }
 
-/// Returns the last of the notes, which are in the order of their lines, on what went up to a line.
-fn taker(notes: &[Note], line: u32) -> Option<&Note>
-    ensures { option_map (λ n. n.now) result ≡ spec.taker line None notes.now }
+/// Returns the last of the notes, which are in the order of their places, on what went up to a
+/// place.
+fn taker(notes: &[Note], place: u32) -> Option<&Note>
+    ensures { option_map (λ n. n.now) result ≡ spec.taker place None notes.now }
 {
     let mut found = None;
     for note in notes {
-        if may_take(note, line) {
+        if may_take(note, place) {
             found = Some(note);
         }
     }
     found
 }
 
-fn push_taken(note: Option<&Note>, faults: &[JobFault], out: &mut Vec<u8>) -> Result<(), AllocError>
+fn push_taken(part: &ScenePart, note: Option<&Note>, out: &mut Vec<u8>) -> Result<(), AllocError>
     ensures { OnOk result (out.new.items
-        ≡ out.old.items ++ spec.taken_by faults.now (option_map (λ n. n.now) note.entry)) }
+        ≡ out.old.items ++ spec.taken_by part.now (option_map (λ n. n.now) note.entry)) }
 {
     match note {
-        Some(note) => push_note(note, faults, out),
+        Some(note) => push_note(note, part.lines.as_slice(), part.blames.as_slice(), out),
         None => {
             out.extend_from_slice(b"no node has this name\n")?;
             Ok(())
@@ -120,77 +122,69 @@ fn push_taken(note: Option<&Note>, faults: &[JobFault], out: &mut Vec<u8>) -> Re
     }
 }
 
-fn push_reason(part: &ScenePart, line: Option<u32>, out: &mut Vec<u8>) -> Result<(), AllocError>
-    ensures { OnOk result (out.new.items ≡ out.old.items ++ spec.reason_at part.now line) }
+fn push_reason(part: &ScenePart, place: Option<u32>, out: &mut Vec<u8>) -> Result<(), AllocError>
+    ensures { OnOk result (out.new.items ≡ out.old.items ++ spec.reason_at part.now place) }
 {
-    let faults = part.faults.as_slice();
-    match line {
-        Some(line) => push_taken(taker(part.left.as_slice(), line), faults, out),
-        None => push_taken(None, faults, out),
+    match place {
+        Some(place) => push_taken(part, taker(part.left.as_slice(), place), out),
+        None => push_taken(part, None, out),
     }
 }
 
 fn push_lost(
     part: &ScenePart,
     name: &[u8],
-    line: Option<u32>,
+    place: Option<u32>,
     out: &mut Vec<u8>,
 ) -> Result<(), AllocError>
     ensures { OnOk result (out.new.items
-        ≡ out.old.items ++ name.now ++ codes ": " ++ spec.reason_at part.now line) }
+        ≡ out.old.items ++ name.now ++ codes ": " ++ spec.reason_at part.now place) }
 {
     out.extend_from_slice(name)?;
     out.extend_from_slice(b": ")?;
-    push_reason(part, line, out)
+    push_reason(part, place, out)
 }
 
-/// Returns the line on which the text first names a node so.
-fn line_in(alloc: Global, text: &[u8], name: &[u8]) -> Result<Option<u32>, JobFault>
-    ensures line { IfOk result (λ line. spec.IsDefLine text.now name.now line) }
+/// Returns where a text, which has places as lines, first names a node so.
+fn place_in(alloc: Global, source: &[u8], name: &[u8]) -> Result<Option<u32>, JobFault>
+    ensures place { IfOk result (λ place. spec.IsDefPlace source.now name.now place) }
 {
-    let text = as_x3d(alloc, text)?;
-    let tokens = tokens_of(alloc, text.as_slice())?;
-    Ok(defined_at(text.as_slice(), tokens.as_slice(), name))
+    let tokens = tokens_of(alloc, source)?;
+    Ok(defined_at(source, tokens.as_slice(), name))
 }
 
-/// Returns why the part of a text, whose notes are in the order of their lines, lacks a name.
-fn lost_line(alloc: Global, text: &[u8], part: &ScenePart, name: &[u8]) -> Result<Vec<u8>, JobFault>
-    ensures told { IfOk result (λ v. spec.IsLostLine text.now part.now name.now v.items) }
+/// Returns why a part, whose notes are in the order of their places, lacks a name.
+fn lost_line(alloc: Global, part: &ScenePart, name: &[u8]) -> Result<Vec<u8>, JobFault>
+    ensures told { IfOk result (λ v. spec.IsLostLine part.now name.now v.items) }
 {
-    let line = line_in(alloc, text, name)?;
+    let place = place_in(alloc, part.source.as_slice(), name)?;
     let mut out = Vec::new(alloc);
-    push_lost(part, name, line, &mut out)?;
+    push_lost(part, name, place, &mut out)?;
     Ok(out)
 }
 
-/// Returns what is said of the first name that the part of a text lacks, if it lacks one.
-fn said(
-    alloc: Global,
-    text: &[u8],
-    part: &ScenePart,
-    lost: Option<&[u8]>,
-) -> Result<Option<Vec<u8>>, JobFault>
-    ensures told { IfOk result (λ told. spec.IsSaid text.now part.now
+/// Returns what is said of the first name that a part lacks, if it lacks one.
+fn said(alloc: Global, part: &ScenePart, lost: Option<&[u8]>) -> Result<Option<Vec<u8>>, JobFault>
+    ensures told { IfOk result (λ told. spec.IsSaid part.now
         (option_map (λ n. n.now) lost.entry) (option_map (λ v. v.items) told)) }
 {
     match lost {
         None => Ok(None),
-        Some(name) => Ok(Some(lost_line(alloc, text, part, name)?)),
+        Some(name) => Ok(Some(lost_line(alloc, part, name)?)),
     }
 }
 
-/// Returns, of the first of the names, one a line, that the part of a text lacks, the name and the
-/// line on what it went with: `Pot: line 2: node Teapot left out`. The part's notes are in the
-/// order of their lines. Fails if memory runs out.
+/// Returns, of the first of the names, one a line, that a part lacks, the name and the line on what
+/// it went with: `Pot: line 2: node Teapot left out`. The part's notes are in the order of their
+/// places. Fails if memory runs out.
 pub(crate) fn lost_text(
     alloc: Global,
-    text: &[u8],
     part: &ScenePart,
     names: &[u8],
 ) -> Result<Option<Vec<u8>>, JobFault>
-    ensures told { IfOk result (λ told. spec.IsLostOf text.now part.now names.now
+    ensures told { IfOk result (λ told. spec.IsLostOf part.now names.now
         (option_map (λ v. v.items) told)) }
 {
     let lost = first_lost(alloc, part.text.as_slice(), names)?;
-    said(alloc, text, part, lost)
+    said(alloc, part, lost)
 }

@@ -2,7 +2,9 @@
 //!
 //! | Modules | Content |
 //! |---|---|
-//! | `mends` | which parts of a line are left out for a fault |
+//! | `apart`, `places` | the tree of a text in which each part has a place of its own |
+//! | `judging` | whether a document is a scene, and what is at fault |
+//! | `mends` | which part is left out for a fault |
 //! | `tries`, `part` | parts without those, again and again until one is a scene |
 //! | `checks` | whether the text of a part is a scene |
 //! | `laws` | laws of parts |
@@ -11,18 +13,22 @@
 //! | `streams` | from a reader to both texts |
 #![tactic(auto)]
 
+mod apart;
 mod checks;
+mod judging;
 mod kept;
 mod laws;
 mod list;
 mod mends;
 mod order;
 mod part;
+mod places;
 mod streams;
 mod told;
 mod tries;
 mod words;
 
+pub use apart::line_at;
 pub use kept::first_lost;
 pub use laws::{parts_are_their_parts, refusals_are_limits, scenes_are_their_parts};
 pub use list::told_text;

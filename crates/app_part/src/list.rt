@@ -8,28 +8,38 @@ ghost use Rattle.app_part.specs.Told.{note_line, unread_line};
 use crate::part::ScenePart;
 use crate::told::{push_note, push_unread};
 use crate::words::is_grouped;
-use app_jobs::JobFault;
 use classic_lenient::Unread;
 use classic_part::Note;
 use itoa::Buffer;
+use scene_faults::Blame;
 use std::alloc::{AllocError, Global};
 
-fn push_notes(notes: &[Note], faults: &[JobFault], out: &mut Vec<u8>) -> Result<(), AllocError>
-    ensures { OnOk result
-        (out.new.items ≡ out.old.items ++ flat_map (note_line faults.now) notes.now) }
+fn push_notes(
+    notes: &[Note],
+    lines: &[u32],
+    blames: &[Blame],
+    out: &mut Vec<u8>,
+) -> Result<(), AllocError>
+    ensures { OnOk result (out.new.items
+        ≡ out.old.items ++ flat_map (note_line lines.now blames.now) notes.now) }
 {
     for note in notes {
-        push_note(note, faults, out)?;
+        push_note(note, lines, blames, out)?;
     }
     Ok(())
 }
 
-fn push_unreads(text: &[u8], unread: &[Unread], out: &mut Vec<u8>) -> Result<(), AllocError>
-    ensures { OnOk result
-        (out.new.items ≡ out.old.items ++ flat_map (unread_line text.now) unread.now) }
+fn push_unreads(
+    source: &[u8],
+    lines: &[u32],
+    unread: &[Unread],
+    out: &mut Vec<u8>,
+) -> Result<(), AllocError>
+    ensures { OnOk result (out.new.items
+        ≡ out.old.items ++ flat_map (unread_line source.now lines.now) unread.now) }
 {
     for one in unread {
-        push_unread(text, one, out)?;
+        push_unread(source, lines, one, out)?;
     }
     Ok(())
 }
@@ -69,21 +79,22 @@ fn push_last(unread: &[Unread], notes: &[Note], out: &mut Vec<u8>) -> Result<(),
     push_counts(left, groups, out)
 }
 
-/// Appends a line for each thing that was left out of a text, and the line of counts.
-fn push_told(text: &[u8], part: &ScenePart, out: &mut Vec<u8>) -> Result<(), AllocError>
-    ensures { OnOk result (out.new.items ≡ out.old.items ++ spec.told_text text.now part.now) }
+/// Appends a line for each thing that was left out, and the line of counts.
+fn push_told(part: &ScenePart, out: &mut Vec<u8>) -> Result<(), AllocError>
+    ensures { OnOk result (out.new.items ≡ out.old.items ++ spec.told_text part.now) }
 {
-    push_unreads(text, part.unread.as_slice(), out)?;
-    push_notes(part.left.as_slice(), part.faults.as_slice(), out)?;
+    let lines = part.lines.as_slice();
+    push_unreads(part.source.as_slice(), lines, part.unread.as_slice(), out)?;
+    push_notes(part.left.as_slice(), lines, part.blames.as_slice(), out)?;
     push_last(part.unread.as_slice(), part.left.as_slice(), out)
 }
 
-/// Returns a line for each thing that was left out of a text, and a last line of counts. Fails if
-/// memory runs out.
-pub fn told_text(alloc: Global, text: &[u8], part: &ScenePart) -> Result<Vec<u8>, AllocError>
-    ensures { IfOk result (λ v. v.items ≡ spec.told_text text.now part.now) }
+/// Returns a line for each thing that was left out, and a last line of counts. Fails if memory runs
+/// out.
+pub fn told_text(alloc: Global, part: &ScenePart) -> Result<Vec<u8>, AllocError>
+    ensures { IfOk result (λ v. v.items ≡ spec.told_text part.now) }
 {
     let mut out = Vec::new(alloc);
-    push_told(text, part, &mut out)?;
+    push_told(part, &mut out)?;
     Ok(out)
 }

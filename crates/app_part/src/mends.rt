@@ -1,167 +1,115 @@
-//! Which parts of a line are left out for a fault.
+//! Which part of a text is left out for a fault.
 
-ghost use Rattle.std.specs.Prelude.{◌≡◌};
+ghost use Rattle.std.specs.Prelude.{◌≡◌, ◌∷◌, [], not, IfOk};
 ghost use Rattle.std.specs.List.{list_any};
-ghost use Rattle.classic_part.specs.Notes.{is_at};
-ghost use Rattle.app_program.specs.Refusal.{job_fault_line};
 ghost use Rattle.app_part.specs.Mends as spec;
 
 use app_jobs::JobFault;
-use classic_part::{Level, Refusal};
 use classic_text::ReadFaultKind;
 use proto_flat::ExpandFaultKind;
 use route_core::RouteFaultKind;
 use scene_core::SceneFaultKind;
+use scene_faults::{Blame, Reason};
+use std::alloc::{AllocError, Global};
+use x3d_values::Items;
 
-static FIELD_FIRST: [Level; 5] = [
-    Level::Field,
-    Level::Use,
-    Level::Route,
-    Level::Node,
-    Level::Proto,
-];
-
-static USE_FIRST: [Level; 5] = [
-    Level::Use,
-    Level::Field,
-    Level::Route,
-    Level::Node,
-    Level::Proto,
-];
-
-static ROUTE_FIRST: [Level; 5] = [
-    Level::Route,
-    Level::Field,
-    Level::Use,
-    Level::Node,
-    Level::Proto,
-];
-
-static NODE_FIRST: [Level; 5] = [
-    Level::Node,
-    Level::Use,
-    Level::Field,
-    Level::Route,
-    Level::Proto,
-];
-
-static PROTO_FIRST: [Level; 5] = [
-    Level::Proto,
-    Level::Node,
-    Level::Field,
-    Level::Use,
-    Level::Route,
-];
-
-fn expand_levels(kind: ExpandFaultKind) -> &'static [Level]
-    ensures { result.now ≡ spec.expand_levels kind }
+fn of_expand(kind: ExpandFaultKind) -> bool
+    ensures { result ≡ spec.of_expand kind }
 {
-    match kind {
-        ExpandFaultKind::UnknownNode => &NODE_FIRST,
-        ExpandFaultKind::UnknownField => &FIELD_FIRST,
-        ExpandFaultKind::ProtoTwice => &PROTO_FIRST,
-        ExpandFaultKind::ProtoItself => &NODE_FIRST,
-        ExpandFaultKind::EmptyBody => &PROTO_FIRST,
-        ExpandFaultKind::BadIs => &FIELD_FIRST,
-        ExpandFaultKind::UseWithoutDef => &USE_FIRST,
-        ExpandFaultKind::FieldTwice => &FIELD_FIRST,
-        ExpandFaultKind::TooLarge => &[],
-        ExpandFaultKind::Memory => &[],
-    }
+    !matches!(kind, ExpandFaultKind::TooLarge | ExpandFaultKind::Memory)
 }
 
-fn scene_levels(kind: SceneFaultKind) -> &'static [Level]
-    ensures { result.now ≡ spec.scene_levels kind }
+fn of_scene(kind: SceneFaultKind) -> bool
+    ensures { result ≡ spec.of_scene kind }
 {
-    match kind {
-        SceneFaultKind::WrongType => &FIELD_FIRST,
-        SceneFaultKind::ValueRange => &FIELD_FIRST,
-        SceneFaultKind::RotationUnsupported => &FIELD_FIRST,
-        SceneFaultKind::NotInitial => &FIELD_FIRST,
-        SceneFaultKind::BadChild => &FIELD_FIRST,
-        SceneFaultKind::TooDeep => &[],
-        SceneFaultKind::TooMany => &[],
-        SceneFaultKind::Memory => &[],
-    }
+    !matches!(
+        kind,
+        SceneFaultKind::TooDeep | SceneFaultKind::TooMany | SceneFaultKind::Memory
+    )
 }
 
-fn route_levels(kind: RouteFaultKind) -> &'static [Level]
-    ensures { result.now ≡ spec.route_levels kind }
+fn of_route(kind: RouteFaultKind) -> bool
+    ensures { result ≡ spec.of_route kind }
 {
-    match kind {
-        RouteFaultKind::NoSuchNode => &ROUTE_FIRST,
-        RouteFaultKind::NoSuchField => &ROUTE_FIRST,
-        RouteFaultKind::NotOutput => &ROUTE_FIRST,
-        RouteFaultKind::NotInput => &ROUTE_FIRST,
-        RouteFaultKind::TypesDiffer => &ROUTE_FIRST,
-        RouteFaultKind::NodeEvent => &ROUTE_FIRST,
-        RouteFaultKind::TooMany => &[],
-        RouteFaultKind::Memory => &[],
-    }
+    !matches!(kind, RouteFaultKind::TooMany | RouteFaultKind::Memory)
 }
 
-/// Returns which parts of a fault's line are left out, in the order in which that is tried.
-fn levels_of(fault: &JobFault) -> &'static [Level]
-    ensures { result.now ≡ spec.levels_of fault.now }
+fn blame_if(is_blamed: bool, line: u32, reason: Reason) -> Option<Blame>
+    ensures { result ≡ spec.blame_if is_blamed line reason }
+{
+    if is_blamed {
+        return Some(Blame { line, reason });
+    }
+    None
+}
+
+/// Returns the part that is at fault, or `None` for a limit, for memory, or for a fault of reading.
+fn blame_of(fault: &JobFault) -> Option<Blame>
+    ensures { result ≡ spec.blame_of fault.now }
 {
     match fault {
-        JobFault::Expand(fault) => expand_levels(fault.kind),
-        JobFault::Scene(fault) => scene_levels(fault.kind),
-        JobFault::Route(fault) => route_levels(fault.kind),
-        _ => &[],
+        JobFault::Expand(fault) => blame_if(
+            of_expand(fault.kind),
+            fault.line,
+            Reason::Expand(fault.kind),
+        ),
+        JobFault::Scene(fault) => blame_if(
+            of_scene(fault.kind),
+            fault.line,
+            Reason::Scene(fault.kind),
+        ),
+        JobFault::Route(fault) => blame_if(
+            of_route(fault.kind),
+            fault.line,
+            Reason::Route(fault.kind),
+        ),
+        _ => None,
     }
 }
 
-/// Returns the line of a fault, or 0 if it has none.
-pub(crate) fn line_of(fault: &JobFault) -> u32
-    ensures { result ≡ job_fault_line fault.now }
+/// Reports whether what begins at a place was left out before.
+fn is_gone(refused: &[u32], at: u32) -> bool
+    ensures { result ≡ spec.is_gone refused.now at }
 {
-    match fault {
-        JobFault::BadJob(line) => *line,
-        JobFault::Read(fault) => fault.line,
-        JobFault::Expand(fault) => fault.line,
-        JobFault::Scene(fault) => fault.line,
-        JobFault::Route(fault) => fault.line,
-        _ => 0,
+    refused.iter().any(|other| *other == at)
+}
+
+fn is_any_left(refused: &[u32], blames: &[Blame]) -> bool
+    ensures { result ≡ list_any (λ b. not (spec.is_gone refused.now (spec.place b))) blames.now }
+{
+    blames.iter().any(|blame| !is_gone(refused, blame.line))
+}
+
+/// Returns one blame as a list.
+fn only(alloc: Global, blame: Blame) -> Result<Items<Blame>, AllocError>
+    ensures { IfOk result (λ list. list ≡ blame ∷ []) }
+{
+    Items::from_slice(alloc, &[blame])
+}
+
+/// Returns what goes of a part that has this first fault, besides what begins at these
+/// places, if anything is: what a node or a route alone tells, or else what the first fault is of.
+/// Fails if memory runs out.
+pub(crate) fn mends(
+    alloc: Global,
+    refused: &[u32],
+    fault: &JobFault,
+    blames: Items<Blame>,
+) -> Result<Option<Items<Blame>>, AllocError>
+    ensures { IfOk result (λ r. r ≡ spec.mends refused.now fault.now blames) }
+{
+    let Some(first) = blame_of(fault) else {
+        drop(blames);
+        return Ok(None);
+    };
+    if is_any_left(refused, blames.as_slice()) {
+        return Ok(Some(blames));
     }
-}
-
-fn is_at(level: Level, line: u32, refusal: &Refusal) -> bool
-    ensures { result ≡ is_at level line refusal.now }
-{
-    refusal.level == level && refusal.line == line
-}
-
-/// Reports whether parts of that level on that line are refused.
-fn is_refused(refused: &[Refusal], level: Level, line: u32) -> bool
-    ensures { result ≡ list_any (is_at level line) refused.now }
-{
-    refused.iter().any(|refusal| is_at(level, line, refusal))
-}
-
-/// Returns the first of these levels that isn't refused on that line.
-fn first_left(levels: &[Level], refused: &[Refusal], line: u32) -> Option<Refusal>
-    ensures { result ≡ spec.first_left line refused.now levels.now }
-{
-    match levels {
-        [] => None,
-        [level, others @ ..] => {
-            if is_refused(refused, *level, line) {
-                return first_left(others, refused, line);
-            }
-            Some(Refusal {
-                line,
-                level: *level,
-            })
-        }
+    drop(blames);
+    if is_gone(refused, first.line) {
+        return Ok(None);
     }
-}
-
-/// Returns what to refuse besides these for a fault, if anything is left to refuse.
-pub(crate) fn mend(refused: &[Refusal], fault: &JobFault) -> Option<Refusal>
-    ensures { result ≡ spec.mend refused.now fault.now }
-{
-    first_left(levels_of(fault), refused, line_of(fault))
+    Ok(Some(only(alloc, first)?))
 }
 
 fn is_unsupported(fault: &JobFault) -> bool
@@ -178,5 +126,5 @@ fn is_unsupported(fault: &JobFault) -> bool
 pub(crate) fn is_limit(fault: &JobFault) -> bool
     ensures { result ≡ spec.is_limit fault.now }
 {
-    levels_of(fault).len() == 0 && !is_unsupported(fault)
+    blame_of(fault).is_none() && !is_unsupported(fault)
 }

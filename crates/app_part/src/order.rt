@@ -1,4 +1,4 @@
-//! The notes on what was left out, in the order of the lines.
+//! The notes on what was left out, in the order of their places.
 
 ghost use Rattle.std.specs.Prelude.{◌≡◌, IfOk};
 ghost use Rattle.app_part.specs.Order as spec;
@@ -8,8 +8,8 @@ use classic_part::Note;
 use std::alloc::AllocError;
 use x3d_values::Items;
 
-fn by_line(notes: Items<Note>) -> Result<Items<Note>, AllocError>
-    ensures { IfOk result (spec.AreByLine notes) }
+fn by_place(notes: Items<Note>) -> Result<Items<Note>, AllocError>
+    ensures { IfOk result (spec.AreByPlace notes) }
 {
     let mut notes = notes.into_vec();
     let Ok(()) = notes.sort_by_key(|note| note.line) else {
@@ -19,27 +19,33 @@ fn by_line(notes: Items<Note>) -> Result<Items<Note>, AllocError>
     Ok(Items::from_vec(notes))
 }
 
-/// Returns a part with its notes in the order of their lines; those of one line stay in the order
-/// of the rounds. Fails if memory runs out.
+/// Returns a part with its notes in the order of their places, which is that of the text. Fails if
+/// memory runs out.
 pub fn ordered(part: ScenePart) -> Result<ScenePart, AllocError>
     ensures { IfOk result (spec.IsOrdered part) }
 {
     let ScenePart {
         text,
+        source,
+        lines,
         unread,
         left,
-        faults,
+        blames,
     } = part;
-    let Ok(left) = by_line(left) else {
+    let Ok(left) = by_place(left) else {
         drop(text);
+        drop(source);
+        drop(lines);
         drop(unread);
-        drop(faults);
+        drop(blames);
         return Err(AllocError);
     };
     Ok(ScenePart {
         text,
+        source,
+        lines,
         unread,
         left,
-        faults,
+        blames,
     })
 }

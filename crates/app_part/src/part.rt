@@ -1,101 +1,146 @@
 //! The part of a text that is a scene.
 
-ghost use Rattle.std.specs.Prelude.{◌≡◌, ◌⊎◌, Err, IfOk, IfErr};
+ghost use Rattle.std.specs.Prelude.{◌≡◌, ◌⊎◌, ◌++◌, ◌∷◌, [], Err, IfOk, IfErr, OnOk};
 ghost use Rattle.app_jobs.specs.declared.fault.JobFault.TheVariants.{Memory};
 ghost use Rattle.app_program.specs.Opening.{opened};
+ghost use Rattle.app_part.specs.Mends.{place, places};
 ghost use Rattle.app_part.specs.Parts as spec;
 ghost use Rattle.app_part.specs.Whole as whole;
 
 use crate::checks::{answer, checked};
-use crate::mends::mend;
+use crate::judging::Refused;
+use crate::mends::mends as mend;
+use crate::places::{Placed, is_memory, placed_of};
 use crate::tries::{Made, no_part, text_of, tried};
 use app_jobs::JobFault;
 use app_program::open_scene;
-use classic_lenient::{Lenient, Unread, read_lenient};
-use classic_part::{Note, Refusal};
+use classic_lenient::{Lenient, Unread, as_x3d, read_lenient};
+use classic_part::Note;
 use classic_text::read;
 use classic_tree::Document;
-use std::alloc::Global;
+use scene_faults::Blame;
+use std::alloc::{AllocError, Global};
 use x3d_values::Items;
 
-/// How often a fault's part is left out.
+/// How often what is at fault is left out.
 const MAX_TRIES: u32 = 1 << 16;
 
 /// The part of a text that is a scene, and what was left out: statements that aren't read, the
-/// notes on nodes, fields and the like, and the faults for which more was left out.
+/// notes on nodes, fields and the like, and what was at fault. Each has a place: the line in
+/// `source`, the text with its tokens apart. `lines` has the lines of places.
 #[derive(Drop)]
 pub struct ScenePart {
     pub text: Vec<u8>,
+    pub source: Vec<u8>,
+    pub lines: Vec<u32>,
     pub unread: Items<Unread>,
     pub left: Items<Note>,
-    pub faults: Items<JobFault>,
+    pub blames: Items<Blame>,
 }
 
-/// What is refused of a document, and the faults for which.
+/// What goes of a document, and where that begins.
 #[derive(Drop)]
 pub(crate) struct Mends {
-    pub refused: Items<Refusal>,
-    pub faults: Items<JobFault>,
+    pub refused: Items<u32>,
+    pub blames: Items<Blame>,
 }
 
-/// Refuses one thing more for a fault. Fails with that fault if nothing is left to refuse, and it
-/// is a limit.
-fn refuse_more(mends: &mut Mends, fault: JobFault) -> Result<(), JobFault>
-    ensures more { IfOk result (λ _. whole.IsOneMore mends.old mends.new fault) }
-    ensures refused { IfErr result (λ f. (f ≡ Memory)
-        ⊎ ((f ≡ spec.no_part) ⊎ whole.IsLast mends.old fault f)) }
+/// Leaves out what a blame is of.
+fn push_blame(mends: &mut Mends, blame: Blame) -> Result<(), AllocError>
+    ensures left { OnOk result (mends.new.blames ≡ mends.old.blames ++ blame ∷ []) }
+    ensures places { OnOk result (mends.new.refused ≡ mends.old.refused ++ place blame ∷ []) }
 {
-    let Some(refusal) = mend(mends.refused.as_slice(), &fault) else {
-        return Err(answer(fault));
-    };
-    mends.refused.push(refusal)?;
-    mends.faults.push(fault)?;
+    mends.refused.push(blame.line)?;
+    mends.blames.push(blame)
+}
+
+fn push_blames(mends: &mut Mends, blames: &[Blame]) -> Result<(), AllocError>
+    ensures left { OnOk result (mends.new.blames ≡ mends.old.blames ++ blames.now) }
+    ensures places { OnOk result (mends.new.refused ≡ mends.old.refused ++ places blames.now) }
+{
+    for blame in blames {
+        push_blame(mends, *blame)?;
+    }
     Ok(())
 }
 
+/// Leaves out what is at fault. Fails with the first fault if that is a limit.
+fn leave_out(alloc: Global, mends: &mut Mends, refused: Refused) -> Result<(), JobFault>
+    ensures more { OnOk result
+        (whole.IsMore mends.old mends.new refused.fault refused.blames) }
+    ensures refused { IfErr result (λ f. (f ≡ Memory)
+        ⊎ ((f ≡ spec.no_part) ⊎ whole.IsLast refused.fault f)) }
+{
+    let Refused { fault, blames } = refused;
+    let Some(more) = mend(alloc, mends.refused.as_slice(), &fault, blames)? else {
+        return Err(answer(fault));
+    };
+    let pushed = push_blames(mends, more.as_slice());
+    drop(more);
+    Ok(pushed?)
+}
+
 /// Returns the part of a document that is a scene. Fails with the fault of a part of which nothing
-/// is left to refuse.
+/// is left out.
 fn mended(alloc: Global, document: &Document, mends: &mut Mends) -> Result<Made, JobFault>
-    requires { spec.Mending document.now mends.old.refused mends.old.faults }
+    requires { whole.IsMending document.now mends.old }
     ensures made { IfOk result (λ m. whole.IsMended document.now mends.new m) }
     ensures refused { IfErr result (whole.IsUnmended document.now) }
 {
     for _turn in 0..MAX_TRIES {
         match tried(alloc, document, mends.refused.as_slice()) {
             Ok(made) => return Ok(made),
-            Err(fault) => refuse_more(mends, fault)?,
+            Err(refused) => leave_out(alloc, mends, refused)?,
         }
     }
     Err(no_part())
 }
 
-/// Returns the part of a text's document.
-fn part_of_document(alloc: Global, lenient: Lenient) -> Result<ScenePart, JobFault>
-    ensures made { IfOk result (whole.IsPartOf lenient) }
-    ensures refused { IfErr result (whole.IsUnmended lenient.document) }
+/// Returns the part of the tree of a text.
+fn part_of_tree(alloc: Global, placed: Placed) -> Result<ScenePart, JobFault>
+    ensures made { IfOk result (whole.IsPartOf placed) }
+    ensures refused { IfErr result (whole.IsUnmended placed.lenient.document) }
 {
     let mut mends = Mends {
         refused: Items::new(alloc),
-        faults: Items::new(alloc),
+        blames: Items::new(alloc),
     };
+    let Placed {
+        lenient,
+        source,
+        lines,
+    } = placed;
     let Lenient { document, unread } = lenient;
     let made = mended(alloc, &document, &mut mends);
     drop(document);
-    let Mends { refused, faults } = mends;
+    let Mends { refused, blames } = mends;
     drop(refused);
     match made {
         Ok(Made { text, left }) => Ok(ScenePart {
             text,
+            source,
+            lines,
             unread,
             left,
-            faults,
+            blames,
         }),
         Err(fault) => {
+            drop(source);
+            drop(lines);
             drop(unread);
-            drop(faults);
+            drop(blames);
             Err(fault)
         }
     }
+}
+
+/// Returns the part of a text, which was read.
+fn part_of_lenient(alloc: Global, text: &[u8], lenient: Lenient) -> Result<ScenePart, JobFault>
+    ensures made { IfOk result (whole.IsPartOfLenient text.now lenient) }
+    ensures refused { IfErr result (whole.HasNoPartOf text.now lenient) }
+{
+    let placed = placed_of(alloc, text, lenient)?;
+    part_of_tree(alloc, placed)
 }
 
 /// Returns the part of a text that is no scene, for the fault `first`.
@@ -105,7 +150,7 @@ fn lesser_part(alloc: Global, text: &[u8], first: JobFault) -> Result<ScenePart,
     ensures refused { IfErr result (λ f. opened text.now ≡ Err first → whole.IsRefused text.now f) }
 {
     match read_lenient(alloc, text) {
-        Ok(lenient) => part_of_document(alloc, lenient),
+        Ok(lenient) => part_of_lenient(alloc, text, lenient),
         Err(fault) => Err(JobFault::from(fault)),
     }
 }
@@ -118,18 +163,19 @@ fn written_part(alloc: Global, text: &[u8]) -> Result<ScenePart, JobFault>
     let document = read(alloc, text)?;
     let written = text_of(alloc, &document);
     drop(document);
+    let written = written?;
+    let Ok(source) = as_x3d(alloc, text) else {
+        drop(written);
+        return Err(JobFault::Memory);
+    };
     Ok(ScenePart {
-        text: written?,
+        text: written,
+        source,
+        lines: Vec::new(alloc),
         unread: Items::new(alloc),
         left: Items::new(alloc),
-        faults: Items::new(alloc),
+        blames: Items::new(alloc),
     })
-}
-
-fn is_memory(fault: JobFault) -> bool
-    ensures { result ≡ whole.says_memory fault }
-{
-    matches!(fault, JobFault::Memory)
 }
 
 /// Returns the part of a text.

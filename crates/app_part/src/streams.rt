@@ -30,12 +30,12 @@ pub struct KeptTexts {
     pub lost: Option<Vec<u8>>,
 }
 
-/// Returns the text of a part of these bytes with the lines on what was left out.
-fn with_told(alloc: Global, bytes: &[u8], part: ScenePart) -> Result<PartTexts, JobFault>
-    ensures texts { IfOk result (spec.AreShown bytes.now part) }
+/// Returns the text of a part with the lines on what was left out.
+fn with_told(alloc: Global, part: ScenePart) -> Result<PartTexts, JobFault>
+    ensures texts { IfOk result (spec.AreShown part) }
     ensures refused { IfErr result (λ f. f ≡ Memory) }
 {
-    let Ok(told) = told_text(alloc, bytes, &part) else {
+    let Ok(told) = told_text(alloc, &part) else {
         drop(part);
         return Err(JobFault::Memory);
     };
@@ -45,7 +45,7 @@ fn with_told(alloc: Global, bytes: &[u8], part: ScenePart) -> Result<PartTexts, 
     })
 }
 
-/// Returns the part of these bytes, with the notes in the order of their lines.
+/// Returns the part of these bytes, with the notes in the order of their places.
 fn ordered_part(alloc: Global, bytes: &[u8]) -> Result<ScenePart, JobFault>
     ensures part { IfOk result (spec.IsOrderedPart bytes.now) }
     ensures refused { IfErr result (IsRefused bytes.now) }
@@ -61,21 +61,16 @@ fn texts_of(alloc: Global, bytes: &[u8]) -> Result<PartTexts, JobFault>
     ensures refused { IfErr result (IsRefused bytes.now) }
 {
     let part = ordered_part(alloc, bytes)?;
-    with_told(alloc, bytes, part)
+    with_told(alloc, part)
 }
 
 /// Returns the texts of a part, with what is said of the first name that it lacks.
-fn with_lost(
-    alloc: Global,
-    bytes: &[u8],
-    part: ScenePart,
-    lost: Option<Vec<u8>>,
-) -> Result<KeptTexts, JobFault>
-    ensures texts { IfOk result (λ k. spec.AreShown bytes.now part k.texts) }
+fn with_lost(alloc: Global, part: ScenePart, lost: Option<Vec<u8>>) -> Result<KeptTexts, JobFault>
+    ensures texts { IfOk result (λ k. spec.AreShown part k.texts) }
     ensures lost { IfOk result (λ k. option_map (λ v. v.items) k.lost
         ≡ option_map (λ v. v.items) lost) }
 {
-    match with_told(alloc, bytes, part) {
+    match with_told(alloc, part) {
         Ok(texts) => Ok(KeptTexts { texts, lost }),
         Err(fault) => {
             drop(lost);
@@ -90,8 +85,8 @@ fn kept_texts_of(alloc: Global, bytes: &[u8], names: &[u8]) -> Result<KeptTexts,
     ensures texts { IfOk result (spec.AreKeptTexts bytes.now names.now) }
 {
     let part = ordered_part(alloc, bytes)?;
-    match lost_text(alloc, bytes, &part, names) {
-        Ok(lost) => with_lost(alloc, bytes, part, lost),
+    match lost_text(alloc, &part, names) {
+        Ok(lost) => with_lost(alloc, part, lost),
         Err(fault) => {
             drop(part);
             Err(fault)

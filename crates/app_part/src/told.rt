@@ -3,13 +3,12 @@
 ghost use Rattle.std.specs.Prelude.{◌≡◌, ◌++◌, OnOk};
 ghost use Rattle.app_part.specs.Told as spec;
 
-use crate::mends::line_of;
+use crate::apart::line_at;
 use crate::words::{after_name, after_unread, before_name, before_unread, is_refused};
-use app_jobs::JobFault;
-use app_program::job_fault_name;
 use classic_lenient::{Unread, bytes_at};
 use classic_part::Note;
 use itoa::Buffer;
+use scene_faults::Blame;
 use std::alloc::AllocError;
 
 /// Appends `line N: `.
@@ -35,8 +34,8 @@ fn push_three(one: &[u8], two: &[u8], three: &[u8], out: &mut Vec<u8>) -> Result
 }
 
 /// Appends the field that a node was in, if it was in one.
-fn push_place(field: &str, out: &mut Vec<u8>) -> Result<(), AllocError>
-    ensures { OnOk result (out.new.items ≡ out.old.items ++ spec.place field.now) }
+fn push_field(field: &str, out: &mut Vec<u8>) -> Result<(), AllocError>
+    ensures { OnOk result (out.new.items ≡ out.old.items ++ spec.in_field field.now) }
 {
     if field.is_empty() {
         return Ok(());
@@ -44,27 +43,24 @@ fn push_place(field: &str, out: &mut Vec<u8>) -> Result<(), AllocError>
     push_three(b" (field ", field.as_bytes(), b")", out)
 }
 
-/// Returns the name of the first fault on a line, or nothing.
-fn reason_of(faults: &[JobFault], line: u32) -> &'static str
-    ensures { result.now ≡ spec.reason_of faults.now line }
+/// Returns the name of the first fault at a place, or nothing.
+fn reason_of(blames: &[Blame], at: u32) -> &'static str
+    ensures { result.now ≡ spec.reason_of blames.now at }
 {
-    match faults {
-        [] => "",
-        [fault, others @ ..] => {
-            if line_of(fault) == line {
-                return job_fault_name(fault);
-            }
-            reason_of(others, line)
+    for blame in blames {
+        if blame.line == at {
+            return blame.reason.name();
         }
     }
+    ""
 }
 
 /// Appends the fault for which something was left out.
-fn push_reason(note: &Note, faults: &[JobFault], out: &mut Vec<u8>) -> Result<(), AllocError>
-    ensures { OnOk result (out.new.items ≡ out.old.items ++ spec.reason note.now faults.now) }
+fn push_reason(note: &Note, blames: &[Blame], out: &mut Vec<u8>) -> Result<(), AllocError>
+    ensures { OnOk result (out.new.items ≡ out.old.items ++ spec.reason note.now blames.now) }
 {
     if is_refused(note.kind) {
-        out.extend_from_slice(reason_of(faults, note.line).as_bytes())?;
+        out.extend_from_slice(reason_of(blames, note.line).as_bytes())?;
     }
     Ok(())
 }
@@ -82,11 +78,11 @@ fn push_words(note: &Note, out: &mut Vec<u8>) -> Result<(), AllocError>
 }
 
 /// Appends the end of a note's line.
-fn push_end(note: &Note, faults: &[JobFault], out: &mut Vec<u8>) -> Result<(), AllocError>
-    ensures { OnOk result (out.new.items ≡ out.old.items ++ spec.ending note.now faults.now) }
+fn push_end(note: &Note, blames: &[Blame], out: &mut Vec<u8>) -> Result<(), AllocError>
+    ensures { OnOk result (out.new.items ≡ out.old.items ++ spec.ending note.now blames.now) }
 {
-    push_reason(note, faults, out)?;
-    push_place(note.field.as_str(), out)?;
+    push_reason(note, blames, out)?;
+    push_field(note.field.as_str(), out)?;
     out.extend_from_slice(b"\n")?;
     Ok(())
 }
@@ -95,15 +91,16 @@ fn push_end(note: &Note, faults: &[JobFault], out: &mut Vec<u8>) -> Result<(), A
 #[tactic(auto, unfolding(crate::specs::Told::note_line))]
 pub(crate) fn push_note(
     note: &Note,
-    faults: &[JobFault],
+    lines: &[u32],
+    blames: &[Blame],
     out: &mut Vec<u8>,
 ) -> Result<(), AllocError>
     ensures { OnOk result
-        (out.new.items ≡ out.old.items ++ spec.note_line faults.now note.now) }
+        (out.new.items ≡ out.old.items ++ spec.note_line lines.now blames.now note.now) }
 {
-    push_head(note.line, out)?;
+    push_head(line_at(lines, note.line), out)?;
     push_words(note, out)?;
-    push_end(note, faults, out)
+    push_end(note, blames, out)
 }
 
 /// Appends what is said of a statement that isn't read.
@@ -121,12 +118,17 @@ fn push_unread_words(unread: &Unread, name: &[u8], out: &mut Vec<u8>) -> Result<
 
 /// Appends the line of a statement of a text that isn't read.
 #[tactic(auto, unfolding(crate::specs::Told::unread_line))]
-pub(crate) fn push_unread(text: &[u8], unread: &Unread, out: &mut Vec<u8>) -> Result<(), AllocError>
+pub(crate) fn push_unread(
+    source: &[u8],
+    lines: &[u32],
+    unread: &Unread,
+    out: &mut Vec<u8>,
+) -> Result<(), AllocError>
     ensures { OnOk result
-        (out.new.items ≡ out.old.items ++ spec.unread_line text.now unread.now) }
+        (out.new.items ≡ out.old.items ++ spec.unread_line source.now lines.now unread.now) }
 {
-    let name = bytes_at(text, unread.name_start, unread.name_end);
-    push_head(unread.line, out)?;
+    let name = bytes_at(source, unread.name_start, unread.name_end);
+    push_head(line_at(lines, unread.line), out)?;
     push_unread_words(unread, name, out)?;
     out.extend_from_slice(b"\n")?;
     Ok(())

@@ -3,11 +3,12 @@
 ghost use Rattle.std.specs.Prelude.{◌≡◌, ◌⊎◌, [], IfOk, IfErr, OnOk};
 ghost use Rattle.app_jobs.specs.declared.fault.JobFault.TheVariants.{Memory};
 ghost use Rattle.app_part.specs.Parts as spec;
+ghost use Rattle.app_part.specs.Judging.{IsToldBad};
 ghost use Rattle.classic_tree.specs.Writing.{document_text};
 
+use crate::judging::{Refused, judged};
 use app_jobs::JobFault;
-use app_program::open_document;
-use classic_part::{Note, Refusal, part_of};
+use classic_part::{Note, part_of};
 use classic_tree::{Document, write};
 use proto_flat::{ExpandFault, ExpandFaultKind};
 use std::alloc::{AllocError, Global};
@@ -34,7 +35,7 @@ pub(crate) fn no_part() -> JobFault
 fn settled(
     alloc: Global,
     document: &Document,
-    refused: &[Refusal],
+    refused: &[u32],
     left: &mut Items<Note>,
 ) -> Result<Document, JobFault>
     requires { left.old ≡ [] }
@@ -47,20 +48,6 @@ fn settled(
     }
 }
 
-/// Tells whether a document is a scene.
-pub(crate) fn judged(alloc: Global, document: Document) -> Result<(), JobFault>
-    ensures good { OnOk result (spec.IsGood document) }
-    ensures bad { IfErr result (λ f. (f ≡ Memory) ⊎ spec.IsBad document f) }
-{
-    match open_document(alloc, document) {
-        Ok(opened) => {
-            drop(opened);
-            Ok(())
-        }
-        Err(fault) => Err(fault),
-    }
-}
-
 /// Returns the text of a document.
 pub(crate) fn text_of(alloc: Global, document: &Document) -> Result<Vec<u8>, AllocError>
     ensures { IfOk result (λ v. v.items ≡ document_text document.now) }
@@ -70,38 +57,56 @@ pub(crate) fn text_of(alloc: Global, document: &Document) -> Result<Vec<u8>, All
     Ok(text)
 }
 
+fn without_blames(alloc: Global, fault: JobFault) -> Refused
+    ensures { result.fault ≡ fault }
+{
+    Refused {
+        fault,
+        blames: Items::new(alloc),
+    }
+}
+
 /// Returns the text of a document that is a scene.
-fn text_if_good(alloc: Global, document: Document) -> Result<Vec<u8>, JobFault>
+fn text_if_good(alloc: Global, document: Document) -> Result<Vec<u8>, Refused>
     ensures text { IfOk result (λ v. v.items ≡ document_text document) }
     ensures good { OnOk result (spec.IsGood document) }
-    ensures bad { IfErr result (λ f. (f ≡ Memory) ⊎ spec.IsBad document f) }
+    ensures bad { IfErr result
+        (λ r. (r.fault ≡ Memory) ⊎ IsToldBad document r.fault r.blames) }
 {
     let Ok(text) = text_of(alloc, &document) else {
         drop(document);
-        return Err(JobFault::Memory);
+        return Err(without_blames(alloc, JobFault::Memory));
     };
-    judged(alloc, document)?;
-    Ok(text)
+    match judged(alloc, document) {
+        Ok(()) => Ok(text),
+        Err(refused) => {
+            drop(text);
+            Err(refused)
+        }
+    }
 }
 
-/// Returns the part of a document without what is refused, if that is a scene. Fails with the fault
-/// of that part.
-pub(crate) fn tried(
-    alloc: Global,
-    document: &Document,
-    refused: &[Refusal],
-) -> Result<Made, JobFault>
+/// Returns the part of a document without what begins at refused places, if that is a scene. Fails
+/// with what is at fault in that part.
+pub(crate) fn tried(alloc: Global, document: &Document, refused: &[u32]) -> Result<Made, Refused>
     ensures made { IfOk result (λ m. spec.IsMade document.now refused.now m.text.items m.left) }
     ensures refused { IfErr result
-        (λ f. spec.IsNoTry f ⊎ spec.IsTurnedDown document.now refused.now f) }
+        (λ r. spec.IsNoTry r.fault
+        ⊎ spec.IsTurnedDown document.now refused.now r.fault r.blames) }
 {
     let mut left = Items::new(alloc);
-    let part = settled(alloc, document, refused, &mut left)?;
-    match text_if_good(alloc, part) {
-        Ok(text) => Ok(Made { text, left }),
+    let part = match settled(alloc, document, refused, &mut left) {
+        Ok(part) => part,
         Err(fault) => {
             drop(left);
-            Err(fault)
+            return Err(without_blames(alloc, fault));
+        }
+    };
+    match text_if_good(alloc, part) {
+        Ok(text) => Ok(Made { text, left }),
+        Err(refused) => {
+            drop(left);
+            Err(refused)
         }
     }
 }

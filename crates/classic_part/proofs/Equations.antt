@@ -18,7 +18,6 @@ use Rattle.classic_tree.specs.declared.tree.Statement.TheVariants as statement
 use Rattle.classic_tree.specs.declared.tree.ProtoText.{ProtoText, out-ProtoText, fold_out-ProtoText}
 use Rattle.classic_tree.proofs.Mapped.{given_mapped, declaration_mapped, interface_mapped}
 use Rattle.classic_part.specs.declared.knowing.Known.{Known}
-use Rattle.classic_part.specs.declared.knowing.Level.TheVariants as level
 use Rattle.classic_part.specs.declared.notes.Note.{Note}
 use Rattle.classic_part.specs.declared.notes.NoteKind.TheVariants as kind
 use Rattle.classic_part.specs.declared.rules.FieldRule.{FieldRule}
@@ -87,17 +86,17 @@ ruled_map f line name g rule.Turned = refl
 
 field_map : (f : NodeText → Node) (known : Known) (line : ℕ) (name : List ℕ) (g : Given NodeText) (owner : Meant) → field_part inner known line name (given_mapped f g) owner ≡ field_part (by f) known line name g owner
 field_map f known line name g owner =
-    ap (λ p. if refuses known level.Field line then gone kind.Refused line name [] else p)
+    ap (λ p. if refuses known line then gone kind.Refused line name [] else p)
     (ap (λ t. ruled_part inner line name (given_mapped f g) (field_rule owner name t)) (turns_map f g)
     ∙ ruled_map f line name g (field_rule owner name (turns g)))
 
 declaration_map : (f : NodeText → Node) (known : Known) (d : Declaration NodeText) → declaration_part inner known (declaration_mapped f d) ≡ declaration_part (by f) known d
 declaration_map f known d =
-    ap (λ g. if refuses known level.Field d.line then gone kind.Refused d.line d.name [] else declared_part d g) (given_map f d.name d.given)
+    ap (λ g. if refuses known d.line then gone kind.Refused d.line d.name [] else declared_part d g) (given_map f d.name d.given)
 
 interface_map : (f : NodeText → Node) (known : Known) (d : Declaration NodeText) → declaration_part inner known (interface_mapped f d) ≡ declaration_part (by f) known d
 interface_map f known d =
-    ap (λ g. if refuses known level.Field d.line then gone kind.Refused d.line d.name [] else declared_part d g) (given_map f d.name d.given)
+    ap (λ g. if refuses known d.line then gone kind.Refused d.line d.name [] else declared_part d g) (given_map f d.name d.given)
 
 -- ---- items of a body
 
@@ -132,12 +131,12 @@ node_part-use known line name field = ap (λ whole. node_part known whole field)
 
 abbrev full_by : Known → ℕ → Option (List ℕ) → List ℕ → List ℕ → List BodyItem → List Note → Part NodeText
 full_by known line name word field items notes =
-    if refuses known level.Node line then gone kind.Refused line word field
+    if refuses known line then gone kind.Refused line word field
     else if is_nothing (meaning_of known word) then gone kind.Node line word field
     else braces_part line name word field (meaning_of known word) items notes
 
 pub node_part-full : (known : Known) (line : ℕ) (name : Option (List ℕ)) (word : List ℕ) (items : List BodyItem) (field : List ℕ) → node_part known (node.Full line name word items) field
-    ≡ (if refuses known level.Node line then gone kind.Refused line word field
+    ≡ (if refuses known line then gone kind.Refused line word field
     else if is_nothing (meaning_of known word) then gone kind.Node line word field
     else braces_part line name word field (meaning_of known word) (kept_in (λ i. item_part known i (meaning_of known word)) items)
     (notes_in (λ i. item_part known i (meaning_of known word)) items))
@@ -172,11 +171,11 @@ statement_part-proto known proto = ap (λ whole. statement_part known whole) (sy
 
 abbrev proto_by : Known → ProtoText → List (Declaration NodeText) → List Statement → List Note → List Note → Part ProtoText
 proto_by known p interface body first second =
-    if refuses known level.Proto (out-ProtoText p).line then gone kind.Refused (out-ProtoText p).line (out-ProtoText p).name []
+    if refuses known (out-ProtoText p).line then gone kind.Refused (out-ProtoText p).line (out-ProtoText p).name []
     else body_part (out-ProtoText p).line (out-ProtoText p).name interface body (first ++ second)
 
 pub proto_part_is : (known : Known) (p : ProtoText) → proto_part known p
-    ≡ (if refuses known level.Proto (out-ProtoText p).line then gone kind.Refused (out-ProtoText p).line (out-ProtoText p).name []
+    ≡ (if refuses known (out-ProtoText p).line then gone kind.Refused (out-ProtoText p).line (out-ProtoText p).name []
     else body_part (out-ProtoText p).line (out-ProtoText p).name
     (kept_in (declaration_part (λ field n. node_part known n field) known) (out-ProtoText p).interface)
     (kept_in (statement_part known) (out-ProtoText p).body)

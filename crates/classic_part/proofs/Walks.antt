@@ -9,7 +9,6 @@ use Rattle.classic_tree.specs.declared.tree.BodyItem.TheVariants as item
 use Rattle.classic_tree.specs.declared.tree.NodeText.{NodeText}
 use Rattle.classic_tree.specs.declared.tree.NodeText.TheVariants as node
 use Rattle.classic_part.specs.declared.knowing.Known.{Known}
-use Rattle.classic_part.specs.declared.knowing.Level.TheVariants as level
 use Rattle.classic_part.specs.declared.notes.Note.{Note}
 use Rattle.classic_part.specs.declared.notes.NoteKind.TheVariants as kind
 use Rattle.classic_part.specs.declared.rules.FieldRule.{FieldRule}
@@ -40,13 +39,13 @@ thrice a b c old first second new one two three =
 
 -- ---- declarations
 
-declaration_is : (known : Known) (d : Declaration NodeText) (asked : Bool) → asked ≡ refuses known level.Field d.line → asked ≡ false
+declaration_is : (known : Known) (d : Declaration NodeText) (asked : Bool) → asked ≡ refuses known d.line → asked ≡ false
     → declaration_part (nodes_by known) known d ≡ declared_part d (given_part (nodes_by known) d.name d.given)
 declaration_is known d asked by off =
     ap (λ b. if b then gone kind.Refused d.line d.name [] else declared_part d (given_part (nodes_by known) d.name d.given)) (sym by ∙ off)
 
 pub declaration_made : {E : Type 0} (known : Known) (d : Declaration NodeText) (asked : Bool) (name : List ℕ) (g : Option (Given NodeText)) (r : Result (Option (Declaration NodeText)) E)
-    → asked ≡ refuses known level.Field d.line → asked ≡ false → name ≡ d.name → g ≡ (given_part (nodes_by known) name d.given).kept
+    → asked ≡ refuses known d.line → asked ≡ false → name ≡ d.name → g ≡ (given_part (nodes_by known) name d.given).kept
     → IfOk r (λ x. x ≡ Some (declared_as d (given_or g))) → IfOk r (λ x. x ≡ (declaration_part (nodes_by known) known d).kept)
 declaration_made known d asked name g r by off named made h =
     subst (λ y. IfOk r (λ x. x ≡ y))
@@ -54,7 +53,7 @@ declaration_made known d asked name g r by off named made h =
     ∙ sym (ap (λ (p : Part (Declaration NodeText)). p.kept) (declaration_is known d asked by off))) h
 
 pub declaration_told : {A E : Type 0} (known : Known) (d : Declaration NodeText) (asked : Bool) (name : List ℕ) (old new : List Note) (r : Result A E)
-    → asked ≡ refuses known level.Field d.line → asked ≡ false → name ≡ d.name → new ≡ old ++ (given_part (nodes_by known) name d.given).notes
+    → asked ≡ refuses known d.line → asked ≡ false → name ≡ d.name → new ≡ old ++ (given_part (nodes_by known) name d.given).notes
     → OnOk r (new ≡ old ++ (declaration_part (nodes_by known) known d).notes)
 declaration_told known d asked name old new r by off named told =
     on_ok r (told ∙ ap (λ ns. old ++ ns) (ap (λ n. (given_part (nodes_by known) n d.given).notes) named
@@ -63,7 +62,7 @@ declaration_told known d asked name old new r by off named told =
 -- ---- fields
 
 pub field_made : {E : Type 0} (known : Known) (line : ℕ) (name own : List ℕ) (g : Given NodeText) (m : Meant) (asked turned : Bool) (rule : FieldRule) (r : Result (Option BodyItem) E)
-    → asked ≡ refuses known level.Field line → asked ≡ false → own ≡ name → turned ≡ turns g → rule ≡ field_rule m own turned
+    → asked ≡ refuses known line → asked ≡ false → own ≡ name → turned ≡ turns g → rule ≡ field_rule m own turned
     → IfOk r (λ x. x ≡ (ruled_part (nodes_by known) line own g rule).kept) → IfOk r (λ x. x ≡ (field_part (nodes_by known) known line name g m).kept)
 field_made known line name own g m asked turned rule r by off named turning ruled h =
     subst (λ y. IfOk r (λ x. x ≡ y))
@@ -85,12 +84,12 @@ item_told known it line name g m old new r is h =
 -- ---- nodes
 
 module _ (known : Known) (nd : NodeText) (line : ℕ) (name : Option (List ℕ)) (word one two field : List ℕ) (items xs : List BodyItem) (m : Meant) (asked nothing : Bool) where
-  full_is : nd ≡ node.Full line name word items → asked ≡ refuses known level.Node line → asked ≡ false → one ≡ word → m ≡ meaning_of known one → nothing ≡ is_nothing m → nothing ≡ false → two ≡ word → xs ≡ items
+  full_is : nd ≡ node.Full line name word items → asked ≡ refuses known line → asked ≡ false → one ≡ word → m ≡ meaning_of known one → nothing ≡ is_nothing m → nothing ≡ false → two ≡ word → xs ≡ items
       → node_part known nd field ≡ braces_part line name two field m (kept_in (λ i. item_part known i m) xs) (notes_in (λ i. item_part known i m) xs)
   full_is is by off first means none some second same =
       ap (λ w. node_part known w field) is
       ∙ node_part-full known line name word items field
-      ∙ ap (λ k. if refuses known level.Node line then gone kind.Refused line word field
+      ∙ ap (λ k. if refuses known line then gone kind.Refused line word field
       else if is_nothing k then gone kind.Node line word field
       else braces_part line name word field k (kept_in (λ i. item_part known i k) items) (notes_in (λ i. item_part known i k) items)) (sym (means ∙ ap (λ w. meaning_of known w) first))
       ∙ ap (λ b. if b then gone kind.Refused line word field
@@ -102,7 +101,7 @@ module _ (known : Known) (nd : NodeText) (line : ℕ) (name : Option (List ℕ))
       ∙ ap (λ ys. braces_part line name two field m (kept_in (λ i. item_part known i m) ys) (notes_in (λ i. item_part known i m) ys)) (sym same)
 
   pub node_told : {A E : Type 0} (n0 n1 n2 n3 : List Note) (r : Result A E)
-      → nd ≡ node.Full line name word items → asked ≡ refuses known level.Node line → asked ≡ false → one ≡ word → m ≡ meaning_of known one → nothing ≡ is_nothing m → nothing ≡ false → two ≡ word → xs ≡ items
+      → nd ≡ node.Full line name word items → asked ≡ refuses known line → asked ≡ false → one ≡ word → m ≡ meaning_of known one → nothing ≡ is_nothing m → nothing ≡ false → two ≡ word → xs ≡ items
       → n1 ≡ n0 ++ grouped_notes m line two field → n2 ≡ n1 ++ notes_in (λ i. item_part known i m) xs → OnOk r (n3 ≡ n2 ++ named_notes line name)
       → OnOk r (n3 ≡ n0 ++ (node_part known nd field).notes)
   node_told n0 n1 n2 n3 r is by off first means none some second same grouped inside named =

@@ -2,14 +2,10 @@
 use Rattle.std.specs.Prelude.{ℕ, Bool, true, false, ◌&&◌, ◌==◌, List, Option, Some, None}
 use Rattle.std.specs.List.{list_any}
 use Rattle.std.specs.Str.{bytes_eq}
-use denote.Enum.Bare.{sameb}
 use Rattle.classic_part.specs.declared.notes.Note.{Note}
 use Rattle.classic_part.specs.declared.notes.NoteKind.{NoteKind}
 use Rattle.classic_part.specs.declared.notes.NoteKind.TheVariants.{Named, Declared}
 use Rattle.classic_part.specs.declared.knowing.Known.{Known}
-use Rattle.classic_part.specs.declared.knowing.Level.{Level}
-use Rattle.classic_part.specs.declared.knowing.Refusal.{Refusal}
-use Rattle.classic_part.specs.contracts.knowing.Level as levels
 
 abbrev pub note : NoteKind → ℕ → List ℕ → List ℕ → Note
 note kind line name field = record { kind = kind; line = line; name = name; field = field }
@@ -44,12 +40,10 @@ name_in name (Some notes) = list_any (names name) notes
 abbrev pub knows_name : Known → List ℕ → Bool
 knows_name known name = name_in name known.notes
 
--- parts of that level on that line are refused
-abbrev pub is_at : Level → ℕ → Refusal → Bool
-is_at level line refusal = sameb levels.the_type refusal.level level && refusal.line == line
+-- the line is one of those that are refused
+abbrev pub refused_in : List ℕ → ℕ → Bool
+refused_in refused line = list_any (λ r. r == line) refused
 
-abbrev pub refused_in : List Refusal → Level → ℕ → Bool
-refused_in refused level line = list_any (is_at level line) refused
-
-abbrev pub refuses : Known → Level → ℕ → Bool
-refuses known level line = refused_in known.refused level line
+-- what begins on that line is to be left out
+abbrev pub refuses : Known → ℕ → Bool
+refuses known line = refused_in known.refused line

@@ -20,7 +20,6 @@ use Rattle.classic_tree.specs.declared.tree.RouteText.{RouteText}
 use Rattle.classic_tree.specs.declared.tree.Statement.{Statement, fold-Statement}
 use Rattle.classic_tree.specs.declared.tree.Statement.TheVariants as statement
 use Rattle.classic_part.specs.declared.knowing.Known.{Known}
-use Rattle.classic_part.specs.declared.knowing.Level.TheVariants as level
 use Rattle.classic_part.specs.declared.notes.Note.{Note}
 use Rattle.classic_part.specs.declared.notes.NoteKind.{NoteKind}
 use Rattle.classic_part.specs.declared.notes.NoteKind.TheVariants as kind
@@ -114,7 +113,7 @@ module _ {N : Type 0} (node_part : List ℕ → N → Part NodeText) where
 
   abbrev pub declaration_part : Known → Declaration N → Part (Declaration NodeText)
   declaration_part known d =
-      if refuses known level.Field d.line then gone kind.Refused d.line d.name []
+      if refuses known d.line then gone kind.Refused d.line d.name []
       else declared_part d (given_part d.name d.given)
 
   abbrev pub ruled_part : ℕ → List ℕ → Given N → FieldRule → Part BodyItem
@@ -126,7 +125,7 @@ module _ {N : Type 0} (node_part : List ℕ → N → Part NodeText) where
 
   abbrev pub field_part : Known → ℕ → List ℕ → Given N → Meant → Part BodyItem
   field_part known line name g owner =
-      if refuses known level.Field line then gone kind.Refused line name []
+      if refuses known line then gone kind.Refused line name []
       else ruled_part line name g (field_rule owner name (turns g))
 
 -- ---- routes and uses
@@ -139,12 +138,12 @@ joined_part known r =
 
 abbrev pub route_part : Known → RouteText → Part RouteText
 route_part known r =
-    if refuses known level.Route r.line then gone kind.Refused r.line (codes "ROUTE") []
+    if refuses known r.line then gone kind.Refused r.line (codes "ROUTE") []
     else joined_part known r
 
 abbrev pub use_part : Known → ℕ → List ℕ → List ℕ → Part NodeText
 use_part known line name field =
-    if refuses known level.Use line then gone kind.Refused line name field
+    if refuses known line then gone kind.Refused line name field
     else if knows_name known name then whole (node.Use line name)
     else gone kind.Use line name field
 
@@ -246,7 +245,7 @@ module _ (known : Known) where
   unfoldable pub node_step : NodeText-F Item Node Stated Proto → Node
   node_step (NodeText-F.Use line name) field = use_part known line name field
   node_step (NodeText-F.Full line name word items) field =
-      if refuses known level.Node line then gone kind.Refused line word field
+      if refuses known line then gone kind.Refused line word field
       else full_step line name word items field (meaning_of known word)
 
   unfoldable pub statement_step : Statement-F Item Node Stated Proto → Stated
@@ -257,7 +256,7 @@ module _ (known : Known) where
 
   unfoldable pub proto_step : ProtoText-F Item Node Stated Proto → Proto
   proto_step p =
-      if refuses known level.Proto p.line then gone kind.Refused p.line p.name []
+      if refuses known p.line then gone kind.Refused p.line p.name []
       else body_part p.line p.name
       (kept_in (declaration_part (λ field (n : Node). n field) known) p.interface)
       (kept_in (λ (s : Stated). s) p.body)

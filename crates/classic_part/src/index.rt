@@ -7,8 +7,8 @@ ghost use Rattle.classic_part.specs.Index.{IsOf, holds};
 ghost use Rattle.classic_part.specs.Notes as spec;
 ghost use Rattle.classic_part.specs.declared.notes.Note.{Note as NoteOf};
 
-use crate::knowing::{Known, Level};
-use crate::lines::RefusedLines;
+use crate::knowing::Known;
+use crate::lines::LineSet;
 use crate::notes::Note;
 use std::alloc::{AllocError, AllocFailed, Global};
 use std::collections::BTreeSet;
@@ -33,7 +33,7 @@ pub struct Tables<'k> {
 pub struct Index<'k> {
     known: &'k Known,
     tables: Tables<'k>,
-    lines: RefusedLines,
+    lines: LineSet,
 }
 
 impl<'k> Model for Index<'k> {
@@ -133,7 +133,7 @@ impl<'k> Index<'k> {
     pub(crate) fn of(alloc: Global, known: &'k Known) -> Result<Index<'k>, AllocError>
         ensures { IfOk result (λ i. i ≡ known.now) }
     {
-        let lines = RefusedLines::of(alloc, known.refused.as_slice())?;
+        let lines = LineSet::of(alloc, known.refused.as_slice())?;
         match known_tables(alloc, known) {
             Ok(tables) => Ok(Index {
                 known,
@@ -167,10 +167,10 @@ impl<'k> Index<'k> {
         }
     }
 
-    /// Reports whether parts of that level on that line are to be left out.
-    pub(crate) fn refuses(&self, level: Level, line: u32) -> bool
-        ensures { result ≡ spec.refuses self.now level line }
+    /// Reports whether what begins on that line is to be left out.
+    pub(crate) fn refuses(&self, line: u32) -> bool
+        ensures { result ≡ spec.refuses self.now line }
     {
-        self.lines.refuse(level, line)
+        self.lines.has(line)
     }
 }

@@ -9,7 +9,6 @@ ghost use Rattle.classic_part.specs.Rules.{word_of};
 
 use crate::copies::copied_route;
 use crate::index::Index;
-use crate::knowing::Level;
 use crate::notes::{Note, NoteKind, push_note};
 use crate::rules::Meant;
 use classic_tree::{
@@ -42,7 +41,7 @@ pub(crate) fn use_part(
     ensures told { OnOk result
         (notes.new ≡ notes.old ++ (spec.use_part known.now line name.now field.now).notes) }
 {
-    if known.refuses(Level::Use, line) {
+    if known.refuses(line) {
         push_note(alloc, NoteKind::Refused, line, name.as_str(), field, notes)?;
         return Ok(None);
     }
@@ -88,7 +87,7 @@ pub(crate) fn route_part(
     ensures told { OnOk result
         (notes.new ≡ notes.old ++ (spec.route_part known.now route.now).notes) }
 {
-    if known.refuses(Level::Route, route.line) {
+    if known.refuses(route.line) {
         push_note(alloc, NoteKind::Refused, route.line, "ROUTE", "", notes)?;
         return Ok(None);
     }

@@ -24,6 +24,6 @@ mod rules;
 mod walk;
 
 pub use grouping_nodes::{ChildrenField, Grouping, groupings};
-pub use knowing::{Known, Level, Refusal};
+pub use knowing::Known;
 pub use notes::{Note, NoteKind};
 pub use part::{Round, any_goes, first_round, next_round, one_round, part_of};

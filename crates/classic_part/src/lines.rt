@@ -1,11 +1,8 @@
-//! What was refused, with its lines in order.
+//! The lines that are refused, in order.
 
-ghost use Rattle.std.specs.Prelude.{◌≡◌, ◌==◌, ◌&&◌, ◌||◌, ◌++◌, ◌∷◌, [], List, ℕ, true, false, IfOk, if◌then◌else◌};
+ghost use Rattle.std.specs.Prelude.{◌≡◌, ◌==◌, ◌++◌, ◌∷◌, [], List, ℕ, true, false, IfOk, if◌then◌else◌};
 ghost use Rattle.classic_part.specs.Index.{AreOf, has};
-ghost use Rattle.classic_part.specs.Notes as spec;
-ghost use Rattle.classic_part.specs.declared.knowing.Refusal.{Refusal as RefusalOf};
 
-use crate::knowing::{Level, Refusal};
 use std::alloc::{AllocError, AllocFailed, Global};
 use std::collections::BTreeSet;
 
@@ -13,16 +10,6 @@ use std::collections::BTreeSet;
 #[derive(Drop)]
 pub struct LineSet {
     pub lines: BTreeSet<u32>,
-}
-
-/// The lines of what was refused, by its level.
-#[derive(Drop)]
-pub struct RefusedLines {
-    pub fields: LineSet,
-    pub uses: LineSet,
-    pub routes: LineSet,
-    pub protos: LineSet,
-    pub nodes: LineSet,
 }
 
 impl LineSet {
@@ -34,8 +21,9 @@ impl LineSet {
         }
     }
 
+    /// Reports whether a line is one of these.
     #[tactic(auto, unfolding(crate::specs::Index::has))]
-    fn has(&self, line: u32) -> bool
+    pub(crate) fn has(&self, line: u32) -> bool
         ensures { result ≡ has self.now line }
     {
         self.lines.contains(&line)
@@ -49,67 +37,23 @@ impl LineSet {
         Ok(())
     }
 
-    /// Adds a line, if it is of what these lines are of.
-    fn add_if(&mut self, is_of: bool, line: u32) -> Result<(), AllocError>
-        ensures { IfOk result (λ _. (other : ℕ)
-            → has self.new other ≡ (is_of && line == other || has self.old other)) }
+    /// Adds a line to those that are refused.
+    fn refuse(&mut self, line: u32) -> Result<(), AllocError>
+        ensures { (refused : List ℕ) → AreOf self.old refused
+            → IfOk result (λ _. AreOf self.new (refused ++ line ∷ [])) }
     {
-        if is_of {
-            self.add(line)?;
-        }
-        Ok(())
-    }
-}
-
-impl RefusedLines {
-    fn new(alloc: Global) -> RefusedLines
-        ensures { AreOf result [] }
-    {
-        RefusedLines {
-            fields: LineSet::new(alloc),
-            uses: LineSet::new(alloc),
-            routes: LineSet::new(alloc),
-            protos: LineSet::new(alloc),
-            nodes: LineSet::new(alloc),
-        }
-    }
-
-    /// Adds the line of what is refused.
-    fn add(&mut self, refusal: &Refusal) -> Result<(), AllocError>
-        ensures { (refused : List RefusalOf) → AreOf self.old refused
-            → IfOk result (λ _. AreOf self.new (refused ++ refusal.now ∷ [])) }
-    {
-        let (level, line) = (refusal.level, refusal.line);
-        self.fields.add_if(level == Level::Field, line)?;
-        self.uses.add_if(level == Level::Use, line)?;
-        self.routes.add_if(level == Level::Route, line)?;
-        self.protos.add_if(level == Level::Proto, line)?;
-        self.nodes.add_if(level == Level::Node, line)?;
+        self.add(line)?;
         Ok(())
     }
 
-    /// Returns the lines of what was refused.
-    pub(crate) fn of(alloc: Global, refused: &[Refusal]) -> Result<RefusedLines, AllocError>
+    /// Returns the lines that are refused.
+    pub(crate) fn of(alloc: Global, refused: &[u32]) -> Result<LineSet, AllocError>
         ensures { IfOk result (λ lines. AreOf lines refused.now) }
     {
-        let mut lines = RefusedLines::new(alloc);
-        for refusal in refused {
-            lines.add(refusal)?;
+        let mut lines = LineSet::new(alloc);
+        for line in refused {
+            lines.refuse(*line)?;
         }
         Ok(lines)
-    }
-
-    /// Reports whether parts of that level on that line are refused.
-    pub(crate) fn refuse(&self, level: Level, line: u32) -> bool
-        ensures { (refused : List RefusalOf) → AreOf self.now refused
-            → result ≡ spec.refused_in refused level line }
-    {
-        match level {
-            Level::Field => self.fields.has(line),
-            Level::Use => self.uses.has(line),
-            Level::Route => self.routes.has(line),
-            Level::Proto => self.protos.has(line),
-            Level::Node => self.nodes.has(line),
-        }
     }
 }

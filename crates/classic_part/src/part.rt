@@ -6,7 +6,7 @@ ghost use Rattle.classic_part.specs.Part.{kept_in, notes_in, statement_part};
 ghost use Rattle.classic_part.specs.Rounds as spec;
 
 use crate::index::Index;
-use crate::knowing::{Known, Refusal};
+use crate::knowing::Known;
 use crate::lists::statements_part;
 use crate::notes::Note;
 use classic_tree::{Document, Statement};
@@ -74,11 +74,7 @@ pub fn one_round(alloc: Global, document: &Document, known: &Known) -> Result<Ro
 
 /// Returns what stays in the first round, which takes each name for one that is there. Fails if
 /// memory runs out.
-pub fn first_round(
-    alloc: Global,
-    document: &Document,
-    refused: &[Refusal],
-) -> Result<Round, AllocError>
+pub fn first_round(alloc: Global, document: &Document, refused: &[u32]) -> Result<Round, AllocError>
     ensures { IfOk result (λ r. r ≡ spec.first refused.now document.now) }
 {
     let known = Known {
@@ -90,7 +86,7 @@ pub fn first_round(
 
 /// Returns what stays in a further round, which knows the names that stayed in the round before.
 /// Fails if memory runs out.
-pub fn next_round(alloc: Global, before: &Round, refused: &[Refusal]) -> Result<Round, AllocError>
+pub fn next_round(alloc: Global, before: &Round, refused: &[u32]) -> Result<Round, AllocError>
     ensures { IfOk result (λ r. r ≡ spec.next refused.now before.now) }
 {
     let known = Known {
@@ -124,7 +120,7 @@ fn collect(alloc: Global, notes: &[Note], left: &mut Items<Note>) -> Result<(), 
 pub fn part_of(
     alloc: Global,
     document: &Document,
-    refused: &[Refusal],
+    refused: &[u32],
     left: &mut Items<Note>,
 ) -> Result<Option<Round>, AllocError>
     ensures { IfOk result

@@ -7,7 +7,6 @@ ghost use Rattle.classic_part.specs.Rules.{turns};
 
 use crate::copies::{list_of, plain};
 use crate::index::Index;
-use crate::knowing::Level;
 use crate::leaves::{
     body_part, declared_part, field_item, full_node, is_nothing, push_grouped, route_part, use_part,
 };
@@ -36,7 +35,7 @@ pub(crate) fn node_part(
     match node {
         NodeText::Use(line, name) => use_part(alloc, *line, name, field, known, notes),
         NodeText::Full(line, name, word, items) => {
-            if known.refuses(Level::Node, *line) {
+            if known.refuses(*line) {
                 push_note(alloc, NoteKind::Refused, *line, word.as_str(), field, notes)?;
                 return Ok(None);
             }
@@ -106,7 +105,7 @@ fn field_part(
         given.now meant).notes) }
 {
     let name = name.as_str();
-    if known.refuses(Level::Field, line) {
+    if known.refuses(line) {
         push_note(alloc, NoteKind::Refused, line, name, "", notes)?;
         return Ok(None);
     }
@@ -250,7 +249,7 @@ pub(crate) fn declaration_part(
         declaration.now).notes) }
 {
     let name = declaration.name.as_str();
-    if known.refuses(Level::Field, declaration.line) {
+    if known.refuses(declaration.line) {
         push_note(alloc, NoteKind::Refused, declaration.line, name, "", notes)?;
         return Ok(None);
     }
@@ -270,7 +269,7 @@ fn proto_part(
     ensures told { OnOk result
         (notes.new ≡ notes.old ++ (spec.proto_part known.now proto.now).notes) }
 {
-    if known.refuses(Level::Proto, proto.line) {
+    if known.refuses(proto.line) {
         push_note(
             alloc,
             NoteKind::Refused,

@@ -7,6 +7,7 @@ use Rattle.classic_lenient.specs.declared.scan.UnreadKind.TheVariants as unread
 use Rattle.classic_part.specs.declared.notes.Note.{Note}
 use Rattle.classic_part.specs.declared.notes.NoteKind.{NoteKind}
 use Rattle.classic_part.specs.declared.notes.NoteKind.TheVariants as kind
+use Rattle.app_part.specs.Apart.{line_at}
 use Rattle.app_part.specs.declared.part.ScenePart.{ScenePart}
 
 -- a list has no note on what stays
@@ -29,12 +30,14 @@ unread_number unread.Export = 10
 unread_number unread.Unit = 11
 unread_number unread.Declaration = 12
 
-abbrev pub note_pair : Note → List ℤ
-note_pair note = pos note.line ∷ pos (note_number note.kind) ∷ []
+abbrev pub note_pair : List ℕ → Note → List ℤ
+note_pair lines note = pos (line_at lines note.line) ∷ pos (note_number note.kind) ∷ []
 
-abbrev pub unread_pair : Unread → List ℤ
-unread_pair one = pos one.line ∷ pos (unread_number one.kind) ∷ []
+abbrev pub unread_pair : List ℕ → Unread → List ℤ
+unread_pair lines one = pos (line_at lines one.line) ∷ pos (unread_number one.kind) ∷ []
 
 -- line and kind of each thing that was left out, in the order of the lines on them
 abbrev pub left_numbers : ScenePart → List ℤ
-left_numbers part = flat_map unread_pair part.unread ++ flat_map note_pair part.left
+left_numbers part =
+    flat_map (unread_pair part.lines.items) part.unread
+    ++ flat_map (note_pair part.lines.items) part.left

@@ -8,24 +8,24 @@ use Rattle.app_part.specs.declared.part.ScenePart.{ScenePart}
 use Rattle.embed_parts.specs.LeftOut.{left_numbers}
 use Rattle.embed_parts.specs.declared.part.EmbeddedPart.{EmbeddedPart}
 
--- the text of a part, and the lines and numbers of what was left out of these bytes
-pub record IsTold (bytes : List ℕ) (part : ScenePart) (made : EmbeddedPart) : Type 0 where
+-- the text of a part, and the lines and numbers of what was left out
+pub record IsTold (part : ScenePart) (made : EmbeddedPart) : Type 0 where
   pub text : made.text.items ≡ part.text.items
-  pub told : made.told.items ≡ told_text bytes part
+  pub told : made.told.items ≡ told_text part
   pub notes : made.notes.items ≡ left_numbers part
 
--- the same, with the notes in the order of their lines
-pub record IsToldInOrder (bytes : List ℕ) (part : ScenePart) (made : EmbeddedPart) : Type 0 where
+-- the same, with the notes in the order of their places
+pub record IsToldInOrder (part : ScenePart) (made : EmbeddedPart) : Type 0 where
   pub shown : ScenePart
   pub ordered : IsOrdered part shown
-  pub told : IsTold bytes shown made
+  pub told : IsTold shown made
 
 -- the part of a text, which is a scene
 pub record IsMade (text : List ℕ) (made : EmbeddedPart) : Type 0 where
   pub part : ScenePart
   pub is : IsPartOfText text part
   pub scene : IsScene made.text.items
-  pub told : IsToldInOrder text part made
+  pub told : IsToldInOrder part made
 
 -- the part of a text, or why there is none
 abbrev pub IsOpened : List ℕ → Result EmbeddedPart JobFault → Type 0

@@ -5,37 +5,41 @@ ghost use Rattle.std.specs.List.{flat_map};
 ghost use Rattle.embed_parts.specs.LeftOut as spec;
 
 use crate::kinds::{note_number, unread_number};
-use app_part::ScenePart;
+use app_part::{ScenePart, line_at};
 use classic_lenient::Unread;
 use classic_part::Note;
 use std::alloc::{AllocError, Global};
 
-fn push_note(note: &Note, out: &mut Vec<i64>) -> Result<(), AllocError>
-    ensures { OnOk result (out.new.items ≡ out.old.items ++ spec.note_pair note.now) }
+fn push_note(lines: &[u32], note: &Note, out: &mut Vec<i64>) -> Result<(), AllocError>
+    ensures { OnOk result (out.new.items ≡ out.old.items ++ spec.note_pair lines.now note.now) }
 {
-    out.extend_from_slice(&[i64::from(note.line), i64::from(note_number(note.kind))])
+    let line = i64::from(line_at(lines, note.line));
+    out.extend_from_slice(&[line, i64::from(note_number(note.kind))])
 }
 
-fn push_unread(one: &Unread, out: &mut Vec<i64>) -> Result<(), AllocError>
-    ensures { OnOk result (out.new.items ≡ out.old.items ++ spec.unread_pair one.now) }
+fn push_unread(lines: &[u32], one: &Unread, out: &mut Vec<i64>) -> Result<(), AllocError>
+    ensures { OnOk result (out.new.items ≡ out.old.items ++ spec.unread_pair lines.now one.now) }
 {
-    out.extend_from_slice(&[i64::from(one.line), i64::from(unread_number(one.kind))])
+    let line = i64::from(line_at(lines, one.line));
+    out.extend_from_slice(&[line, i64::from(unread_number(one.kind))])
 }
 
-fn push_notes(notes: &[Note], out: &mut Vec<i64>) -> Result<(), AllocError>
-    ensures { OnOk result (out.new.items ≡ out.old.items ++ flat_map spec.note_pair notes.now) }
+fn push_notes(lines: &[u32], notes: &[Note], out: &mut Vec<i64>) -> Result<(), AllocError>
+    ensures { OnOk result
+        (out.new.items ≡ out.old.items ++ flat_map (spec.note_pair lines.now) notes.now) }
 {
     for note in notes {
-        push_note(note, out)?;
+        push_note(lines, note, out)?;
     }
     Ok(())
 }
 
-fn push_unreads(unread: &[Unread], out: &mut Vec<i64>) -> Result<(), AllocError>
-    ensures { OnOk result (out.new.items ≡ out.old.items ++ flat_map spec.unread_pair unread.now) }
+fn push_unreads(lines: &[u32], unread: &[Unread], out: &mut Vec<i64>) -> Result<(), AllocError>
+    ensures { OnOk result
+        (out.new.items ≡ out.old.items ++ flat_map (spec.unread_pair lines.now) unread.now) }
 {
     for one in unread {
-        push_unread(one, out)?;
+        push_unread(lines, one, out)?;
     }
     Ok(())
 }
@@ -43,8 +47,9 @@ fn push_unreads(unread: &[Unread], out: &mut Vec<i64>) -> Result<(), AllocError>
 fn push_left(part: &ScenePart, out: &mut Vec<i64>) -> Result<(), AllocError>
     ensures { OnOk result (out.new.items ≡ out.old.items ++ spec.left_numbers part.now) }
 {
-    push_unreads(part.unread.as_slice(), out)?;
-    push_notes(part.left.as_slice(), out)
+    let lines = part.lines.as_slice();
+    push_unreads(lines, part.unread.as_slice(), out)?;
+    push_notes(lines, part.left.as_slice(), out)
 }
 
 /// Returns the line and the kind of each thing that was left out, as two numbers for each. Fails if

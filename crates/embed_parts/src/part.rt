@@ -18,16 +18,16 @@ pub struct EmbeddedPart {
     pub(crate) notes: Vec<i64>,
 }
 
-/// Returns the text of a part of these bytes, with the lines and numbers of what was left out.
-fn with_notes(alloc: Global, bytes: &[u8], part: ScenePart) -> Result<EmbeddedPart, JobFault>
-    ensures told { IfOk result (spec.IsTold bytes.now part) }
+/// Returns the text of a part, with the lines and numbers of what was left out.
+fn with_notes(alloc: Global, part: ScenePart) -> Result<EmbeddedPart, JobFault>
+    ensures told { IfOk result (spec.IsTold part) }
     ensures refused { IfErr result (λ fault. fault ≡ Memory) }
 {
     let Ok(notes) = left_numbers(alloc, &part) else {
         drop(part);
         return Err(JobFault::Memory);
     };
-    let Ok(told) = told_text(alloc, bytes, &part) else {
+    let Ok(told) = told_text(alloc, &part) else {
         drop(notes);
         drop(part);
         return Err(JobFault::Memory);
@@ -39,13 +39,13 @@ fn with_notes(alloc: Global, bytes: &[u8], part: ScenePart) -> Result<EmbeddedPa
     })
 }
 
-/// Returns the same, with the notes in the order of their lines.
-fn told_in_order(alloc: Global, bytes: &[u8], part: ScenePart) -> Result<EmbeddedPart, JobFault>
-    ensures made { IfOk result (spec.IsToldInOrder bytes.now part) }
+/// Returns the same, with the notes in the order of their places.
+fn told_in_order(alloc: Global, part: ScenePart) -> Result<EmbeddedPart, JobFault>
+    ensures made { IfOk result (spec.IsToldInOrder part) }
     ensures refused { IfErr result (λ fault. fault ≡ Memory) }
 {
     let part = ordered(part)?;
-    with_notes(alloc, bytes, part)
+    with_notes(alloc, part)
 }
 
 impl EmbeddedPart {
@@ -60,7 +60,7 @@ impl EmbeddedPart {
         ensures { IsOpened text.now result }
     {
         let part = part_of_text(alloc, text)?;
-        told_in_order(alloc, text, part)
+        told_in_order(alloc, part)
     }
 
     /// Returns the text of the part.

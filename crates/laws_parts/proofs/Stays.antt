@@ -19,7 +19,6 @@ use Rattle.classic_tree.specs.declared.tree.RouteText.{RouteText}
 use Rattle.classic_tree.specs.declared.tree.Statement.{Statement}
 use Rattle.classic_tree.specs.declared.tree.Statement.TheVariants as stands
 use Rattle.classic_part.specs.declared.knowing.Known.{Known}
-use Rattle.classic_part.specs.declared.knowing.Level.TheVariants as level
 use Rattle.classic_part.specs.declared.notes.NoteKind.TheVariants as kind
 use Rattle.classic_part.specs.declared.rules.FieldRule.{FieldRule}
 use Rattle.classic_part.specs.declared.rules.FieldRule.TheVariants as rule
@@ -168,7 +167,7 @@ module _ (known : Known) where
   declared_if d false h = one_declared d (given_part nodes d.name d.given).kept (givens d.name d.given h)
 
   one_declaration : (d : Declaration NodeText) → OfDeclaration OfNode d → One a_declaration (declaration_part nodes known d).kept d
-  one_declaration d h = declared_if d (refuses known level.Field d.line) h
+  one_declaration d h = declared_if d (refuses known d.line) h
 
   each_declaration : (ds : List (Declaration NodeText)) → AllByRecursion (OfDeclaration OfNode) ds → AllByRecursion (Each a_declaration (declaration_part nodes known)) ds
   each_declaration [] h = tt
@@ -187,7 +186,7 @@ module _ (known : Known) where
 
   route_itself : (r : RouteText) → IsItself (route_part known r).kept r
   route_itself r =
-      itself_if (refuses known level.Route r.line) (left_out kind.Refused r.line (codes "ROUTE") []) (joined_part known r) r tt
+      itself_if (refuses known r.line) (left_out kind.Refused r.line (codes "ROUTE") []) (joined_part known r) r tt
       (itself_if (not (knows_name known r.source.node)) (left_out kind.Route r.line r.source.node []) _ r tt
       (itself_if (not (knows_name known r.target.node)) (left_out kind.Route r.line r.target.node []) (whole r) r tt refl))
 
@@ -201,7 +200,7 @@ module _ (known : Known) where
 
   use_itself : (line : ℕ) (name place : List ℕ) → IsItself (use_part known line name place).kept (made.Use line name)
   use_itself line name place =
-      itself_if (refuses known level.Use line) (left_out kind.Refused line name place) _ (made.Use line name) tt
+      itself_if (refuses known line) (left_out kind.Refused line name place) _ (made.Use line name) tt
       (itself_if (knows_name known name) (whole (made.Use line name)) (left_out kind.Use line name place) (made.Use line name) refl tt)
 
   node_itself : (n : NodeText) (kept : Option NodeText) → IsItself kept n → One a_node kept n
@@ -278,7 +277,7 @@ module _ (known : Known) where
   layers : Layers OfItem OfNode OfStatement OfProto
   layers = record {
     field = λ line name g h m. subst (λ (p : Part BodyItem). One an_item p.kept (held.Field line name g)) (sym (item_part-field known line name g m))
-        (field_if line name g (field_rule m name (turns g)) (refuses known level.Field line) h);
+        (field_if line name g (field_rule m name (turns g)) (refuses known line) h);
     declaration = λ d h m. subst (λ (p : Part BodyItem). One an_item p.kept (held.Declaration d)) (sym (item_part-declaration known d m))
         (item_of_declaration d (declaration_part nodes known d).kept (one_declaration d h));
     item_route = λ r m. subst (λ (p : Part BodyItem). One an_item p.kept (held.Route r)) (sym (item_part-route known r m))
@@ -288,7 +287,7 @@ module _ (known : Known) where
     used = λ line name place. subst (λ (p : Part NodeText). One a_node p.kept (made.Use line name)) (sym (node_part-use known line name place))
         (node_itself (made.Use line name) (use_part known line name place).kept (use_itself line name place));
     full = λ line name word items h place. subst (λ (p : Part NodeText). One a_node p.kept (made.Full line name word items)) (sym (node_part-full known line name word items place))
-        (full_if line name word place items (refuses known level.Node line) (is_nothing (meaning_of known word)) h);
+        (full_if line name word place items (refuses known line) (is_nothing (meaning_of known word)) h);
     node = λ n h. subst (λ (p : Part Statement). One a_statement p.kept (stands.Node n)) (sym (statement_part-node known n))
         (statement_of_node n (node_part known n []).kept (h []));
     route = λ r. subst (λ (p : Part Statement). One a_statement p.kept (stands.Route r)) (sym (statement_part-route known r))
@@ -296,7 +295,7 @@ module _ (known : Known) where
     proto = λ p h. subst (λ (q : Part Statement). One a_statement q.kept (stands.Proto p)) (sym (statement_part-proto known p))
         (statement_of_proto p (proto_part known p).kept h);
     prototype = λ p d s. subst (λ (q : Part ProtoText). One a_proto q.kept p) (sym (proto_part_is known p))
-        (proto_if p (refuses known level.Proto (out-ProtoText p).line) d s);
+        (proto_if p (refuses known (out-ProtoText p).line) d s);
   }
 
   in_one_round : (d : Document) → IsOf d (one_round known d).document

@@ -16,7 +16,6 @@ use Rattle.classic_tree.specs.declared.tree.Statement.{Statement}
 use Rattle.classic_tree.specs.declared.tree.Statement.TheVariants as stands
 use Rattle.classic_part.specs.Part.{plain, declared_as}
 use Rattle.classic_part.specs.Rounds.{after}
-use Rattle.classic_part.specs.declared.knowing.Refusal.{Refusal}
 
 -- a part of a tree
 pub data Piece : Type 0 where
@@ -107,4 +106,4 @@ pub record IsOf (document part : Document) : Type 0 where
 -- whatever is refused, and after any number of rounds
 abbrev pub WhatStaysIsAsItWas : Type 0
 WhatStaysIsAsItWas =
-    (n : ℕ) (refused : List Refusal) (d : Document) → IsOf d (after n refused d).document
+    (n : ℕ) (refused : List ℕ) (d : Document) → IsOf d (after n refused d).document

@@ -1,5 +1,6 @@
 use Rattle.std.proofs.Common.{◌≡◌, drop, false, map}
-use Rattle.app_part.specs.Kept.{defined_at, placed}
+use Rattle.app_part.specs.Kept.{defined_at}
+use Rattle.app_part.specs.Tokens.{placed}
 use Rattle.app_part.proofs.kept.defined_at.Given as goal
 
 abbrev pub invariant-loop-token : goal.invariant-loop-token

@@ -1,5 +1,6 @@
 use Rattle.std.proofs.Common.{rules, ◌≡◌, ◌<◌, length, map, true, false}
-use Rattle.app_part.specs.Kept.{is_lost, placed}
+use Rattle.app_part.specs.Kept.{is_lost}
+use Rattle.app_part.specs.Tokens.{placed}
 use Rattle.app_part.proofs.Names.{passed, found, none_left}
 use Rattle.app_part.proofs.kept.first_among.Goals as goal
 

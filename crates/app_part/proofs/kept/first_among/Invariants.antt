@@ -1,6 +1,7 @@
 use Rattle.std.proofs.Common.{◌≡◌, length, map}
 use Rattle.std.specs.Str.Lines.{lines}
-use Rattle.app_part.specs.Kept.{first_lost, placed}
+use Rattle.app_part.specs.Kept.{first_lost}
+use Rattle.app_part.specs.Tokens.{placed}
 use Rattle.app_part.proofs.kept.first_among.Given as goal
 
 abbrev pub invariant-loop-rest : goal.invariant-loop-rest

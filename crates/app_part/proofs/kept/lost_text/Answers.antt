@@ -8,6 +8,6 @@ pub returns : goal.returns
 returns c = record {
   told =
       let lost = option_map (λ n. n.now) c.in_ok-lost.lost in
-      lost_of (λ v. v.items) c.args.text.now c.args.names.now c.args.part.now lost c.said.result
+      lost_of (λ v. v.items) c.args.names.now c.args.part.now lost c.said.result
       (subst (λ (t : List ℕ). IsFirstLost t c.args.names.now lost) c.as_slice.ensures.value c.in_ok-lost.ensures.lost) c.said.ensures.told;
 }

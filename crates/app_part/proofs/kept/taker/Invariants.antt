@@ -5,4 +5,4 @@ use Rattle.app_part.proofs.kept.taker.Given as goal
 
 abbrev pub invariant-loop-note : goal.invariant-loop-note
 invariant-loop-note l =
-    taker l.line None l.notes ≡ taker l.line (option_map (λ n. n.now) l.found) (drop l.note-index l.notes)
+    taker l.place None l.notes ≡ taker l.place (option_map (λ n. n.now) l.found) (drop l.note-index l.notes)

@@ -4,11 +4,11 @@ use Rattle.app_part.proofs.part.lesser_part.Goals as goal
 
 pub returns-in-Ok-clause-made : goal.returns-in-Ok-clause-made
 returns-in-Ok-clause-made c =
-    lesser c.args.text.now c.args.first c.in-Ok.lenient c.part_of_document.result c.in-Ok.ensures.read c.part_of_document.ensures.made
+    lesser c.args.text.now c.args.first c.in-Ok.lenient c.part_of_lenient.result c.in-Ok.ensures.read c.part_of_lenient.ensures.made
 
 pub returns-in-Ok-clause-refused : goal.returns-in-Ok-clause-refused
 returns-in-Ok-clause-refused c =
-    unmended c.args.text.now c.args.first c.in-Ok.lenient c.part_of_document.result c.in-Ok.ensures.read c.part_of_document.ensures.refused
+    unmended c.args.text.now c.args.first c.in-Ok.lenient c.part_of_lenient.result c.in-Ok.ensures.read c.part_of_lenient.ensures.refused
 
 pub returns-in-Err-clause-refused : goal.returns-in-Err-clause-refused
 returns-in-Err-clause-refused c =

@@ -1,5 +1,5 @@
-use Rattle.app_part.specs.Parts.{Mending}
+use Rattle.app_part.specs.Whole.{IsMending}
 use Rattle.app_part.proofs.part.mended.Given as goal
 
 abbrev pub invariant-loop-turn : goal.invariant-loop-turn
-invariant-loop-turn l = Mending l.document l.mends.refused l.mends.faults
+invariant-loop-turn l = IsMending l.document l.mends

@@ -1,0 +1,4 @@
+pub mod Blame
+pub mod Ends
+pub mod Faults
+pub mod Fields

@@ -1,0 +1,20 @@
+//! The faults of an expanded document that a node or a route alone tells: of each field that is
+//! given a value, of each root and helper, and of each ROUTE.
+//!
+//! | Modules | Content |
+//! |---|---|
+//! | `blame` | a fault, and where it is |
+//! | `values`, `nodes` | faults of fields, of declarations, and of roots and helpers |
+//! | `ends`, `routes` | what the ends of routes name, and faults of routes |
+//! | `faults` | all of them |
+#![tactic(auto)]
+
+mod blame;
+mod ends;
+mod faults;
+mod nodes;
+mod routes;
+mod values;
+
+pub use blame::{Blame, Reason};
+pub use faults::blames_of;
