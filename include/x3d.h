@@ -9,6 +9,8 @@
  * - A host numbers the inputs of a shared world. A viewer holds the world and applies the inputs in
  *   order. It offers what it points at, until an ack of the host says that the offer is an input.
  *   It asks for the inputs that it lacks. The floor is the lowest input that the host still has.
+ * - A datagram is one message of a host or a viewer. It has the mark of its scene: the SHA-256 of
+ *   the scene's text.
  * - A snapshot is a world as bytes, and a piece is a part of it in a datagram of its own. A boot is
  *   a number that rises with each start of a viewer.
  * - Times are microseconds. Coordinates and other floats are millionths (of a unit). */
@@ -24,20 +26,19 @@ extern "C" {
 #endif
 
 /* Rules that the caller must keep:
- * - A handle begins as null: `struct x3d_world world = X3D_NONE;`. Do not read or write its contents.
- *   Its bytes may be moved, if the old place is not used again.
- * - Make one call at a time on a handle. Calls whose handle is const only read: these may run beside
- *   each other. (Calls on different handles share nothing.)
+ * - A handle begins as null: `struct x3d_world world = X3D_NONE;`. Do not read or write its
+ *   contents. Its bytes may be moved, if the old place is not used again.
+ * - Make one call at a time on a handle. Calls whose handle is const only read: these may run
+ *   beside each other. (Calls on different handles share nothing.)
  * - Each pointer points to at least as much memory as its type, or the length argument after it,
  *   requires. Memory that a call writes overlaps nothing else that the call is given. A pointer may
  *   be null if the length or the room after it is 0.
- * - Close every handle that you open. Closing twice is allowed, closing null too, and opening again.
- *   Every other call on a closed handle returns X3D_CLOSED, or X3D_RANGE, which some calls test
- *   first.
+ * - Close every handle that you open. You may close twice, close null, and open again. Every other
+ *   call on a closed handle returns X3D_CLOSED; or X3D_RANGE, if it tests its numbers first.
  * A call returns X3D_MISUSE, and changes nothing, for any other null pointer, a handle of another
- * kind, a second call in a handle at the same time, and the copy of a handle that was closed since,
- * unless its place is used again. The library cannot check the other rules. A thread that calls it
- * needs a stack of at least 512 KB. */
+ * kind, a second call on a handle at the same time, and a copy of a closed handle (until another
+ * handle uses its place). The library cannot check the other rules. A thread that calls it needs a
+ * stack of at least 512 KB. */
 
 /* Handles: each holds a heap object (a world, a host, a viewer, or the part of a text), or nothing.
  */
@@ -159,8 +160,8 @@ struct x3d_field {
   uint8_t access;
 };
 
-/* A field that was set. Its value is of type `value_type` (an x3d_type). Its numbers are `count`
- * numbers of the list, from place `first` on. */
+/* A field that was set. Its value is of type `value_type` (an x3d_type), and has `count` numbers:
+ * those from place `first` on of what x3d_world_copy_numbers copies. */
 struct x3d_change {
   uint32_t node;
   uint16_t field;
@@ -260,7 +261,7 @@ enum x3d_kind {
   X3D_METER = 5
 };
 
-/* What a part leaves out of its text. */
+/* What a part leaves out of the text that it is made of. */
 enum x3d_left {
   X3D_LEFT_NODE = 0,        /* a node */
   X3D_LEFT_GROUPED = 1,     /* only a type: the node became a Group or a Transform */
@@ -304,9 +305,9 @@ uint8_t x3d_datagram_read(const uint8_t *bytes, size_t length, struct x3d_datagr
 
 /* ---- texts */
 
-/* Writes the line on which an instance begins that gives a field a wrong value: the refusal of such
- * a text has the line of the field in the prototype's body. Writes 0 for every other text, and if
- * no instance's braces hold the value. May return: X3D_MEMORY. */
+/* If a text is refused for a value that the braces of a prototype's instance hold, writes the line
+ * on which that instance begins. (The refusal has the line of the field in the prototype's body.)
+ * Writes 0 for any other text. May return: X3D_MEMORY. */
 uint8_t x3d_text_instance(const uint8_t *text, size_t length, uint32_t *line);
 
 /* ---- the part of a text: what stays of it without the nodes, fields and statements that the core
@@ -314,8 +315,8 @@ uint8_t x3d_text_instance(const uint8_t *text, size_t length, uint32_t *line);
 
 /* Makes the part of a text (Classic encoding). It replaces the one that the handle had. The part
  * is itself a text: open worlds, a host and viewers with its bytes (x3d_part_copy_text). May
- * return: X3D_SCENE if the text has no part, or X3D_MEMORY. Then the handle is empty, and the
- * line `refused NAME line N` is copied as by x3d_world_open. */
+ * return: X3D_SCENE if the text has no part, or X3D_MEMORY. Then the handle is empty, and the line
+ * of the refusal is copied, as x3d_world_open describes. */
 uint8_t x3d_part_open(struct x3d_part *part, const uint8_t *text, size_t length, uint8_t *refusal,
                       size_t room, size_t *wanted);
 /* Frees the part. Does nothing if the handle holds none. */
@@ -323,24 +324,24 @@ void x3d_part_close(struct x3d_part *part);
 /* Copies the text of the part, and writes its number of bytes to `wanted`. May return: X3D_ROOM if
  * `room` bytes are not enough; nothing is copied then. */
 uint8_t x3d_part_copy_text(const struct x3d_part *part, uint8_t *out, size_t room, size_t *wanted);
-/* Copies a line for each thing that was left out, such as `line 12: node Teapot left out (field
- * geometry)`, and a last line of counts, as x3d_part_copy_text copies. */
+/* Copies, like x3d_part_copy_text, a line for each thing that was left out, such as `line 12: node
+ * Teapot left out (field geometry)`, and a last line of counts. */
 uint8_t x3d_part_copy_notes(const struct x3d_part *part, uint8_t *out, size_t room, size_t *wanted);
-/* Copies two numbers for each of these lines but the last: the line of the text, and what it is (an
- * x3d_left). May return: X3D_ROOM. */
+/* Copies two numbers for each thing that was left out: its line of the text, and what it is (an
+ * x3d_left). `room` and `wanted` count numbers. May return: X3D_ROOM. */
 uint8_t x3d_part_copy_numbers(const struct x3d_part *part, int64_t *out, size_t room,
                               size_t *wanted);
 
 /* ---- a world */
 
 /* Opens the world of a scene's text (Classic encoding). It replaces the one that the handle had.
- * May return: X3D_SCENE or X3D_MEMORY. Then the handle is empty, and the line `refused NAME line
- * N`, of at most 64 bytes, is copied to `refusal` if `room` bytes are enough. Its length is written
- * to `wanted`. */
+ * May return: X3D_SCENE or X3D_MEMORY. Then the handle is empty, and the line of the refusal
+ * (`refused NAME`, mostly with ` line N`; at most 64 bytes) is copied to `refusal` if `room` bytes
+ * are enough. Its length is written to `wanted`. */
 uint8_t x3d_world_open(struct x3d_world *world, const uint8_t *text, size_t length,
                        uint8_t *refusal, size_t room, size_t *wanted);
-/* Opens the world of a part's text, like x3d_world_open. May return: X3D_CLOSED if `part` holds
- * none; the world is then what it was. */
+/* Opens the world of a part's text, like x3d_world_open. May also return: X3D_CLOSED if `part` is
+ * closed; the world is then what it was. */
 uint8_t x3d_world_open_part(struct x3d_world *world, struct x3d_part *part, uint8_t *refusal,
                             size_t room, size_t *wanted);
 /* Frees the world. Does nothing if the handle holds none. */
@@ -364,16 +365,16 @@ uint8_t x3d_world_point(struct x3d_world *world, uint32_t number, int64_t time, 
 /* Writes where a ray would enter the Box that it hits first, and lists the sensors that the hit
  * concerns (x3d_world_copy_numbers copies their nodes). x3d_world_point with this ray concerns the
  * same: the enabled pointing sensors next to the Box's Shape, in one `children` field or among the
- * roots. If there are none, those next to the node that holds the Shape, and so on upwards. The
- * children of a Switch do not count. The world is unchanged. May return, in this order: X3D_RANGE
- * if the ray is out of its range, X3D_SPOILED, or X3D_MEMORY. */
+ * roots. If there are none, those next to the node that holds the Shape, and so on upwards. Sensors
+ * among the children of a Switch do not count. The world is unchanged. May return, in this order:
+ * X3D_RANGE if the ray is out of its range, X3D_SPOILED, or X3D_MEMORY. */
 uint8_t x3d_world_meet(struct x3d_world *world, const struct x3d_aim *aim, struct x3d_met *met);
 
 /* ---- texts: a call makes a text, then x3d_world_copy_text copies it
  *
  * A call that makes a text drops the one before. If it fails, the text is empty and the world is
- * unchanged. Each may return X3D_MEMORY. The calls that read the world's state may return
- * X3D_SPOILED: all but x3d_world_make_type, x3d_world_make_label and x3d_world_make_field_name. */
+ * unchanged. It may return X3D_MEMORY; also X3D_SPOILED, unless it is x3d_world_make_type,
+ * x3d_world_make_label or x3d_world_make_field_name. */
 
 /* Makes the lines of the trace of inputs from number `first` on: `<input> <seconds> <label>.<field>
  * <value>`. From 0 on it is the whole trace. */
@@ -393,7 +394,7 @@ uint8_t x3d_world_make_label(struct x3d_world *world, uint32_t node);
 /* Makes the name of a field of a node, such as `translation`. May return: X3D_NO_SUCH_FIELD if
  * there is no such node or field. */
 uint8_t x3d_world_make_field_name(struct x3d_world *world, uint32_t node, uint16_t field);
-/* Makes the text of the current value of a field, such as `0 1.5 0`. The text of a node is empty.
+/* Makes the text of the current value of a field, such as `0 1.5 0`. For nodes it is empty.
  * May return: X3D_NO_SUCH_FIELD, or X3D_NO_VALUE if the field holds no value. */
 uint8_t x3d_world_make_value(struct x3d_world *world, uint32_t node, uint16_t field);
 /* Makes the snapshot of the world, with `boot` as the boot number stored in it. */
@@ -406,7 +407,7 @@ uint8_t x3d_world_copy_text(const struct x3d_world *world, uint8_t *out, size_t 
 /* ---- numbers: a call lists them, then x3d_world_copy_numbers copies them
  *
  * A call that lists numbers drops the ones before. If it fails, the list is empty and the world is
- * unchanged. Each may return X3D_MEMORY. */
+ * unchanged. It may return X3D_MEMORY. */
 
 /* Writes the number of nodes in the scene. They are numbered from 0. */
 uint8_t x3d_world_node_count(const struct x3d_world *world, size_t *count);
@@ -436,8 +437,8 @@ uint8_t x3d_world_list_roots(struct x3d_world *world);
 uint8_t x3d_world_list_children(struct x3d_world *world, uint32_t node);
 /* Lists the numbers of the current value of a field: booleans as 1 and 0, integers, millionths and
  * microseconds unchanged, vectors and colors part by part, nodes as their numbers. A string field
- * has none. May return, in this order: X3D_SPOILED, or X3D_NO_SUCH_FIELD if there is no such field,
- * or it holds no value. */
+ * has none. May return, in this order: X3D_SPOILED, X3D_NO_SUCH_FIELD if there is no such field, or
+ * X3D_NO_VALUE if it holds no value. */
 uint8_t x3d_world_list_value(struct x3d_world *world, uint32_t node, uint16_t field);
 /* Copies the numbers that were listed last, and writes how many there are to `wanted`. May return:
  * X3D_ROOM if there is no room for `wanted` numbers; nothing is copied then. */
@@ -519,9 +520,9 @@ uint8_t x3d_host_ack(const struct x3d_host *host, uint8_t who, uint8_t *out, siz
 /* Writes the highest number that viewer `who` has asked from, or 0 if it has not asked. The viewer
  * has all inputs below that number. May return: X3D_RANGE if there is no such viewer. */
 uint8_t x3d_host_heard(const struct x3d_host *host, uint8_t who, uint32_t *asked);
-/* Drops the inputs that all viewers have that have asked, except the last `count` of them. A viewer
- * that never asked does not count. If none has asked, or there is nothing to drop, the host stays
- * as it was. */
+/* Drops the inputs that all viewers have, except the last `count` of these. A viewer that never
+ * asked does not count. If no viewer has asked, or there is nothing to drop, the host stays as it
+ * was. */
 uint8_t x3d_host_keep(struct x3d_host *host, uint32_t count);
 /* Writes the floor: inputs below it have no datagrams. It is 1 at first. */
 uint8_t x3d_host_floor(const struct x3d_host *host, uint32_t *number);
@@ -541,10 +542,9 @@ uint8_t x3d_host_viewers(const struct x3d_host *host, uint32_t *count);
  * host's inputs in order. Calls that copy a datagram return the same statuses as a host's. */
 
 /* Opens viewer `who`, 0 to 63, of a scene's text, with boot number `boot`, 1 to 2^32 - 1. It
- * replaces the one that the handle had. May return: X3D_RANGE for another `who` or `boot`; the
- * handle keeps what it had. Or X3D_SCENE or X3D_MEMORY: then the handle is empty, and the line
- * `refused NAME line N`, of at most 64 bytes, is copied to `refusal` if `room` bytes are enough.
- * Its length is written to `wanted`. */
+ * replaces the one that the handle had. May return: X3D_RANGE for another `who` or `boot`: then the
+ * handle keeps what it had. May also return X3D_SCENE or X3D_MEMORY: then the handle is empty, and
+ * the line of the refusal is copied, as x3d_world_open describes. */
 uint8_t x3d_viewer_open(struct x3d_viewer *viewer, const uint8_t *text, size_t length, uint8_t who,
                         uint32_t boot, uint8_t *refusal, size_t room, size_t *wanted);
 /* Frees the viewer. Does nothing if the handle holds none. */
@@ -581,9 +581,9 @@ uint8_t x3d_viewer_make_snapshot(struct x3d_viewer *viewer);
  * or the statuses of x3d_world_load. X3D_MEMORY spoils the viewer. */
 uint8_t x3d_viewer_rewind(struct x3d_viewer *viewer, uint32_t boot, const uint8_t *bytes,
                           size_t length, uint32_t *applied);
-/* Writes how many pieces the bytes of a snapshot have, or 0 if they do not begin as a snapshot. It
- * may be the snapshot of any world or viewer of the scene. May return: X3D_TOO_LARGE for more than
- * 2^26 bytes; `count` is then 0. */
+/* Writes how many pieces the bytes of a snapshot have, or 0 if they do not begin as a snapshot. Any
+ * world or viewer of the scene may have made it. May return: X3D_TOO_LARGE for more than 2^26
+ * bytes; `count` is then 0. */
 uint8_t x3d_viewer_piece_count(const struct x3d_viewer *viewer, const uint8_t *bytes, size_t length,
                                uint32_t *count);
 /* Copies the datagram of piece `index`, from 0, of these bytes, for other viewers of the same

@@ -30,7 +30,7 @@ impl EmbeddedViewer {
     }
 
     /// Lists the numbers of a field's current value, like those of a world. Fails with `Spoiled`,
-    /// `NoSuchField` or `Memory`.
+    /// `NoSuchField`, `NoValue` or `Memory`.
     pub fn list_value(&mut self, node: u32, field: u16) -> Result<(), LookFault>
         ensures { Lists (look.numbers_in (stage_in self.old.viewer) node field) self.old result
             self.new }

@@ -67,7 +67,7 @@ impl EmbeddedViewer {
     }
 
     /// Makes the text of a field's current value, such as `0 1.5 0`. A node has no text. Fails with
-    /// `Spoiled`, `NoSuchField` or `Memory`.
+    /// `Spoiled`, `NoSuchField`, `NoValue` or `Memory`.
     pub fn make_value(&mut self, node: u32, field: u16) -> Result<(), LookFault>
         ensures { Makes (look.value_in (stage_in self.old.viewer) node field) self.old result
             self.new }
