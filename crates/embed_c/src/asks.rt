@@ -43,8 +43,8 @@ pub extern "C" fn x3d_world_node_named(
     node: &mut u32,
 ) -> u8
     ensures kept { handle.new.world ≡ handle.old.world }
-    ensures node { FindsNode (λ (w : Embedded). w.stage.scene) name.now handle.old.world result node.old
-        node.new }
+    ensures node { FindsNode (λ (w : Embedded). w.stage.scene) name.now handle.old.world result
+        node.old node.new }
 {
     let Some(world) = take(handle, alloc) else {
         return CLOSED;

@@ -1,10 +1,10 @@
 //! Worlds, hosts and viewers for C: an opaque handle for each, and a function for each thing to do
 //! with it. include/x3d.h declares them.
 //!
-//! The functions of a world are in `open`, `inputs`, `scripts`, `shots`, `texts`, `lists`, `changed`
-//! and `asks`. Those of a host are in `host`, and those of a viewer in `viewer`, `joining`,
-//! `viewer_texts`, `viewer_lists`, `viewer_changed` and `viewer_asks`. `datagram` reads a datagram, and `parts`
-//! makes the part of a text.
+//! The functions of a world are in `open`, `inputs`, `scripts`, `shots`, `texts`, `lists`,
+//! `changed` and `asks`. Those of a host are in `host`, and those of a viewer in `viewer`,
+//! `joining`, `viewer_texts`, `viewer_lists`, `viewer_changed` and `viewer_asks`. `datagram` reads
+//! a datagram, and `parts` makes the part of a text.
 #![tactic(auto)]
 
 mod asks;

@@ -52,8 +52,8 @@ pub extern "C" fn x3d_viewer_node_named(
     node: &mut u32,
 ) -> u8
     ensures kept { handle.new.viewer ≡ handle.old.viewer }
-    ensures node { FindsNode (λ (v : Embedded). v.viewer.scene) name.now handle.old.viewer result node.old
-        node.new }
+    ensures node { FindsNode (λ (v : Embedded). v.viewer.scene) name.now handle.old.viewer result
+        node.old node.new }
 {
     let Some(viewer) = take(handle, alloc) else {
         return CLOSED;
@@ -67,8 +67,8 @@ pub extern "C" fn x3d_viewer_node_named(
 #[unsafe(no_mangle)]
 pub extern "C" fn x3d_viewer_time(alloc: Global, handle: &mut ViewerHandle, time: &mut i64) -> u8
     ensures kept { handle.new.viewer ≡ handle.old.viewer }
-    ensures time { TellsTime (λ (v : Embedded). time_in (stage_in v.viewer)) handle.old.viewer result time.old
-        time.new }
+    ensures time { TellsTime (λ (v : Embedded). time_in (stage_in v.viewer)) handle.old.viewer
+        result time.old time.new }
 {
     let Some(viewer) = take(handle, alloc) else {
         return CLOSED;

@@ -110,26 +110,6 @@ fn push_fields(
     Ok(())
 }
 
-/// Appends the fields that lines of inputs after `since` name. On an error, part of them may be
-/// appended.
-fn push_changes(
-    scene: &Scene,
-    state: &[Fields],
-    trace: &Trace,
-    since: u32,
-    marks: &mut SentBits,
-    changes: &mut Vec<Change>,
-    numbers: &mut Vec<i64>,
-) -> Result<(), AllocError>
-    requires no_changes { changes.old.items ≡ [] }
-    requires no_numbers { numbers.old.items ≡ [] }
-    ensures { OnOk result ((changes.new.items, numbers.new.items)
-        ≡ changes_after scene.now state.now trace.now since) }
-{
-    note_after(*changes.allocator(), trace, since, marks)?;
-    push_fields(scene, state, marks.as_slice(), changes, numbers)
-}
-
 /// The fields that were set after an input, with the marks of those that are listed.
 #[derive(Drop)]
 pub struct ChangeList {
@@ -175,6 +155,31 @@ impl ChangeList {
         self.changes.clear();
     }
 
+    /// Appends the fields that lines of inputs after `since` name. On an error, part of them may be
+    /// appended.
+    fn push_changes(
+        &mut self,
+        scene: &Scene,
+        state: &[Fields],
+        trace: &Trace,
+        since: u32,
+        numbers: &mut Vec<i64>,
+    ) -> Result<(), AllocError>
+        requires no_changes { self.old ≡ [] }
+        requires no_numbers { numbers.old.items ≡ [] }
+        ensures { OnOk result ((self.new, numbers.new.items)
+            ≡ changes_after scene.now state.now trace.now since) }
+    {
+        note_after(*self.changes.allocator(), trace, since, &mut self.marks)?;
+        push_fields(
+            scene,
+            state,
+            self.marks.as_slice(),
+            &mut self.changes,
+            numbers,
+        )
+    }
+
     /// Lists the fields that lines of inputs after `since` name, each once, in the order of their
     /// first lines, and the numbers of their current values, if `state` holds what each node of the
     /// scene keeps. A field that only sends holds no value and is left out. Takes time for these
@@ -197,15 +202,7 @@ impl ChangeList {
     {
         self.changes.clear();
         numbers.clear();
-        let listed = push_changes(
-            scene,
-            state,
-            trace,
-            since,
-            &mut self.marks,
-            &mut self.changes,
-            numbers,
-        );
+        let listed = self.push_changes(scene, state, trace, since, numbers);
         if listed.is_err() {
             self.changes.clear();
             numbers.clear();

@@ -1,5 +1,5 @@
--- What a handle owns: nothing if it is null, else the part that its pointer points to with the right to
--- free its block.
+-- What a handle owns: nothing if it is null, else the part that its pointer points to with the
+-- right to free its block.
 use Rattle.std.specs.Prelude.{Option, Some, None}
 use base.Fml.{Fml, feq}
 use denote.RawPtr.{Ptr, null_ptr}

@@ -4,7 +4,7 @@ use Rattle.cascade_core.specs.Held.{StageView, world_in}
 use Rattle.embed_scene.specs.Named.{IsNodeNamed}
 use Rattle.embed_scene.specs.declared.fields.FieldAs.{FieldAs}
 use Rattle.embed_world.specs.Looks.{of_world}
-use Rattle.embed_world.specs.Status.{closed, no_such_field, no_such_node, status_of_look}
+use Rattle.embed_world.specs.Status.{IsWritten, closed, no_such_field, no_such_node, status_of_look}
 use Rattle.embed_world.specs.declared.fault.LookFault.{LookFault}
 use Rattle.scene_core.specs.Scene.{SceneView}
 
@@ -12,8 +12,7 @@ use Rattle.scene_core.specs.Scene.{SceneView}
 
 -- the type and the access of a field are written, if there is one
 abbrev pub IsDescribed : Option FieldAs → (old : FieldAs) → (status : ℕ) → (new : FieldAs) → Type 0
-IsDescribed None old status new = (status ≡ no_such_field) × (new ≡ old)
-IsDescribed (Some field) old status new = (status ≡ 0) × (new ≡ field)
+IsDescribed found old status new = IsWritten no_such_field found old status new
 
 -- a field of what the handle holds is described
 abbrev pub Describes : {H : Type 0} → (H → Option FieldAs) → Option H → ℕ → (old new : FieldAs)
@@ -25,8 +24,7 @@ Describes found (Some h) status old new = IsDescribed (found h) old status new
 
 -- the number of a node is written, if there is one
 abbrev pub IsNodeTold : Option ℕ → (old status new : ℕ) → Type 0
-IsNodeTold None old status new = (status ≡ no_such_node) × (new ≡ old)
-IsNodeTold (Some node) old status new = (status ≡ 0) × (new ≡ node)
+IsNodeTold found old status new = IsWritten no_such_node found old status new
 
 -- the node of a name is looked up in a scene
 abbrev pub FindsNodeIn : SceneView → List ℕ → (status old new : ℕ) → Type 0

@@ -116,10 +116,15 @@ abbrev pub AsksBy : {H A : Type 0} → (H → A) → (said : ℕ) → Option H �
 AsksBy asked said None status old new = (status ≡ closed) × (new ≡ old)
 AsksBy asked said (Some w) status old new = (status ≡ said) × (new ≡ asked w)
 
+-- what was found is written; if nothing was, the status is `missing` and nothing is written
+abbrev pub IsWritten : {A : Type 0} → (missing : ℕ) → Option A → (old : A) → (status : ℕ)
+    → (new : A) → Type 0
+IsWritten missing None old status new = (status ≡ missing) × (new ≡ old)
+IsWritten missing (Some found) old status new = (status ≡ 0) × (new ≡ found)
+
 -- the number of a field is written, if there is one
 abbrev pub IsFound : Option ℕ → (old status new : ℕ) → Type 0
-IsFound None old status new = (status ≡ no_such_field) × (new ≡ old)
-IsFound (Some field) old status new = (status ≡ 0) × (new ≡ field)
+IsFound found old status new = IsWritten no_such_field found old status new
 
 -- a field is looked up in what the handle holds, which is unchanged
 abbrev pub Finds : {H : Type 0} → (H → Option ℕ) → Option H → ℕ → (old new : ℕ) → Type 0
@@ -128,8 +133,7 @@ Finds found (Some h) status old new = IsFound (found h) old status new
 
 -- the number of a viewer is written, if there is such a viewer
 abbrev pub IsHeard : Option ℕ → (old status new : ℕ) → Type 0
-IsHeard None old status new = (status ≡ out_of_range) × (new ≡ old)
-IsHeard (Some n) old status new = (status ≡ 0) × (new ≡ n)
+IsHeard found old status new = IsWritten out_of_range found old status new
 
 -- a viewer is looked up in what the handle holds, which is unchanged
 abbrev pub Hears : {H : Type 0} → (H → Option ℕ) → Option H → ℕ → (old new : ℕ) → Type 0

@@ -4,6 +4,7 @@ ghost use Rattle.std.specs.Prelude.{◌≡◌};
 ghost use Rattle.embed_world.specs.Asked as spec;
 
 use crate::fault::LookFault;
+use crate::found::write_found;
 use crate::status::{DONE, NO_SUCH_FIELD, NO_SUCH_NODE, status_of_look};
 use crate::viewer::EmbeddedViewer;
 use crate::world::EmbeddedWorld;
@@ -25,22 +26,14 @@ fn last_time(stage: &Stage<StockScript>) -> Result<i64, LookFault>
 pub fn tell_field_type(found: Option<FieldAs>, told: &mut FieldAs) -> u8
     ensures { spec.IsDescribed found told.old result told.new }
 {
-    let Some(field) = found else {
-        return NO_SUCH_FIELD;
-    };
-    *told = field;
-    DONE
+    write_found(found, NO_SUCH_FIELD, told)
 }
 
 /// Writes the number of a node, if there is one, to `told`, and returns the status.
 pub fn tell_node(found: Option<u32>, told: &mut u32) -> u8
     ensures { spec.IsNodeTold found told.old result told.new }
 {
-    let Some(node) = found else {
-        return NO_SUCH_NODE;
-    };
-    *told = node;
-    DONE
+    write_found(found, NO_SUCH_NODE, told)
 }
 
 /// Writes a time, if it was read, to `told`, and returns the status.

@@ -4,10 +4,10 @@
 //! |---|---|
 //! | `world`, `opening`, `input`, `scripts`, `shots` | a world: made, moved on, saved, loaded |
 //! | `host`, `viewer`, `pieces`, `datagram` | a host and a viewer, and what they send |
-//! | `texts`, `lists`, `viewer_texts`, `viewer_lists`, `asks` | reads of them, as texts and numbers |
+//! | `texts`, `lists`, `viewer_texts`, `viewer_lists`, `asks` | reads of them: texts and numbers |
 //! | `changed` | the fields that were set after an input |
 //! | `lines`, `meet`, `named` | what a read looks up |
-//! | `status`, `peer_status`, `tell`, `buffers`, `aim` | how C sees an answer, and what it passes |
+//! | `status`, `peer_status`, `tell`, `found`, `buffers`, `aim` | how C sees an answer |
 //! | `fault` | why a read fails |
 #![tactic(auto)]
 
@@ -17,6 +17,7 @@ mod buffers;
 mod changed;
 mod datagram;
 mod fault;
+mod found;
 mod host;
 mod input;
 mod lines;

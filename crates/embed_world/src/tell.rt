@@ -5,6 +5,7 @@ ghost use Rattle.embed_world.specs.Status as answers;
 ghost use Rattle.embed_world.specs.Status.{IsFound, IsHeard};
 ghost use Rattle.embed_world.specs.PeerStatus as spec;
 
+use crate::found::write_found;
 use crate::peer_status::{
     status_of_gather, status_of_host, status_of_join, status_of_number, status_of_offer,
     status_of_take,
@@ -166,11 +167,7 @@ pub fn tell_offer(answer: Result<u32, OfferFault>, told: &mut u32) -> u8
 pub fn tell_field(found: Option<u16>, told: &mut u16) -> u8
     ensures { IsFound found told.old result told.new }
 {
-    let Some(field) = found else {
-        return NO_SUCH_FIELD;
-    };
-    *told = field;
-    DONE
+    write_found(found, NO_SUCH_FIELD, told)
 }
 
 /// Writes the number that a viewer asked from, if there is such a viewer, to `told`, and returns
@@ -178,11 +175,7 @@ pub fn tell_field(found: Option<u16>, told: &mut u16) -> u8
 pub fn tell_heard(found: Option<u32>, told: &mut u32) -> u8
     ensures { IsHeard found told.old result told.new }
 {
-    let Some(next) = found else {
-        return RANGE;
-    };
-    *told = next;
-    DONE
+    write_found(found, RANGE, told)
 }
 
 /// Writes how many inputs the world of a snapshot has had to `told`, and returns the status.

@@ -16,12 +16,17 @@ use Rattle.proto_parts.specs.declared.inside.Owner.TheVariants.{Node, Instance}
 use Rattle.proto_parts.specs.declared.fields.KnownField.{KnownField}
 use Rattle.proto_parts.specs.Fields.{numbered}
 use Rattle.proto_parts.specs.Settled.{State, doing}
+use Rattle.proto_nodes.specs.declared.frames.FieldAt.{FieldAt}
 use Rattle.proto_nodes.specs.declared.walker.Walker.{Walker}
 use Rattle.proto_nodes.specs.Shown.{Sound, shown}
 
 abbrev pub is_type : holder.Owner → Bool
 is_type (Node t) = true
 is_type (Instance interface) = false
+
+-- the field that waits, with its number
+abbrev pub placed : FieldAt → ℕ × Field
+placed place = numbered place.name.now place.field
 
 -- in the terms of proto_meaning: the braces number `at`, and their owner
 abbrev pub inside_of : ℕ → Owner → Inside → flat.Inside

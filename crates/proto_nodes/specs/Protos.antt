@@ -3,12 +3,11 @@ use Rattle.std.specs.Prelude.{◌≡◌, ℕ, List, [], map, Option, Some, None,
 use Rattle.classic_tree.specs.declared.tree.ProtoText.{out-ProtoText}
 use Rattle.proto_flat.specs.Fault.{memory}
 use Rattle.proto_meaning.specs.Flat.{comes, field}
-use Rattle.proto_meaning.specs.Names.{Field, Filled}
+use Rattle.proto_meaning.specs.Names.{Filled}
 use Rattle.proto_meaning.specs.Sight.{Put, Prototype, Owner, OfType, OfProto, no_names}
 use Rattle.proto_parts.specs.declared.inside.Owner as holder
 use Rattle.proto_parts.specs.declared.inside.Owner.TheVariants.{Node, Instance}
 use Rattle.proto_meaning.specs.trees.Meaning.{instance}
-use Rattle.proto_meaning.specs.declared.tree.ProtoTree.{ProtoTree}
 use Rattle.proto_meaning.specs.declared.tree.Word.{Word}
 use Rattle.proto_meaning.specs.declared.tree.Word.TheVariants as word
 use Rattle.proto_nodes.specs.declared.frames.Proto.{Proto}

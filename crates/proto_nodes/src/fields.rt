@@ -50,8 +50,7 @@ fn put_one<'t, 'a>(
         (shown.shown walker.old)) result walker.new opened.now }
     ensures sound { OpenSound result walker.new opened.now }
 {
-    let FieldAt { line, name, field } = place;
-    meet_value(walker, &opened.inside, line, name, field, twice, 1)?;
+    meet_value(walker, &opened.inside, place, twice, 1)?;
     Ok(Next::One(place, node))
 }
 
@@ -73,8 +72,7 @@ fn put_many<'t, 'a>(
         (shown.shown walker.old)) result walker.new opened.now }
     ensures sound { OpenSound result walker.new opened.now }
 {
-    let FieldAt { line, name, field } = place;
-    meet_value(walker, &opened.inside, line, name, field, twice, count)?;
+    meet_value(walker, &opened.inside, place, twice, count)?;
     Ok(Next::List(place, nodes))
 }
 
@@ -96,18 +94,9 @@ fn put_plain<'t, 'a>(
         (shown.shown walker.old)) result walker.new opened.new }
     ensures sound { OpenSound result walker.new opened.new }
 {
-    let FieldAt { line, name, field } = place;
-    meet_value(
-        walker,
-        &opened.inside,
-        line,
-        name,
-        field,
-        twice,
-        item_count(value),
-    )?;
+    meet_value(walker, &opened.inside, place, twice, item_count(value))?;
     let copy = plain(alloc, value)?;
-    keep_value(alloc, &mut opened.inside, line, name, field, copy)?;
+    keep_value(alloc, &mut opened.inside, place, copy)?;
     Ok(Next::On)
 }
 
@@ -130,17 +119,12 @@ fn put_given<'t, 'a>(
         walker.new opened.new }
     ensures sound { OpenSound result walker.new opened.new }
 {
-    let FieldAt { line, name, field } = place;
     let at = opened.at;
     let inside = &mut opened.inside;
     match given {
-        GivenTree::Nothing => return on(put_nothing(walker, inside, line, name, field, twice)),
-        GivenTree::Is(outer) => return on(put_is(
-            walker, inside, at, line, name, field, twice, outer,
-        )),
-        GivenTree::LeftOut(wrong) => return on(put_aside(
-            walker, inside, line, name, field, twice, *wrong,
-        )),
+        GivenTree::Nothing => return on(put_nothing(walker, inside, place, twice)),
+        GivenTree::Is(outer) => return on(put_is(walker, inside, at, place, twice, outer)),
+        GivenTree::LeftOut(wrong) => return on(put_aside(walker, inside, place, twice, *wrong)),
         GivenTree::Plain(value) => put_plain(alloc, walker, opened, place, twice, value),
         GivenTree::One(node) => put_one(walker, opened, place, twice, node),
         GivenTree::Many(count, nodes) => {
@@ -294,6 +278,5 @@ pub fn set_value<'t, 'a>(
         ≡ doing (open_does ps opened.new (inside_now ps opened.new)) s) }
     ensures sound { IfOk result (λ _. braces.Sound opened.new.inside) }
 {
-    let FieldAt { line, name, field } = place;
-    keep_value(alloc, &mut opened.inside, line, name, field, value)
+    keep_value(alloc, &mut opened.inside, place, value)
 }

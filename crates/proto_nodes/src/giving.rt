@@ -8,14 +8,15 @@ ghost use Rattle.proto_meaning.specs.Limits.{item_count};
 ghost use Rattle.proto_meaning.specs.Names.{value_of};
 ghost use Rattle.proto_meaning.specs.Sight as sight;
 ghost use Rattle.proto_parts.specs.Given as table;
-ghost use Rattle.proto_parts.specs.Fields.{field_named, numbered};
+ghost use Rattle.proto_parts.specs.Fields.{field_named};
 ghost use Rattle.proto_parts.specs.Inside as braces;
 ghost use Rattle.proto_parts.specs.Settled.{doing};
 ghost use Rattle.proto_parts.specs.Scope as scope;
 ghost use Rattle.proto_nodes.specs.Shown as shown;
 ghost use Rattle.proto_nodes.specs.Shown.{Steps};
-ghost use Rattle.proto_nodes.specs.Giving.{Gives, MayJoin, inside_of, is_type};
+ghost use Rattle.proto_nodes.specs.Giving.{Gives, MayJoin, inside_of, is_type, placed};
 
+use crate::frames::FieldAt;
 use crate::walker::Walker;
 use classic_tree::RawValue;
 use proto_flat::{ExpandFault, ExpandFaultKind};
@@ -47,24 +48,22 @@ pub fn meet_field(
 fn keep_nothing<'t, 'a>(
     walker: &mut Walker<'t, 'a>,
     inside: &mut Inside<'t, 'a>,
-    line: u32,
-    name: &'a Text,
-    field: KnownField,
+    place: FieldAt<'a>,
 ) -> Result<(), ExpandFault>
     requires walker { shown.Sound walker.old }
     requires inside { braces.Sound inside.old }
-    requires free { table.has_name name.now (braces.filled_in inside.old) ≡ false }
+    requires free { table.has_name place.name.now (braces.filled_in inside.old) ≡ false }
     ensures { (at : ℕ) (o : sight.Owner) → flat.is_node o ≡ is_type inside.old.owner
-        → Gives at o (doing (flat.give line (numbered name.now field) false text.Nothing
+        → Gives at o (doing (flat.give place.entry.line (placed place.entry) false text.Nothing
         (inside_of at o inside.old)) (shown.shown walker.old)) result walker.new inside.old
         inside.new }
 {
-    meet_field(walker, inside.owner, field.number, 0)?;
+    meet_field(walker, inside.owner, place.field.number, 0)?;
     inside.fill(
-        name,
+        place.name,
         GivenField {
-            line,
-            number: field.number,
+            line: place.line,
+            number: place.field.number,
             value: None,
         },
     )?;
@@ -76,24 +75,22 @@ fn keep_nothing<'t, 'a>(
 pub fn put_nothing<'t, 'a>(
     walker: &mut Walker<'t, 'a>,
     inside: &mut Inside<'t, 'a>,
-    line: u32,
-    name: &'a Text,
-    field: KnownField,
+    place: FieldAt<'a>,
     twice: bool,
 ) -> Result<(), ExpandFault>
     requires walker { shown.Sound walker.old }
     requires inside { braces.Sound inside.old }
     requires free { twice ≡ false
-        → table.has_name name.now (braces.filled_in inside.old) ≡ false }
+        → table.has_name place.name.now (braces.filled_in inside.old) ≡ false }
     ensures { (at : ℕ) (o : sight.Owner) → flat.is_node o ≡ is_type inside.old.owner
-        → Gives at o (doing (flat.give line (numbered name.now field) twice text.Nothing
+        → Gives at o (doing (flat.give place.entry.line (placed place.entry) twice text.Nothing
         (inside_of at o inside.old)) (shown.shown walker.old)) result walker.new inside.old
         inside.new }
 {
     if twice {
-        return Err(ExpandFaultKind::FieldTwice.on_line(line));
+        return Err(ExpandFaultKind::FieldTwice.on_line(place.line));
     }
-    keep_nothing(walker, inside, line, name, field)
+    keep_nothing(walker, inside, place)
 }
 
 /// Reports whether an interface field of the first access may be joined to a field of the second.
@@ -139,27 +136,26 @@ fn join<'t, 'a>(
     walker: &mut Walker<'t, 'a>,
     inside: &mut Inside<'t, 'a>,
     at: usize,
-    line: u32,
-    name: &'a Text,
-    field: KnownField,
+    place: FieldAt<'a>,
     outer: &'a Text,
 ) -> Result<(), ExpandFault>
     requires walker { shown.Sound walker.old }
     requires inside { braces.Sound inside.old }
-    requires free { table.has_name name.now (braces.filled_in inside.old) ≡ false }
+    requires free { table.has_name place.name.now (braces.filled_in inside.old) ≡ false }
     ensures { (o : sight.Owner) → flat.is_node o ≡ is_type inside.old.owner
-        → Gives at o (doing (flat.join line (numbered name.now field) (inside_of at o inside.old)
-        outer.now (value_of outer.now (scope.shown walker.old.scope).given))
-        (shown.shown walker.old)) result walker.new inside.old inside.new }
+        → Gives at o (doing (flat.join place.entry.line (placed place.entry)
+        (inside_of at o inside.old) outer.now
+        (value_of outer.now (scope.shown walker.old.scope).given)) (shown.shown walker.old)) result
+        walker.new inside.old inside.new }
 {
     let value = shared(walker.scope.value(outer))?;
-    meet_field(walker, inside.owner, field.number, items_of(&value))?;
-    walker.join_field(outer, at, name)?;
+    meet_field(walker, inside.owner, place.field.number, items_of(&value))?;
+    walker.join_field(outer, at, place.name)?;
     inside.fill(
-        name,
+        place.name,
         GivenField {
-            line,
-            number: field.number,
+            line: place.line,
+            number: place.field.number,
             value,
         },
     )?;
@@ -171,23 +167,21 @@ fn join<'t, 'a>(
 fn check_is(
     walker: &Walker<'_, '_>,
     inside: &Inside<'_, '_>,
-    line: u32,
-    name: &Text,
-    field: KnownField,
+    place: FieldAt<'_>,
     twice: bool,
     outer: &Text,
 ) -> Result<(), ExpandFault>
-    ensures { MayJoin line name.now field twice outer.now inside.now (shown.shown walker.now)
-        result }
+    ensures { MayJoin place.entry.line place.entry.name.now place.entry.field twice outer.now
+        inside.now (shown.shown walker.now) result }
 {
     let Some(known) = walker.scope.outer(outer) else {
-        return Err(ExpandFaultKind::BadIs.on_line(line));
+        return Err(ExpandFaultKind::BadIs.on_line(place.line));
     };
-    if !fits(known, field) {
-        return Err(ExpandFaultKind::BadIs.on_line(line));
+    if !fits(known, place.field) {
+        return Err(ExpandFaultKind::BadIs.on_line(place.line));
     }
     if twice {
-        return Err(ExpandFaultKind::FieldTwice.on_line(line));
+        return Err(ExpandFaultKind::FieldTwice.on_line(place.line));
     }
     Ok(())
 }
@@ -199,21 +193,19 @@ pub fn put_is<'t, 'a>(
     walker: &mut Walker<'t, 'a>,
     inside: &mut Inside<'t, 'a>,
     at: usize,
-    line: u32,
-    name: &'a Text,
-    field: KnownField,
+    place: FieldAt<'a>,
     twice: bool,
     outer: &'a Text,
 ) -> Result<(), ExpandFault>
     requires walker { shown.Sound walker.old }
     requires inside { braces.Sound inside.old }
     requires free { twice ≡ false
-        → table.has_name name.now (braces.filled_in inside.old) ≡ false }
+        → table.has_name place.name.now (braces.filled_in inside.old) ≡ false }
     ensures { (o : sight.Owner) → flat.is_node o ≡ is_type inside.old.owner
-        → Gives at o (doing (flat.give line (numbered name.now field) twice (text.Is outer.now)
-        (inside_of at o inside.old)) (shown.shown walker.old)) result walker.new inside.old
-        inside.new }
+        → Gives at o (doing (flat.give place.entry.line (placed place.entry) twice
+        (text.Is outer.now) (inside_of at o inside.old)) (shown.shown walker.old)) result
+        walker.new inside.old inside.new }
 {
-    check_is(walker, inside, line, name, field, twice, outer)?;
-    join(walker, inside, at, line, name, field, outer)
+    check_is(walker, inside, place, twice, outer)?;
+    join(walker, inside, at, place, outer)
 }

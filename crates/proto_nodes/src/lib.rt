@@ -17,7 +17,7 @@ mod values;
 mod walker;
 
 pub use declared::{Declared, declare};
-pub use frames::{Frame, NodeTask, Proto, WalkState};
+pub use frames::{FieldAt, Frame, NodeTask, Proto, WalkState};
 pub use giving::{put_is, put_nothing};
 pub use nodes::put_node;
 pub use values::{keep_none, keep_value, meet_value, put_aside};

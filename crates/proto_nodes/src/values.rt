@@ -5,13 +5,13 @@ ghost use Rattle.x3d_values.specs.Access.{is_initial};
 ghost use Rattle.proto_meaning.specs.Flat as flat;
 ghost use Rattle.proto_meaning.specs.Sight as sight;
 ghost use Rattle.proto_parts.specs.Given as table;
-ghost use Rattle.proto_parts.specs.Fields.{numbered};
 ghost use Rattle.proto_parts.specs.Inside as braces;
 ghost use Rattle.proto_parts.specs.Settled.{doing};
 ghost use Rattle.proto_nodes.specs.Shown as shown;
 ghost use Rattle.proto_meaning.specs.trees.Values.{value_at};
-ghost use Rattle.proto_nodes.specs.Giving.{Gives, MayHold, MayStand, aside, inside_of, is_type};
+ghost use Rattle.proto_nodes.specs.Giving.{Gives, MayHold, MayStand, aside, inside_of, is_type, placed};
 
+use crate::frames::FieldAt;
 use crate::giving::meet_field;
 use crate::walker::Walker;
 use classic_tree::RawValue;
@@ -19,7 +19,6 @@ use proto_flat::{ExpandFault, ExpandFaultKind};
 use proto_parts::{GivenField, Inside, KnownField, Owner};
 use std::alloc::{AllocError, Global};
 use std::rc::Rc;
-use x3d_lists::Text;
 
 /// Reports whether the field may be given a value: any field of a node, and a field of an instance
 /// that holds one.
@@ -33,20 +32,15 @@ fn admits(owner: Owner<'_, '_>, field: KnownField) -> bool
 }
 
 /// Checks that the field may have a value: UnknownField if it can hold none, FieldTwice if `twice`.
-fn check_value(
-    inside: &Inside<'_, '_>,
-    line: u32,
-    name: &Text,
-    field: KnownField,
-    twice: bool,
-) -> Result<(), ExpandFault>
-    ensures { MayStand line name.now field twice inside.now result }
+fn check_value(inside: &Inside<'_, '_>, place: FieldAt<'_>, twice: bool) -> Result<(), ExpandFault>
+    ensures { MayStand place.entry.line place.entry.name.now place.entry.field twice inside.now
+        result }
 {
-    if !admits(inside.owner, field) {
-        return Err(ExpandFaultKind::UnknownField.on_line(line));
+    if !admits(inside.owner, place.field) {
+        return Err(ExpandFaultKind::UnknownField.on_line(place.line));
     }
     if twice {
-        return Err(ExpandFaultKind::FieldTwice.on_line(line));
+        return Err(ExpandFaultKind::FieldTwice.on_line(place.line));
     }
     Ok(())
 }
@@ -56,43 +50,39 @@ fn check_value(
 pub fn meet_value(
     walker: &mut Walker<'_, '_>,
     inside: &Inside<'_, '_>,
-    line: u32,
-    name: &Text,
-    field: KnownField,
+    place: FieldAt<'_>,
     twice: bool,
     items: usize,
 ) -> Result<(), ExpandFault>
     requires { shown.Sound walker.old }
-    ensures { MayHold line name.now field twice items inside.now (shown.shown walker.old) result
-        walker.new }
+    ensures { MayHold place.entry.line place.entry.name.now place.entry.field twice items
+        inside.now (shown.shown walker.old) result walker.new }
 {
-    check_value(inside, line, name, field, twice)?;
-    meet_field(walker, inside.owner, field.number, items)
+    check_value(inside, place, twice)?;
+    meet_field(walker, inside.owner, place.field.number, items)
 }
 
 /// Gives the field the value. AllocError if memory runs out.
 pub fn keep_value<'t, 'a>(
     alloc: Global,
     inside: &mut Inside<'t, 'a>,
-    line: u32,
-    name: &'a Text,
-    field: KnownField,
+    place: FieldAt<'a>,
     value: RawValue<u32>,
 ) -> Result<(), AllocError>
     requires inside { braces.Sound inside.old }
-    requires free { table.has_name name.now (braces.filled_in inside.old) ≡ false }
+    requires free { table.has_name place.name.now (braces.filled_in inside.old) ≡ false }
     ensures filled { IfOk result (λ _. (at : ℕ) (o : sight.Owner)
-        → flat.fill line (numbered name.now field) (inside_of at o inside.old) (Some value)
+        → flat.fill place.entry.line (placed place.entry) (inside_of at o inside.old) (Some value)
         ≡ inside_of at o inside.new) }
     ensures sound { IfOk result (λ _. braces.Sound inside.new) }
     ensures owner { inside.new.owner ≡ inside.old.owner }
 {
     let value = Rc::new(alloc, value)?;
     inside.fill(
-        name,
+        place.name,
         GivenField {
-            line,
-            number: field.number,
+            line: place.line,
+            number: place.field.number,
             value: Some(value),
         },
     )?;
@@ -100,25 +90,20 @@ pub fn keep_value<'t, 'a>(
 }
 
 /// Records that the field was given a value that no IS takes. AllocError if memory runs out.
-pub fn keep_none<'t, 'a>(
-    inside: &mut Inside<'t, 'a>,
-    line: u32,
-    name: &'a Text,
-    field: KnownField,
-) -> Result<(), AllocError>
+pub fn keep_none<'t, 'a>(inside: &mut Inside<'t, 'a>, place: FieldAt<'a>) -> Result<(), AllocError>
     requires inside { braces.Sound inside.old }
-    requires free { table.has_name name.now (braces.filled_in inside.old) ≡ false }
+    requires free { table.has_name place.name.now (braces.filled_in inside.old) ≡ false }
     ensures filled { IfOk result (λ _. (at : ℕ) (o : sight.Owner)
-        → flat.fill line (numbered name.now field) (inside_of at o inside.old) None
+        → flat.fill place.entry.line (placed place.entry) (inside_of at o inside.old) None
         ≡ inside_of at o inside.new) }
     ensures sound { IfOk result (λ _. braces.Sound inside.new) }
     ensures owner { inside.new.owner ≡ inside.old.owner }
 {
     inside.fill(
-        name,
+        place.name,
         GivenField {
-            line,
-            number: field.number,
+            line: place.line,
+            number: place.field.number,
             value: None,
         },
     )?;
@@ -131,26 +116,24 @@ pub fn keep_none<'t, 'a>(
 pub fn put_aside<'t, 'a>(
     walker: &mut Walker<'t, 'a>,
     inside: &mut Inside<'t, 'a>,
-    line: u32,
-    name: &'a Text,
-    field: KnownField,
+    place: FieldAt<'a>,
     twice: bool,
     wrong: Option<ExpandFault>,
 ) -> Result<(), ExpandFault>
     requires walker { shown.Sound walker.old }
     requires inside { braces.Sound inside.old }
     requires free { twice ≡ false
-        → table.has_name name.now (braces.filled_in inside.old) ≡ false }
+        → table.has_name place.name.now (braces.filled_in inside.old) ≡ false }
     ensures { (at : ℕ) (o : sight.Owner) → flat.is_node o ≡ is_type inside.old.owner
-        → Gives at o (doing (value_at line (numbered name.now field) twice 0
-        (inside_of at o inside.old) (aside line (numbered name.now field)
+        → Gives at o (doing (value_at place.entry.line (placed place.entry) twice 0
+        (inside_of at o inside.old) (aside place.entry.line (placed place.entry)
         (inside_of at o inside.old) wrong)) (shown.shown walker.old)) result walker.new inside.old
         inside.new }
 {
-    meet_value(walker, inside, line, name, field, twice, 0)?;
+    meet_value(walker, inside, place, twice, 0)?;
     if let Some(fault) = wrong {
         return Err(fault);
     }
-    keep_none(inside, line, name, field)?;
+    keep_none(inside, place)?;
     Ok(())
 }

@@ -19,30 +19,30 @@ returns-in_err-meet_field c =
     let vals : option_map (λ r. r.value) c.in_ok-value.value ≡ value_of c.args.outer.now (scope.shown c.args.walker.now.scope).given = c.in_ok-value.ensures ∙ c.value.ensures in
     let items : c.items_of.result ≡ option_map_or item_count (value_of c.args.outer.now (scope.shown c.args.walker.now.scope).given) 0 = c.items_of.ensures ∙ ap (λ x. option_map_or item_count x 0) vals in
     let failed : c.from_residual-in_err-meet_field.result ≡ Err c.in_err-meet_field.field-0.0 = search rules in
-    λ o is. gives-refused c.args.at o (doing (flat.join c.args.line (numbered c.args.name.now c.args.field) (inside_of c.args.at o c.args.inside.now) c.args.outer.now (value_of c.args.outer.now (scope.shown c.args.walker.now.scope).given)) (shown c.args.walker.now))
+    λ o is. gives-refused c.args.at o (doing (flat.join c.args.place.line (numbered c.args.place.name.now c.args.place.field) (inside_of c.args.at o c.args.inside.now) c.args.outer.now (value_of c.args.outer.now (scope.shown c.args.walker.now.scope).given)) (shown c.args.walker.now))
     c.from_residual-in_err-meet_field.result c.meet_field.new.walker c.args.inside.now c.args.inside.now c.in_err-meet_field.field-0.0 failed
-    (join-ends c.args.at o c.args.inside.now c.args.line c.args.name.now c.args.outer.now c.args.field (value_of c.args.outer.now (scope.shown c.args.walker.now.scope).given) (shown c.args.walker.now) c.in_err-meet_field.field-0.0
-    (met-items o c.args.field.number c.items_of.result (option_map_or item_count (value_of c.args.outer.now (scope.shown c.args.walker.now.scope).given) 0) (shown c.args.walker.now) c.in_err-meet_field.field-0.0 items (c.in_err-meet_field.ensures o is)))
+    (join-ends c.args.at o c.args.inside.now c.args.place.line c.args.place.name.now c.args.outer.now c.args.place.field (value_of c.args.outer.now (scope.shown c.args.walker.now.scope).given) (shown c.args.walker.now) c.in_err-meet_field.field-0.0
+    (met-items o c.args.place.field.number c.items_of.result (option_map_or item_count (value_of c.args.outer.now (scope.shown c.args.walker.now.scope).given) 0) (shown c.args.walker.now) c.in_err-meet_field.field-0.0 items (c.in_err-meet_field.ensures o is)))
 
 pub returns-in_err-join_field : goal.returns-in_err-join_field
 returns-in_err-join_field c =
     let vals : option_map (λ r. r.value) c.in_ok-value.value ≡ value_of c.args.outer.now (scope.shown c.args.walker.now.scope).given = c.in_ok-value.ensures ∙ c.value.ensures in
     let items : c.items_of.result ≡ option_map_or item_count (value_of c.args.outer.now (scope.shown c.args.walker.now.scope).given) 0 = c.items_of.ensures ∙ ap (λ x. option_map_or item_count x 0) vals in
     let failed : c.from_residual-in_err-join_field.result ≡ Err c.in_err-join_field.field-0.0 = search rules in
-    λ o is. gives-refused c.args.at o (doing (flat.join c.args.line (numbered c.args.name.now c.args.field) (inside_of c.args.at o c.args.inside.now) c.args.outer.now (value_of c.args.outer.now (scope.shown c.args.walker.now.scope).given)) (shown c.args.walker.now))
+    λ o is. gives-refused c.args.at o (doing (flat.join c.args.place.line (numbered c.args.place.name.now c.args.place.field) (inside_of c.args.at o c.args.inside.now) c.args.outer.now (value_of c.args.outer.now (scope.shown c.args.walker.now.scope).given)) (shown c.args.walker.now))
     c.from_residual-in_err-join_field.result c.join_field.new.self c.args.inside.now c.args.inside.now c.in_err-join_field.field-0.0 failed
-    (join-stops c.args.at o c.args.inside.now c.args.line c.args.name.now c.args.outer.now c.args.field (value_of c.args.outer.now (scope.shown c.args.walker.now.scope).given) (shown c.args.walker.now) (shown c.meet_field.new.walker) c.in_err-join_field.field-0.0
-    (ap (λ n. doing (met_field o c.args.field.number n) (shown c.args.walker.now)) (sym items) ∙ (c.in_ok-meet_field.ensures o is).0) c.in_err-join_field.ensures)
+    (join-stops c.args.at o c.args.inside.now c.args.place.line c.args.place.name.now c.args.outer.now c.args.place.field (value_of c.args.outer.now (scope.shown c.args.walker.now.scope).given) (shown c.args.walker.now) (shown c.meet_field.new.walker) c.in_err-join_field.field-0.0
+    (ap (λ n. doing (met_field o c.args.place.field.number n) (shown c.args.walker.now)) (sym items) ∙ (c.in_ok-meet_field.ensures o is).0) c.in_err-join_field.ensures)
 
 pub returns : goal.returns
 returns c =
     let vals : option_map (λ r. r.value) c.in_ok-value.value ≡ value_of c.args.outer.now (scope.shown c.args.walker.now.scope).given = c.in_ok-value.ensures ∙ c.value.ensures in
     let items : c.items_of.result ≡ option_map_or item_count (value_of c.args.outer.now (scope.shown c.args.walker.now.scope).given) 0 = c.items_of.ensures ∙ ap (λ x. option_map_or item_count x 0) vals in
     λ o is. (
-      join-kept c.args.at o c.args.inside.now c.fill.new.self c.args.line c.args.name.now c.args.outer.now c.args.field (value_of c.args.outer.now (scope.shown c.args.walker.now.scope).given) (shown c.args.walker.now) (shown c.meet_field.new.walker) (shown c.join_field.new.self)
-          (ap (λ n. doing (met_field o c.args.field.number n) (shown c.args.walker.now)) (sym items) ∙ (c.in_ok-meet_field.ensures o is).0) c.in_ok-join_field.ensures.0
-          (filled-inside c.args.at o c.args.inside.now c.fill.new.self c.args.line c.args.name.now c.args.field (value_of c.args.outer.now (scope.shown c.args.walker.now.scope).given) c.in_ok-fill.ensures.fields
-          (c.in_ok-fill.ensures.filled ∙ ap (λ x. filled_in c.args.inside.now ++ record { line = c.args.line; name = c.args.name.now; number = c.args.field.number; value = x } ∷ []) vals)),
+      join-kept c.args.at o c.args.inside.now c.fill.new.self c.args.place.line c.args.place.name.now c.args.outer.now c.args.place.field (value_of c.args.outer.now (scope.shown c.args.walker.now.scope).given) (shown c.args.walker.now) (shown c.meet_field.new.walker) (shown c.join_field.new.self)
+          (ap (λ n. doing (met_field o c.args.place.field.number n) (shown c.args.walker.now)) (sym items) ∙ (c.in_ok-meet_field.ensures o is).0) c.in_ok-join_field.ensures.0
+          (filled-inside c.args.at o c.args.inside.now c.fill.new.self c.args.place.line c.args.place.name.now c.args.place.field (value_of c.args.outer.now (scope.shown c.args.walker.now.scope).given) c.in_ok-fill.ensures.fields
+          (c.in_ok-fill.ensures.filled ∙ ap (λ x. filled_in c.args.inside.now ++ record { line = c.args.place.line; name = c.args.place.name.now; number = c.args.place.field.number; value = x } ∷ []) vals)),
       c.in_ok-join_field.ensures.1,
       c.in_ok-fill.ensures.sound,
       c.in_ok-fill.ensures.owner,

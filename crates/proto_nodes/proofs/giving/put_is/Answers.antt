@@ -14,12 +14,12 @@ pub returns-in_err-check_is : goal.returns-in_err-check_is
 returns-in_err-check_is c =
     let failed : c.from_residual.result ≡ Err c.in_err-check_is.field-0.0 = search rules in
     λ o is. gives-refused c.args.at o
-    (doing (flat.give c.args.line (numbered c.args.name.now c.args.field) c.args.twice (text.Is c.args.outer.now) (inside_of c.args.at o c.args.inside.now)) (shown c.args.walker.now))
+    (doing (flat.give c.args.place.line (numbered c.args.place.name.now c.args.place.field) c.args.twice (text.Is c.args.outer.now) (inside_of c.args.at o c.args.inside.now)) (shown c.args.walker.now))
     c.from_residual.result c.args.walker.now c.args.inside.now c.args.inside.now c.in_err-check_is.field-0.0 failed (inr (c.in_err-check_is.ensures c.args.at o))
 
 pub returns : goal.returns
 returns c =
     λ o is. gives-same c.args.at o
-    (doing (flat.give c.args.line (numbered c.args.name.now c.args.field) c.args.twice (text.Is c.args.outer.now) (inside_of c.args.at o c.args.inside.now)) (shown c.args.walker.now))
-    (doing (flat.join c.args.line (numbered c.args.name.now c.args.field) (inside_of c.args.at o c.args.inside.now) c.args.outer.now (value_of c.args.outer.now (scope.shown c.args.walker.now.scope).given)) (shown c.args.walker.now))
+    (doing (flat.give c.args.place.line (numbered c.args.place.name.now c.args.place.field) c.args.twice (text.Is c.args.outer.now) (inside_of c.args.at o c.args.inside.now)) (shown c.args.walker.now))
+    (doing (flat.join c.args.place.line (numbered c.args.place.name.now c.args.place.field) (inside_of c.args.at o c.args.inside.now) c.args.outer.now (value_of c.args.outer.now (scope.shown c.args.walker.now.scope).given)) (shown c.args.walker.now))
     c.join.result c.join.new.walker c.args.inside.now c.join.new.inside (c.in_ok-check_is.ensures.1 c.args.at o) (c.join.ensures o is)

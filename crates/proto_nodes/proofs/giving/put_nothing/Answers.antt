@@ -11,14 +11,14 @@ use Rattle.proto_nodes.proofs.giving.put_nothing.Goals as goal
 pub returns-then-twice : goal.returns-then-twice
 returns-then-twice c =
     λ at o is. inr (
-    nothing-twice at o c.args.inside.now c.args.line c.args.name.now c.args.field c.args.twice (shown c.args.walker.now) c.if-twice.true
+    nothing-twice at o c.args.inside.now c.args.place.line c.args.place.name.now c.args.place.field c.args.twice (shown c.args.walker.now) c.if-twice.true
     ∙ ap (λ f. Err f) (sym c.on_line.ensures))
 
 pub returns : goal.returns
 returns c =
     λ at o is. gives-same at o
-    (doing (give c.args.line (numbered c.args.name.now c.args.field) c.args.twice text.Nothing (inside_of at o c.args.inside.now)) (shown c.args.walker.now))
-    (doing (give c.args.line (numbered c.args.name.now c.args.field) false text.Nothing (inside_of at o c.args.inside.now)) (shown c.args.walker.now))
+    (doing (give c.args.place.line (numbered c.args.place.name.now c.args.place.field) c.args.twice text.Nothing (inside_of at o c.args.inside.now)) (shown c.args.walker.now))
+    (doing (give c.args.place.line (numbered c.args.place.name.now c.args.place.field) false text.Nothing (inside_of at o c.args.inside.now)) (shown c.args.walker.now))
     c.keep_nothing.result c.keep_nothing.new.walker c.args.inside.now c.keep_nothing.new.inside
-    (nothing-once at o c.args.inside.now c.args.line c.args.name.now c.args.field c.args.twice (shown c.args.walker.now) c.if-twice.false)
+    (nothing-once at o c.args.inside.now c.args.place.line c.args.place.name.now c.args.place.field c.args.twice (shown c.args.walker.now) c.if-twice.false)
     (c.keep_nothing.ensures at o is)

@@ -10,5 +10,5 @@ returns-in_err-check_value c =
 
 pub returns : goal.returns
 returns c =
-    holds-by c.args.line c.args.name.now c.args.field c.args.twice c.args.items c.args.inside.now (shown c.args.walker.now) c.meet_field.result c.meet_field.new.walker c.in_ok-check_value.ensures.0
+    holds-by c.args.place.line c.args.place.name.now c.args.place.field c.args.twice c.args.items c.args.inside.now (shown c.args.walker.now) c.meet_field.result c.meet_field.new.walker c.in_ok-check_value.ensures.0
     c.in_ok-check_value.ensures.1 c.meet_field.ensures
