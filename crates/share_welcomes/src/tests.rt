@@ -77,7 +77,7 @@ fn port_with(alloc: Global, bytes: &[u8]) -> Result<HostPort<FakePort>, Fail> {
 fn hands_on(port: &mut HostPort<FakePort>, wanted: &[u8]) -> bool {
     let mut bytes = [0; RECEIVED];
     match port.receive(&mut bytes) {
-        Ok(Some((9, count))) => bytes[..count] == *wanted,
+        Ok(Some((9, count))) => &bytes[..count] == wanted,
         _ => false,
     }
 }
