@@ -20,3 +20,6 @@ pub use host_run::{Coming, HostRun};
 pub use learned::Learned;
 pub use port::HostPort;
 pub use versions::Versions;
+
+#[cfg(test)]
+mod tests;
