@@ -26,6 +26,7 @@ mod loading;
 mod pacing;
 mod runs;
 mod stored;
+mod storing;
 mod turning;
 mod viewers;
 mod watching;

@@ -85,7 +85,7 @@ fn is_saved(alloc: Global, stage: &Stage<StockScript>, mark: &[u8; 32], shot: &[
     saved && same
 }
 
-/// Reports whether two stages have the same texts.
+/// Reports whether two stages have the same routes and the same texts.
 fn are_alike(alloc: Global, one: &Stage<StockScript>, other: &Stage<StockScript>) -> bool {
     let mut first = Vec::new(alloc);
     let mut second = Vec::new(alloc);
@@ -93,7 +93,7 @@ fn are_alike(alloc: Global, one: &Stage<StockScript>, other: &Stage<StockScript>
     let same = first.as_slice() == second.as_slice();
     drop(second);
     drop(first);
-    pushed && same
+    pushed && same && one.routes() == other.routes()
 }
 
 /// Reports whether a stage loads a snapshot of boot 1 as boot 2, then has the texts of a stage that
