@@ -364,11 +364,11 @@ uint8_t x3d_world_point(struct x3d_world *world, uint32_t number, int64_t time, 
                         bool down, const struct x3d_aim *aim, struct x3d_work *work);
 /* Writes where a ray would enter the Box that it hits first, and lists the sensors that the hit
  * concerns (x3d_world_copy_numbers copies their nodes): those that x3d_world_point with this ray
- * would reach. These are the enabled pointing sensors next to the Box's Shape, in its `children`
- * field or among the roots. If there are none, they are those next to the node that holds the
- * Shape, and so on upwards. Sensors among the children of a Switch do not count. The world is
- * unchanged. May return, in this order: X3D_RANGE if the ray is out of its range, X3D_SPOILED, or
- * X3D_MEMORY. */
+ * would reach. These are the enabled pointing sensors next to the Box's Shape, in the same
+ * `children` field or among the roots. If there are none, they are those next to the node that
+ * holds the Shape, and so on upwards. Sensors among the children of a Switch do not count. The
+ * world is unchanged. May return, in this order: X3D_RANGE if the ray is out of its range,
+ * X3D_SPOILED, or X3D_MEMORY. */
 uint8_t x3d_world_meet(struct x3d_world *world, const struct x3d_aim *aim, struct x3d_met *met);
 
 /* ---- texts: a call makes a text, then x3d_world_copy_text copies it
@@ -453,8 +453,8 @@ uint8_t x3d_world_copy_numbers(const struct x3d_world *world, int64_t *out, size
  * in the order in which each was first set. `since` is 0, or the number of inputs that were applied
  * when the program drew the world last. A field is listed even if it was set to the value that it
  * had. A field that only sends holds no value and is not listed. The call also lists the numbers of
- * these values; a string has none. If the call fails, both lists are empty. May return: X3D_SPOILED,
- * or X3D_MEMORY (also for more than 2^32 - 1 numbers). */
+ * these values; a string has none. If the call fails, both lists are empty. May return:
+ * X3D_SPOILED, or X3D_MEMORY (also for more than 2^32 - 1 numbers). */
 uint8_t x3d_world_list_changed(struct x3d_world *world, uint32_t since);
 /* Copies the fields that were listed last, and writes how many there are to `wanted`. May return:
  * X3D_ROOM if there is no room for `wanted` of them; nothing is copied then. */
