@@ -115,7 +115,9 @@ fn run_at(
         head,
         cut,
         last,
+        entries,
     } = begun;
+    drop(entries);
     let Ok(clocks) = times_after(rt.alloc(), last, job.inputs.as_slice()) else {
         return Err(End::Log(LogFault::Memory));
     };
