@@ -34,14 +34,14 @@ extern "C" {
  *   requires. Memory that a call writes overlaps nothing else that the call is given. A pointer may
  *   be null if the length or the room after it is 0.
  * - Close every handle that you open. You may close twice, close null, and open again. Every other
- *   call on a closed handle returns X3D_CLOSED; or X3D_RANGE, if it tests its numbers first.
+ *   call on a closed handle returns X3D_CLOSED, or X3D_RANGE if a number is out of its range and
+ *   the call tests that first.
  * A call returns X3D_MISUSE, and changes nothing, for any other null pointer, a handle of another
  * kind, a second call on a handle at the same time, and a copy of a closed handle (until another
  * handle uses its place). The library cannot check the other rules. A thread that calls it needs a
  * stack of at least 512 KB. */
 
-/* Handles: each holds a heap object (a world, a host, a viewer, or the part of a text), or nothing.
- */
+/* Handles. Each holds a heap object (a world, a host, a viewer, the part of a text), or nothing. */
 struct x3d_world { void *at; };
 struct x3d_host { void *at; };
 struct x3d_viewer { void *at; };
@@ -52,8 +52,8 @@ struct x3d_part { void *at; };
 #define X3D_NONE {0}
 #endif
 
-/* The status that a call returns, unless it closes a handle or returns something else. After any
- * status but X3D_DONE nothing has changed, except where the status or the call says so. */
+/* The status that a call returns, if its result is a uint8_t. After any status but X3D_DONE nothing
+ * has changed, except where the status or the call says so. */
 enum x3d_status {
   X3D_DONE = 0,            /* the call succeeded */
   X3D_SCENE = 1,           /* the scene or its scripts are refused; the refusal's line says why */
@@ -305,9 +305,9 @@ uint8_t x3d_datagram_read(const uint8_t *bytes, size_t length, struct x3d_datagr
 
 /* ---- texts */
 
-/* If a text is refused for a value that the braces of a prototype's instance hold, writes the line
- * on which that instance begins. (The refusal has the line of the field in the prototype's body.)
- * Writes 0 for any other text. May return: X3D_MEMORY. */
+/* Writes the line on which the instance of a prototype begins, if the text is refused for a value
+ * that the instance gives in its braces; for any other text 0. (The refusal itself has the line of
+ * the field in the prototype's body.) May return: X3D_MEMORY. */
 uint8_t x3d_text_instance(const uint8_t *text, size_t length, uint32_t *line);
 
 /* ---- the part of a text: what stays of it without the nodes, fields and statements that the core
@@ -363,11 +363,12 @@ uint8_t x3d_world_clock(struct x3d_world *world, uint32_t number, int64_t time,
 uint8_t x3d_world_point(struct x3d_world *world, uint32_t number, int64_t time, uint8_t viewer,
                         bool down, const struct x3d_aim *aim, struct x3d_work *work);
 /* Writes where a ray would enter the Box that it hits first, and lists the sensors that the hit
- * concerns (x3d_world_copy_numbers copies their nodes). x3d_world_point with this ray concerns the
- * same: the enabled pointing sensors next to the Box's Shape, in one `children` field or among the
- * roots. If there are none, those next to the node that holds the Shape, and so on upwards. Sensors
- * among the children of a Switch do not count. The world is unchanged. May return, in this order:
- * X3D_RANGE if the ray is out of its range, X3D_SPOILED, or X3D_MEMORY. */
+ * concerns (x3d_world_copy_numbers copies their nodes): those that x3d_world_point with this ray
+ * would reach. These are the enabled pointing sensors next to the Box's Shape, in the same
+ * `children` field or among the roots. If there are none, they are those next to the node that
+ * holds the Shape, and so on upwards. Sensors among the children of a Switch do not count. The
+ * world is unchanged. May return, in this order: X3D_RANGE if the ray is out of its range,
+ * X3D_SPOILED, or X3D_MEMORY. */
 uint8_t x3d_world_meet(struct x3d_world *world, const struct x3d_aim *aim, struct x3d_met *met);
 
 /* ---- texts: a call makes a text, then x3d_world_copy_text copies it
@@ -451,8 +452,8 @@ uint8_t x3d_world_copy_numbers(const struct x3d_world *world, int64_t *out, size
 /* Lists the fields that inputs after number `since` set: each field once, with its current value,
  * in the order in which each was first set. `since` is 0, or the number of inputs that were applied
  * when the program drew the world last. A field is listed even if it was set to the value that it
- * had. A field that only sends holds no value and is not listed. The list of numbers becomes that
- * of these values; a string has none. If the call fails, both lists are empty. May return:
+ * had. A field that only sends holds no value and is not listed. The call also lists the numbers of
+ * these values; a string has none. If the call fails, both lists are empty. May return:
  * X3D_SPOILED, or X3D_MEMORY (also for more than 2^32 - 1 numbers). */
 uint8_t x3d_world_list_changed(struct x3d_world *world, uint32_t since);
 /* Copies the fields that were listed last, and writes how many there are to `wanted`. May return:
@@ -517,8 +518,9 @@ uint8_t x3d_host_packet(const struct x3d_host *host, uint32_t number, uint8_t *o
  * return: X3D_RANGE if there is no such viewer. */
 uint8_t x3d_host_ack(const struct x3d_host *host, uint8_t who, uint8_t *out, size_t room,
                      size_t *wanted);
-/* Writes the highest number that viewer `who` has asked from, or 0 if it has not asked. The viewer
- * has all inputs below that number. May return: X3D_RANGE if there is no such viewer. */
+/* Writes the number of the first input that viewer `who` lacked when it asked (the highest of all
+ * its asks), or 0 if it has not asked. The viewer has all inputs below that number. May return:
+ * X3D_RANGE if there is no such viewer. */
 uint8_t x3d_host_heard(const struct x3d_host *host, uint8_t who, uint32_t *asked);
 /* Drops the inputs that all viewers have, except the last `count` of these. A viewer that never
  * asked does not count. If no viewer has asked, or there is nothing to drop, the host stays as it
@@ -596,8 +598,8 @@ uint8_t x3d_viewer_piece(const struct x3d_viewer *viewer, const uint8_t *bytes, 
 uint8_t x3d_viewer_gather(struct x3d_viewer *viewer, const uint8_t *bytes, size_t length,
                           uint32_t *gathered);
 /* Restarts the viewer from the snapshot that was gathered, under a new boot number, as
- * x3d_viewer_rewind does. After X3D_DONE no piece is kept; after any other status all gathered
- * pieces are. May return, in this order: X3D_NOT_WHOLE if pieces are missing, or the statuses of
+ * x3d_viewer_rewind does. After X3D_DONE the pieces are dropped; after any other status they are
+ * kept. May return, in this order: X3D_NOT_WHOLE if pieces are missing, or the statuses of
  * x3d_viewer_rewind. */
 uint8_t x3d_viewer_join(struct x3d_viewer *viewer, uint32_t boot, uint32_t *applied);
 /* Drops what was gathered. */
