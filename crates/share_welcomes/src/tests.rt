@@ -24,17 +24,17 @@ fn host_run() -> Result<HostRun, Fail> {
     Ok(HostRun::new(MARK, RUN, name, ViewerCount::new(2)))
 }
 
-fn hello() -> Result<Message2, Fail> {
+fn hello() -> Result<Hello, Fail> {
     let Some(name) = WorldName::new(b"") else {
         return Err(Fail::from("the empty name is no name"));
     };
-    Ok(Message2::Hello(Hello {
+    Ok(Hello {
         mark: MARK,
         who: SeatNumber::new(1),
         cookie: [0; 8],
         nonce: [2; 16],
         name,
-    }))
+    })
 }
 
 fn ask_in(run: Run) -> Message2 {
@@ -129,12 +129,9 @@ fn answers_in_version_1(rt: HostRuntime) -> Result<(), Fail> {
 #[test]
 fn welcomes_who_says_hello(rt: HostRuntime) -> Result<(), Fail> {
     let hello = hello()?;
-    let packet = encode(&hello);
+    let packet = encode(&Message2::Hello(hello));
     let mut port = port_with(rt.alloc(), packet.as_slice())?;
     assert!(rt; hands_on(&mut port, packet.as_slice()));
-    let Message2::Hello(hello) = hello else {
-        return Err(Fail::from("this is no Hello"));
-    };
     let welcome = hello.welcome([0; 8], RUN, ViewerCount::new(2), 0);
     assert!(rt; has_sent(&port, encode(&Message2::Welcome(welcome)).as_slice()));
     Ok(())
