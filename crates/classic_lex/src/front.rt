@@ -7,7 +7,7 @@ use crate::classes::{CommentBytes, NameBytes, NumeralBytes, run_len};
 use crate::fault::LexFaultKind;
 use crate::token::TokenKind;
 use classic_bytes::{begins_name, closing, is_digit, is_space};
-use x3d_numerals::{NumeralFault, millionths};
+use x3d_numerals::{NumeralFault, check};
 
 /// What a text begins with: white space or a comment of n bytes, a token of n bytes, or a fault.
 #[derive(Clone, Copy)]
@@ -37,8 +37,8 @@ fn numeral_front(text: &[u8], len: usize) -> Start
     ensures value { result ≡ spec.numeral_front len text.now }
     ensures within { spec.IsWithin (length text.now) result }
 {
-    match millionths(&text[..len]) {
-        Ok(_) => Start::Piece(TokenKind::Numeral, len),
+    match check(&text[..len]) {
+        Ok(()) => Start::Piece(TokenKind::Numeral, len),
         Err(NumeralFault::NotNumeral) => Start::Bad(LexFaultKind::BadNumeral),
         Err(NumeralFault::NumberRange) => Start::Bad(LexFaultKind::NumberRange),
     }

@@ -4,14 +4,15 @@ use super::{Row, all_hold, holds};
 use std::alloc::Global;
 use std::process::Abort;
 use tests_memory::UsedUp;
-use x3d_numerals::{NumeralFault, millionths, push_number};
+use x3d_numerals::{NumeralFault, check, millionths, push_number};
 
 /// A text, and its number in millionths, or why it has none.
 struct Read(&'static str, Result<i64, NumeralFault>);
 
 impl Row for Read {
     fn holds(&self, _alloc: Global) -> bool {
-        millionths(self.0.as_bytes()) == self.1
+        let text = self.0.as_bytes();
+        millionths(text) == self.1 && check(text) == self.1.map(|_number| ())
     }
 }
 
@@ -19,7 +20,7 @@ const NO_NUMERAL: Result<i64, NumeralFault> = Err(NumeralFault::NotNumeral);
 
 const TOO_LARGE: Result<i64, NumeralFault> = Err(NumeralFault::NumberRange);
 
-static NUMERALS: [Read; 73] = [
+static NUMERALS: [Read; 77] = [
     // decimal numerals
     Read("0", Ok(0)),
     Read("-0", Ok(0)),
@@ -53,6 +54,11 @@ static NUMERALS: [Read; 73] = [
     Read("0xFFFFFFFF", Ok(-1_000_000)),
     Read("-0xFFFFFFFF", Ok(1_000_000)),
     Read("0x1e5", Ok(485_000_000)),
+    // twelve digits, and more
+    Read("999999999999", Ok(999_999_999_999_000_000)),
+    Read("9999999999.99", Ok(9_999_999_999_990_000)),
+    Read("-.000000000001", Ok(0)),
+    Read("9999999999999", TOO_LARGE),
     // at the limit, and beyond the limit
     Read("1e12", Ok(1_000_000_000_000_000_000)),
     Read("-1e12", Ok(-1_000_000_000_000_000_000)),
