@@ -15,9 +15,8 @@ use Rattle.share_turns.specs.declared.traffic.Traffic.{Traffic}
 use Rattle.share_turns.specs.declared.traffic.Traffic.TheVariants.{Received}
 use Rattle.share_turns.specs.Exchanges.{AreSent, sent_to}
 use Rattle.share_turns.specs.Gives.{GiveTurns, GiveTurnsEnd, Gives, IsGiveCut, IsGiveEnd, IsPassedOver, given_in, piece_among, piece_in_turn}
-use Rattle.share_turns.specs.HostTurn.{listed}
+use Rattle.share_turns.specs.HostTurn.{datagram_of, listed}
 use Rattle.share_turns.specs.ViewerTurn.{Taking, received}
-use Rattle.laws_turns.specs.HostDoings.{datagram_of}
 use Rattle.laws_turns.specs.ViewerDoings.{ViewerDoes}
 use Rattle.laws_turns.specs.ViewerDoings as doing
 use Rattle.laws_turns.proofs.Viewers.{Did, Made, did_none, did_then, does_did, does_none, does_then, ended, front, sends}

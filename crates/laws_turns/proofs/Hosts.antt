@@ -18,10 +18,10 @@ use Rattle.share_turns.specs.declared.traffic.Datagram.{Datagram}
 use Rattle.share_turns.specs.declared.traffic.Traffic.{Traffic}
 use Rattle.share_turns.specs.declared.traffic.Traffic.TheVariants.{Received, Sent}
 use Rattle.share_turns.specs.Exchanges.{Exchange, IsSentOf, sent_to, traffic_of}
-use Rattle.share_turns.specs.HostTurn.{ack_to, acks_for, bodies_for, datagrams_for, datagrams_of, inputs_for, listed, sender_of}
+use Rattle.share_turns.specs.HostTurn.{ack_to, acks_for, bodies_for, datagram_of, datagrams_for, datagrams_of, inputs_for, listed, sender_of}
 use Rattle.share_turns.specs.Told.{Grows}
 use Rattle.share_turns.proofs.Sending.{grows_none, grows_then}
-use Rattle.laws_turns.specs.HostDoings.{HostDoing, AreHostDoings, HostDoes, all_host_traffic, datagram_of, host_traffic, packet_by}
+use Rattle.laws_turns.specs.HostDoings.{HostDoing, AreHostDoings, HostDoes, all_host_traffic, host_traffic, packet_by}
 use Rattle.laws_turns.specs.HostDoings as doing
 
 -- ---- one after another

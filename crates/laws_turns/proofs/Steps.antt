@@ -26,7 +26,8 @@ use Rattle.laws_calls.proofs.Places.{last_there}
 use Rattle.laws_calls.proofs.Viewers as viewers
 use Rattle.laws_calls.proofs.Viewers.{seat_of}
 use Rattle.laws_turns.specs.HostDoings as host
-use Rattle.laws_turns.specs.HostDoings.{HostDoing, IsHostDoing, datagram_of, packet_by}
+use Rattle.laws_turns.specs.HostDoings.{HostDoing, IsHostDoing, packet_by}
+use Rattle.share_turns.specs.HostTurn.{datagram_of}
 use Rattle.laws_turns.specs.ViewerDoings as viewer
 use Rattle.laws_turns.specs.ViewerDoings.{IsViewerDoing, ViewerDoing}
 use Rattle.laws_turns.specs.Steps.{HostBrings, HostDoingsAreSteps, SendsBody, ViewerDoingsAreSteps}

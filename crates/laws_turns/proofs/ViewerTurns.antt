@@ -14,10 +14,9 @@ use Rattle.share_turns.specs.declared.fault.TurnFault.TheVariants as turn_fault
 use Rattle.share_turns.specs.declared.traffic.Traffic.{Traffic}
 use Rattle.share_turns.specs.declared.traffic.Traffic.TheVariants.{Received, Sent}
 use Rattle.share_turns.specs.Exchanges.{IsEnd, sent_to}
-use Rattle.share_turns.specs.HostTurn.{listed}
+use Rattle.share_turns.specs.HostTurn.{datagram_of, listed}
 use Rattle.share_turns.specs.ViewerTurn.{AreTaken, IsCut, IsOffered, IsViewerTurn, Taking, received, requests}
 use Rattle.share_turns.specs.Views.{IsViewEnd, ViewerTurns}
-use Rattle.laws_turns.specs.HostDoings.{datagram_of}
 use Rattle.laws_turns.specs.ViewerDoings.{ViewerDoes, ViewerDoing, IsViewerDoing, viewer_traffic}
 use Rattle.laws_turns.specs.ViewerDoings as doing
 use Rattle.laws_turns.specs.Turns.{ViewerTurnsAreCalls}

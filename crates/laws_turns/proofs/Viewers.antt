@@ -6,10 +6,9 @@ use Rattle.share_core.specs.Viewer.{ViewerView}
 use Rattle.share_turns.specs.declared.traffic.Traffic.{Traffic}
 use Rattle.share_turns.specs.declared.traffic.Traffic.TheVariants.{Nothing, Sent}
 use Rattle.share_turns.specs.Exchanges.{IsEnd, IsSentOf, sent_to}
-use Rattle.share_turns.specs.HostTurn.{datagrams_of}
+use Rattle.share_turns.specs.HostTurn.{datagram_of, datagrams_of}
 use Rattle.share_turns.specs.Told.{Grows}
 use Rattle.share_turns.proofs.Sending.{grows_none, grows_then}
-use Rattle.laws_turns.specs.HostDoings.{datagram_of}
 use Rattle.laws_turns.specs.ViewerDoings.{ViewerDoing, IsViewerDoing, AreViewerDoings, ViewerDoes, all_viewer_traffic, viewer_traffic}
 use Rattle.laws_turns.specs.ViewerDoings as doing
 

@@ -1,7 +1,6 @@
 -- What a host does: one call on it after another, and what its port records of them.
 use Rattle.std.specs.Prelude.{◌≡◌, ℕ, ℤ, List, [], ◌∷◌, ◌++◌, Option, None, Some, Result}
 use Rattle.std.specs.Option.{option_map}
-use Rattle.share_wire.specs.Datagram.{datagram}
 use Rattle.share_wire.specs.Decoding.{decoded}
 use Rattle.share_wire.specs.declared.message.Body.{Body}
 use Rattle.share_law.specs.declared.fault.FloorFault.{FloorFault}
@@ -16,6 +15,7 @@ use Rattle.share_law.specs.Parts.{part_packet}
 use Rattle.share_turns.specs.declared.traffic.Datagram.{Datagram}
 use Rattle.share_turns.specs.declared.traffic.Traffic.{Traffic}
 use Rattle.share_turns.specs.declared.traffic.Traffic.TheVariants.{Nothing, Received, Sent}
+use Rattle.share_turns.specs.HostTurn.{datagram_of}
 use Rattle.share_turns.specs.Told.{Grows}
 
 -- a clock, a datagram that is taken, the packet of a step that is sent, a new floor, and a receive
@@ -33,10 +33,6 @@ packet_by p (HostPacket n) = part_packet p n
 packet_by p (HostAck who) = part_ack p who
 packet_by p HostFloorPacket = Some (part_floor_packet p)
 packet_by p step = None
-
--- the datagram of a body in the scene with this mark
-abbrev pub datagram_of : (mark : List ℕ) → Body → List ℕ
-datagram_of mark body = datagram (record { mark = mark; body = body })
 
 -- what the call's contract ensures of the host
 abbrev pub IsHostDoing : (mark : List ℕ) → HostPart → HostDoing → HostPart → Type 0

@@ -16,7 +16,8 @@ use Rattle.laws_calls.specs.Leads.{Leads}
 use Rattle.laws_calls.specs.Moves.{HasViewer}
 use Rattle.laws_calls.specs.Peers.{AreIn, Peers, with_host, with_viewer}
 use Rattle.laws_turns.specs.HostDoings as host
-use Rattle.laws_turns.specs.HostDoings.{HostDoing, IsHostDoing, datagram_of}
+use Rattle.laws_turns.specs.HostDoings.{HostDoing, IsHostDoing}
+use Rattle.share_turns.specs.HostTurn.{datagram_of}
 use Rattle.laws_turns.specs.ViewerDoings as viewer
 use Rattle.laws_turns.specs.ViewerDoings.{IsViewerDoing, ViewerDoing}
 

@@ -22,7 +22,7 @@ use Rattle.share_turns.specs.declared.traffic.Datagram.{Datagram}
 use Rattle.share_turns.specs.declared.traffic.Traffic.{Traffic}
 use Rattle.share_turns.specs.declared.traffic.Traffic.TheVariants.{Nothing, Received, Sent}
 use Rattle.share_turns.specs.Told.{Grows}
-use Rattle.laws_turns.specs.HostDoings.{datagram_of}
+use Rattle.share_turns.specs.HostTurn.{datagram_of}
 
 -- a point that is offered; a datagram that is taken, gathered or discarded; the waiting offer at a
 -- place, an ask, or a piece of the viewer's own snapshot, that is sent; a join; and a receive for

@@ -25,19 +25,11 @@
 --   `renamed`, `close`: node 0 has the name L. Braces L stand for node 0.
 -- `flat`: nodes = node 0 alone: line 1, name L, PointLight, fields = (line 1, field 5, 500000);
 --   roots = 0; no helpers, no routes.
-use Rattle.std.specs.Prelude.{ℕ, ◌+◌, Bool, true, false, ◌&&◌, ◌||◌, not, if◌then◌else◌, List, [], ◌∷◌, ◌++◌, drop, length, map, Option, Some, None, option_map, is_none, is_some, Result, Ok, Err, slice_get, slice_set}
-use Rattle.std.specs.List.{filter_map, find, list_any}
+use Rattle.std.specs.Prelude.{ℕ, Bool, true, false, ◌&&◌, ◌||◌, not, if◌then◌else◌, List, [], ◌∷◌, ◌++◌, drop, length, map, Option, Some, None, option_map, is_none, is_some, Result, Ok, Err, slice_get, slice_set}
+use Rattle.std.specs.List.{filter_map, list_any}
 use Rattle.std.specs.Option.{option_map_or}
 use Rattle.std.specs.Str.{bytes_eq}
-use denote.Enum.Bare.{sameb}
-use Rattle.x3d_values.specs.declared.field_type.Access.{Access}
-use Rattle.x3d_values.specs.declared.field_type.Access.TheVariants.{InputOnly, OutputOnly, InputOutput, InitializeOnly}
-use Rattle.x3d_values.specs.declared.field_type.FieldType.{FieldType}
-use Rattle.x3d_values.specs.contracts.field_type.FieldType.{the_type}
 use Rattle.x3d_values.specs.declared.node_type.NodeType.{NodeType}
-use Rattle.x3d_values.specs.declared.node_type.NodeType.TheVariants.{Script}
-use Rattle.x3d_values.specs.contracts.node_type.NodeType as node_types
-use Rattle.x3d_values.specs.Access.{receives, sends, is_initial, is_exposed}
 use Rattle.x3d_values.specs.Names.{node_type_named}
 use Rattle.x3d_values.specs.Tables.{rows}
 use Rattle.classic_tree.specs.declared.tree.BodyItem.{BodyItem, fold-BodyItem}
@@ -48,226 +40,20 @@ use Rattle.classic_tree.specs.declared.tree.Given.{Given}
 use Rattle.classic_tree.specs.declared.tree.Given.TheVariants as given
 use Rattle.classic_tree.specs.declared.tree.NodeText.{NodeText, fold-NodeText}
 use Rattle.classic_tree.specs.declared.tree.ProtoText.{ProtoText, fold-ProtoText}
-use Rattle.classic_tree.specs.declared.tree.RawValue.{RawValue}
-use Rattle.classic_tree.specs.declared.tree.RawValue.TheVariants as value
 use Rattle.classic_tree.specs.declared.tree.RouteText.{RouteText}
 use Rattle.classic_tree.specs.declared.tree.Statement.{Statement, fold-Statement}
 use Rattle.proto_flat.specs.Fault.{fault}
 use Rattle.proto_flat.specs.declared.fault.ExpandFault.{ExpandFault}
-use Rattle.proto_flat.specs.declared.fault.ExpandFaultKind.{ExpandFaultKind}
-use Rattle.proto_flat.specs.declared.fault.ExpandFaultKind.TheVariants.{UnknownNode, UnknownField, ProtoTwice, ProtoItself, EmptyBody, BadIs, UseWithoutDef, FieldTwice}
+use Rattle.proto_flat.specs.declared.fault.ExpandFaultKind.TheVariants.{UnknownNode, UnknownField, ProtoTwice, ProtoItself, EmptyBody, UseWithoutDef, FieldTwice}
 use Rattle.proto_flat.specs.declared.flat.Flat.{Flat}
 use Rattle.proto_flat.specs.declared.flat.FlatEnd.TheVariants.{At}
 use Rattle.proto_flat.specs.declared.flat.FlatNode.{FlatNode}
 use Rattle.proto_flat.specs.declared.flat.Header.{Header}
-use Rattle.proto_meaning.specs.Limits.{Met, ANode, AnInstance, AField, AnItem, item_count, Outcome, follow, and_then, limited}
-use Rattle.proto_meaning.specs.Names.{Name, Field, Filled, value_of, Stands, Scope, used, stands_at, sources, targets, pairs}
-use Rattle.proto_meaning.specs.Sight.{Put, Instance, Prototype, Sight, Look, and_see, each, opened, aside, nodes_in, Names, no_names, taking, Owner, OfType, OfProto, declared, meant, taken_by, is_kept, Search}
-
--- ---- one part after the other
-
--- the state between two parts: what was added, what is in sight (`taken` stays empty here), and the
--- name scope
-pub record Walk : Type 0 where
-  pub put : Put
-  pub sight : Sight
-  pub scope : Scope
-
--- what a part of the text does: it returns an A and the next state, or ends with a fault
-abbrev pub Does : Type 0 → Type 0
-Does A = Walk → Outcome (A × Walk)
-
--- one part after the other; the second uses what the first returns
-infixl 10 ◌>>=◌
-abbrev pub ◌>>=◌ : {A B : Type 0} → Does A → (A → Does B) → Does B
-m >>= f = λ w. and_then (m w) (λ p. f p.0 p.1)
-
--- an outcome in which nothing is counted
-abbrev pub comes : {A : Type 0} → Result A ExpandFault → Outcome A
-comes result = record { met = []; comes = result }
-
--- returns `a`, and changes nothing
-abbrev pub pure : {A : Type 0} → A → Does A
-pure a = λ w. comes (Ok (a, w))
-
-abbrev pub refuse : {A : Type 0} → ExpandFaultKind → ℕ → Does A
-refuse kind line = λ w. comes (Err (fault kind line))
-
--- for each of the list in turn, from what the one before returned
-abbrev pub through : {A X : Type 0} → (A → X → Does X) → List A → X → Does X
-through f [] x = pure x
-through f (a ∷ rest) x = f a x >>= through f rest
-
--- counts one thing
-abbrev pub meet : Met → Does (Unit {0})
-meet m = λ w. record { met = m ∷ []; comes = Ok (tt, w) }
-
--- changes what is in sight, and nothing else
-abbrev pub see : Look → Does (Unit {0})
-see step = λ w. follow [] (step w.sight) (λ s. comes (Ok (tt, record w { sight = s })))
-
--- changes the name scope, and returns `a`
-abbrev pub note : {A : Type 0} → A → (Scope → Scope) → Does A
-note a f = λ w. comes (Ok (a, record w { scope = f w.scope }))
-
--- ---- the parts of a tree
-
--- what each part of the tree has: `finds`, the search for an instance of a PROTO inside that PROTO;
--- `sees`, what the part declares and takes, added or not; and `does`, what it does if it is added
-pub record Part (S D : Type 0) : Type 0 where
-  pub finds : Name → Search
-  pub sees : S
-  pub does : D
-
-abbrev pub part : {S D : Type 0} → (Name → Search) → S → D → Part S D
-part finds sees does = record { finds = finds; sees = sees; does = does }
-
--- a node of the text; adding it returns its number
-abbrev pub Node : Type 0
-Node = Part Look (Does ℕ)
-
-abbrev pub nothing_found : Name → Search
-nothing_found own hidden = Ok hidden
-
-abbrev pub given_finds : Given Node → Name → Search
-given_finds g own = each (λ n. n.finds own) (nodes_in g)
-
-abbrev pub given_sees : Given Node → Look
-given_sees g s = each (λ n. n.sees) (nodes_in g) (record s { taken = taking g s.taken })
-
--- leaves out a value that no IS takes, with all that is inside; but its PROTOs come in sight
-abbrev pub leave_out : Given Node → Does (Unit {0})
-leave_out g = see (aside (given_sees g))
-
--- adds the nodes in a value; in the value returned, their numbers replace them
-abbrev pub put_in : RawValue Node → Does (RawValue ℕ)
-put_in value.Null = pure value.Null
-put_in (value.Truth truth) = pure (value.Truth truth)
-put_in (value.String text) = pure (value.String text)
-put_in (value.Numbers numbers) = pure (value.Numbers numbers)
-put_in (value.Node node) = node.does >>= λ n. pure (value.Node n)
-put_in value.EmptyList = pure value.EmptyList
-put_in (value.TruthList truths) = pure (value.TruthList truths)
-put_in (value.StringList texts) = pure (value.StringList texts)
-put_in (value.NumberList numbers) = pure (value.NumberList numbers)
-put_in (value.NodeList nodes) =
-    through (λ node ns. node.does >>= λ n. pure (ns ++ n ∷ [])) nodes []
-    >>= λ ns. pure (value.NodeList ns)
-
--- ---- fields
-
--- the state between braces: the braces are number `at` of the scope; whose fields they hold, these
--- fields, and what was given so far
-pub record Inside : Type 0 where
-  pub at : ℕ
-  pub owner : Owner
-  pub fields : List Field
-  pub filled : List Filled
-
-abbrev pub field_with : ℕ → Access → FieldType → Name → Field
-field_with line access field_type name =
-    record {
-      line = line;
-      access = access;
-      field_type = field_type;
-      name = name;
-      given = given.Nothing;
-    }
-
--- a declaration without its value
-abbrev pub field : {N : Type 0} → Declaration N → Field
-field d = field_with d.line d.access d.field_type d.name
-
-abbrev pub fields_of : NodeType → List Field
-fields_of t = map (λ row. field_with 0 row.access row.field_type row.name) (rows t)
-
--- the field of that name, with its number; the first of `fields` has the number `number`
-abbrev pub numbered_from : ℕ → Name → List Field → Option (ℕ × Field)
-numbered_from number name [] = None
-numbered_from number name (f ∷ fs) =
-    if bytes_eq f.name name then Some (number, f) else numbered_from (number + 1) name fs
-
-abbrev pub is_filled : Name → Inside → Bool
-is_filled name i = list_any (λ (f : Filled). bytes_eq f.name name) i.filled
-
-abbrev pub is_node : Owner → Bool
-is_node (OfType t) = true
-is_node (OfProto p) = false
-
--- whether an interface field of the first access may be joined to a field of the second (4.4.4,
--- PROTO definition semantics)
-abbrev pub joins : Access → Access → Bool
-joins InputOnly access = receives access
-joins OutputOnly access = sends access
-joins InitializeOnly access = is_initial access
-joins InputOutput access = is_exposed access
-
-abbrev pub fits : Field → Field → Bool
-fits outer inner =
-    sameb the_type outer.field_type inner.field_type && joins outer.access inner.access
-
--- counts a field; the items of its value count only in a node
-abbrev pub met_field : Owner → ℕ → ℕ → Does (Unit {0})
-met_field owner number items = meet (if is_node owner then AField number items else AnItem)
-
--- records that field f (a number and the field itself) was given v
-abbrev pub fill : ℕ → ℕ × Field → Inside → Option (RawValue ℕ) → Inside
-fill line f i v =
-    record i {
-      filled = i.filled
-          ++ record { line = line; name = f.1.name; number = f.0; value = v } ∷ [];
-    }
-
--- adds the value of a field, or leaves it out if no IS takes the field
-abbrev pub give_value : ℕ → ℕ × Field → Inside → RawValue Node → Does Inside
-give_value line f i v =
-    met_field i.owner f.0 (item_count v)
-    >>= λ _. if is_kept (taken_by (Some i.owner)) f.1.name
-    then (put_in v >>= λ r. pure (fill line f i (Some r)))
-    else leave_out (given.Value v) >>= λ _. pure (fill line f i None)
-
--- IS: the field holds what the interface field `outer` is given, and its ends become ends of
--- `outer`. `all` are the braces of the scope once they are closed
-abbrev pub join : ℕ → ℕ × Field → Inside → Name → Option (RawValue ℕ) → Does Inside
-join line f i outer v =
-    met_field i.owner f.0 (option_map_or item_count v 0) >>= λ _. note (tt {0}) (λ s. record s {
-      ends = λ all name. s.ends all name ++ (if bytes_eq outer name
-          then option_map_or (λ what. what.ends f.1.name) (stands_at all (Some i.at)) [] else []);
-    }) >>= λ _. pure (fill line f i v)
-
--- an IS must name a field of the interface that fits. `twice`: the field was given something before
-abbrev pub give_is : ℕ → ℕ × Field → Bool → Inside → Option Field → Does Inside
-give_is line f twice i None = refuse BadIs line
-give_is line f twice i (Some outer) =
-    if fits outer f.1
-    then (if twice then refuse FieldTwice line
-    else (λ w. join line f i outer.name (value_of outer.name w.scope.given) w))
-    else refuse BadIs line
-
--- a node may be given a value at each field, which the scene checks; an instance only at fields
--- that hold a value. Nothing is what a Script's declaration without a value gives
-abbrev pub give : ℕ → ℕ × Field → Bool → Given Node → Inside → Does Inside
-give line f twice (given.Is outer) i =
-    λ w. give_is line f twice i (find (λ o. bytes_eq o.name outer) w.scope.interface) w
-give line f twice (given.Value v) i =
-    if is_node i.owner || is_initial f.1.access
-    then (if twice then refuse FieldTwice line else give_value line f i v)
-    else refuse UnknownField line
-give line f twice given.Nothing i =
-    if twice then refuse FieldTwice line
-    else met_field i.owner f.0 0 >>= λ _. pure (fill line f i None)
-
-abbrev pub is_script : Owner → Bool
-is_script (OfType t) = sameb node_types.the_type t Script
-is_script (OfProto p) = false
-
--- a Script's declaration adds a field; no other node and no instance may have one
-abbrev pub declare_field : Declaration Node → Inside → Does Inside
-declare_field d i =
-    if is_script i.owner
-    then give d.line (length i.fields, field d) (is_some (numbered_from 0 d.name i.fields)) d.given
-    (record i { fields = i.fields ++ field d ∷ [] })
-    else refuse UnknownField d.line
+use Rattle.proto_meaning.specs.Limits.{ANode, AnInstance, AnItem, Outcome, and_then, limited}
+use Rattle.proto_meaning.specs.Names.{Name, Field, Filled, value_of, Stands, used, sources, targets, pairs}
+use Rattle.proto_meaning.specs.Sight.{Put, Instance, Prototype, Look, and_see, each, opened, aside, Names, no_names, Owner, OfType, OfProto, declared, meant, taken_by, is_kept, Search}
+pub use Rattle.proto_meaning.specs.Walk.{Walk, Does, ◌>>=◌, comes, pure, refuse, through, meet, see, note, Part, part, Node, nothing_found, given_finds, given_sees, leave_out, put_in}
+pub use Rattle.proto_meaning.specs.Fields.{Inside, field_with, field, fields_of, numbered_from, is_filled, is_node, joins, fits, met_field, fill, give_value, join, give_is, give, is_script, declare_field}
 
 -- ---- nodes and instances
 

@@ -1,6 +1,8 @@
 pub mod Limits
 pub mod Names
 pub mod Sight
+pub mod Walk
+pub mod Fields
 pub mod Flat
 pub mod trees
 pub mod Laws

@@ -24,7 +24,11 @@ impl Model for LoggedHost {
 
     ghost Value = { LoggedView };
 
-    ghost view = { λ h. record { mark = h.host.mark; part = h.host.part; attendance = h.attendance } };
+    ghost view = { λ h. record {
+      mark = h.host.mark;
+      part = h.host.part;
+      attendance = h.attendance;
+    } };
 
     ghost invariant = { λ h. (h.last ≡ h.host.part.last) × (pos 0 ≤ℤ h.last)
         × (h.rested ≡ h.attendance.time) };

@@ -171,15 +171,16 @@ fn settle<P: Port>(
 /// Runs a turn of a host over a log, and returns the host. First it numbers the clock, at a time in
 /// microseconds, if there is one, and takes at most 64 datagrams, like `host_turn`. Then it appends
 /// the entries of what it numbered to the log, at once. Only if they are stored the port learns
-/// them, and the turn sends the answers to each datagram's peer, by what the host then holds: to an ask the inputs that were
-/// asked for, or the floor if they are below it, and an ack; to an offer an ack. At last it drops
-/// the inputs that it doesn't keep, like `drop_counted`, and lets the port rest.
+/// them, and the turn sends the answers to each datagram's peer, by what the host then holds: to an
+/// ask the inputs that were asked for, or the floor if they are below it, and an ack; to an offer
+/// an ack. At last it drops the inputs that it doesn't keep, like `drop_counted`, and lets the port
+/// rest.
 ///
 /// Fails with `Turn` and `Memory`, if memory was refused to a clock or to an offer, or `Port`, if a
 /// receive failed: then nothing was stored and nothing was sent. Fails with `Log` if the log
 /// refused the entries or didn't answer: then nothing was sent. Fails with `Turn` and `Port` if the
-/// port didn't learn the entries, or a send failed: then the entries are stored. After each failure the host is dropped, as it may be
-/// ahead of the log: read on, and begin again with `resume`.
+/// port didn't learn the entries, or a send failed: then the entries are stored. After each failure
+/// the host is dropped, as it may be ahead of the log: read on, and begin again with `resume`.
 pub fn logged_turn<L: Log, P: Learns>(
     hosting: LoggedHost,
     clock: Option<i64>,

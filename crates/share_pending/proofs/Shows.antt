@@ -15,7 +15,8 @@ use Rattle.share_law.proofs.Parts.{part_packet-host}
 use Rattle.laws_hosts.specs.Log.{host_of, inputs_of}
 use Rattle.share_logged.specs.Logged.{logged, logged_from}
 use Rattle.share_logged.specs.Shown.{IsOfEntries}
-use Rattle.share_pending.specs.Showing.{ack_bytes, bytes_with, packet_bytes, shown_packet}
+use Rattle.share_turns.specs.HostTurn.{datagram_of}
+use Rattle.share_pending.specs.Showing.{ack_bytes, packet_bytes, shown_packet}
 use Rattle.share_pending.specs.Waiting.{WaitingView}
 use Rattle.share_pending.specs.Written.{IsAhead, ShowsStored}
 
@@ -54,15 +55,15 @@ packet-of v log p w n body is e = by (nat_lt w.stored n) refl e where
 
 pub packet-shows : (mark : List ℕ) (p : HostPart) (w : WaitingView) (n : ℕ) → ShowsStored mark p w (packet_bytes mark w.stored p n)
 packet-shows mark p w n = by (shown_packet w.stored p n) refl where
-  by : (o : Option Body) → shown_packet w.stored p n ≡ o → ShowsStored mark p w (option_map (bytes_with mark) o)
+  by : (o : Option Body) → shown_packet w.stored p n ≡ o → ShowsStored mark p w (option_map (datagram_of mark) o)
   by None e = tt
   by (Some body) e = λ v log is. record { body = body; text = refl; of_entries = packet-of v log p w n body is e }
 
 pub ack-shows : (mark : List ℕ) (p : HostPart) (w : WaitingView) (who : ℕ) → ShowsStored mark p w (ack_bytes mark w.kept who)
 ack-shows mark p w who = by (slice_get w.kept who) refl where
-  by : (o : Option SeatCount) → slice_get w.kept who ≡ o → ShowsStored mark p w (option_map (λ (k : SeatCount). bytes_with mark (ack_of who k)) o)
+  by : (o : Option SeatCount) → slice_get w.kept who ≡ o → ShowsStored mark p w (option_map (λ (k : SeatCount). datagram_of mark (ack_of who k)) o)
   by None e = tt
   by (Some k) e = λ v log is. record { body = ack_of who k; text = refl; of_entries = (k, ap (λ (l : List SeatCount). slice_get l who) (sym is.kept) ∙ e, refl) }
 
-pub floor-shows : (mark : List ℕ) (p : HostPart) (w : WaitingView) → ShowsStored mark p w (Some (bytes_with mark (Floor p.floor)))
+pub floor-shows : (mark : List ℕ) (p : HostPart) (w : WaitingView) → ShowsStored mark p w (Some (datagram_of mark (Floor p.floor)))
 floor-shows mark p w = λ v log is. record { body = Floor p.floor; text = refl; of_entries = is.floor }

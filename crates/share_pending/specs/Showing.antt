@@ -2,7 +2,6 @@
 use Rattle.std.specs.Prelude.{ℕ, ◌+◌, ◌-◌, List, slice_get, nat_le, nat_lt, if◌then◌else◌}
 use Rattle.std.specs.Prelude.{Option, None, Some, Result, Ok, Err}
 use Rattle.std.specs.Option.{option_map}
-use Rattle.share_wire.specs.Datagram.{datagram}
 use Rattle.share_wire.specs.declared.message.Body.{Body}
 use Rattle.share_law.specs.declared.fault.FloorFault.{FloorFault}
 use Rattle.share_law.specs.declared.fault.FloorFault.TheVariants.{FloorAhead}
@@ -14,6 +13,7 @@ use Rattle.share_law.specs.Host.{ack_of}
 use Rattle.share_law.specs.Parts.{HostPart, part_drop_below, part_packet}
 use Rattle.share_turns.specs.Ends.{floor_for}
 use Rattle.share_turns.specs.Heard.{lowest}
+use Rattle.share_turns.specs.HostTurn.{datagram_of}
 
 -- the inputs that a reply to an ask names, up to the last stored one
 abbrev pub shown_run : (stored first count : ℕ) → HostReply
@@ -40,18 +40,15 @@ shown_answer stored (Err fault) = Err fault
 abbrev pub shown_packet : (stored : ℕ) → HostPart → (n : ℕ) → Option Body
 shown_packet stored p n = if nat_lt stored n then None else part_packet p n
 
-abbrev pub bytes_with : (mark : List ℕ) → Body → List ℕ
-bytes_with mark body = datagram (record { mark = mark; body = body })
-
 -- the datagram of an input, if it is stored
 abbrev pub packet_bytes : (mark : List ℕ) → (stored : ℕ) → HostPart → (n : ℕ)
     → Option (List ℕ)
-packet_bytes mark stored p n = option_map (bytes_with mark) (shown_packet stored p n)
+packet_bytes mark stored p n = option_map (datagram_of mark) (shown_packet stored p n)
 
 -- the datagram of what is kept of a viewer, if there is such a viewer
 abbrev pub ack_bytes : (mark : List ℕ) → (kept : List SeatCount) → (who : ℕ) → Option (List ℕ)
 ack_bytes mark kept who =
-    option_map (λ (k : SeatCount). bytes_with mark (ack_of who k)) (slice_get kept who)
+    option_map (λ (k : SeatCount). datagram_of mark (ack_of who k)) (slice_get kept who)
 
 -- Inputs are dropped, but none that isn't stored.
 abbrev pub stored_drop : (stored : ℕ) → HostPart → (f : ℕ) → Result ℕ FloorFault × HostPart

@@ -4,7 +4,8 @@ ghost use Rattle.std.specs.Prelude.{◌≡◌, ◌<◌, ◌≤◌, IfSome, slice
 ghost use Rattle.std.specs.Option.{option_map};
 ghost use Rattle.x3d_values.specs.Ranges.{max_inputs, max_viewers};
 ghost use Rattle.share_law.specs.Host.{ack_of};
-ghost use Rattle.share_pending.specs.Showing.{ack_bytes, bytes_with, packet_bytes, shown_answer};
+ghost use Rattle.share_turns.specs.HostTurn.{datagram_of};
+ghost use Rattle.share_pending.specs.Showing.{ack_bytes, packet_bytes, shown_answer};
 ghost use Rattle.share_pending.specs.Showing.{shown_reply, shown_run, stored_drop, stored_keeping};
 
 use crate::kept::Kept;
@@ -65,7 +66,7 @@ fn packet_of(host: &Host, stored: u32, number: u32) -> Option<Packet>
 /// Returns the datagram of what is kept of a viewer.
 fn ack_packet(mark: [u8; 32], who: u8, kept: SeatCount) -> Packet
     requires { who < max_viewers }
-    ensures { result.items ≡ bytes_with mark (ack_of who kept) }
+    ensures { result.items ≡ datagram_of mark (ack_of who kept) }
 {
     encode(&Message {
         mark,
@@ -126,7 +127,8 @@ impl Waiting {
     ghost use Rattle.std.specs.Prelude.{◌≡◌, Some};
     ghost use Rattle.std.specs.Option.{option_map};
     ghost use Rattle.share_law.specs.Parts.{part_floor_packet};
-    ghost use Rattle.share_pending.specs.Showing.{ack_bytes, bytes_with, packet_bytes};
+    ghost use Rattle.share_turns.specs.HostTurn.{datagram_of};
+    ghost use Rattle.share_pending.specs.Showing.{ack_bytes, packet_bytes};
     ghost use Rattle.share_pending.specs.Showing.{stored_drop, stored_keeping};
     ghost use Rattle.share_pending.specs.Written.{ShowsStored, StaysAhead};
 
@@ -155,7 +157,7 @@ impl Waiting {
     /// Returns the datagram that reports the floor, like `Host::floor_packet` of share_core.
     pub fn floor_packet(&self, host: &Host) -> Packet
         ensures bytes { result.items
-            ≡ bytes_with host.now.mark (part_floor_packet host.now.part) }
+            ≡ datagram_of host.now.mark (part_floor_packet host.now.part) }
         ensures shown { ShowsStored host.now.mark host.now.part self.now (Some result.items) }
     {
         let _stored = self.stored;

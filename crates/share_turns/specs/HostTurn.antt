@@ -69,8 +69,12 @@ acks_for h (Some who) = ack_to who (slice_get h.kept who)
 abbrev pub bodies_for : HostPart → Option ℕ → HostReply → List Body
 bodies_for h sender reply = inputs_for h reply ++ acks_for h sender
 
+-- the datagram of a body in the scene with this mark
+abbrev pub datagram_of : (mark : List ℕ) → Body → List ℕ
+datagram_of mark body = datagram (record { mark = mark; body = body })
+
 abbrev pub datagrams_of : (mark : List ℕ) → List Body → List (List ℕ)
-datagrams_of mark bodies = map (λ body. datagram (record { mark = mark; body = body })) bodies
+datagrams_of mark bodies = map (datagram_of mark) bodies
 
 -- what a host sends after it took these bytes; nothing if it refused them
 abbrev pub datagrams_for : (mark : List ℕ) → HostPart → (came : List ℕ)

@@ -1,7 +1,7 @@
 use Rattle.std.proofs.Common.{◌≡◌, ℕ, List, sym, subst, ap}
 use Rattle.std.specs.Prelude.{Option, Some}
 use Rattle.share_wire.specs.declared.message.Body.TheVariants.{Floor}
-use Rattle.share_pending.specs.Showing.{bytes_with}
+use Rattle.share_turns.specs.HostTurn.{datagram_of}
 use Rattle.share_pending.specs.Waiting.{WaitingView}
 use Rattle.share_pending.specs.Written.{ShowsStored}
 use Rattle.share_pending.proofs.Shows.{floor-shows}
