@@ -1,20 +1,17 @@
 //! Whether a document is a scene, and all that is at fault.
 
 ghost use Rattle.std.specs.Prelude.{◌≡◌, ◌⊎◌, Ok, Err, IfErr, OnOk};
-ghost use Rattle.x3d_lists.specs.Answers.{Gives};
 ghost use Rattle.app_jobs.specs.declared.fault.JobFault.TheVariants.{Memory};
-ghost use Rattle.app_program.specs.Opening.{built, routed};
+ghost use Rattle.app_program.specs.Opening.{built};
 ghost use Rattle.app_program.specs.declared.open.OpenedScene.{OpenedScene as OpenedOf};
 ghost use Rattle.scene_faults.specs.Faults.{flat_blames};
 ghost use Rattle.app_part.specs.Judging as spec;
 
 use app_jobs::JobFault;
-use app_program::OpenedScene;
+use app_program::open_flat;
 use classic_tree::Document;
 use proto_expand::expand;
 use proto_flat::Flat;
-use route_core::Routes;
-use scene_core::Scene;
 use scene_faults::{Blame, blames_of};
 use std::alloc::Global;
 use x3d_lists::Items;
@@ -25,28 +22,6 @@ use x3d_lists::Items;
 pub(crate) struct Refused {
     pub fault: JobFault,
     pub blames: Items<Blame>,
-}
-
-/// Returns a scene with the routes of its document.
-fn routed(alloc: Global, flat: &Flat, scene: Scene) -> Result<OpenedScene, JobFault>
-    ensures { Gives Memory (λ o. o) result (routed flat.now scene) }
-{
-    match Routes::resolve(alloc, flat, &scene) {
-        Ok(routes) => Ok(OpenedScene { scene, routes }),
-        // For the prover: an explicit call. At an exit, the drop of a scene is proved in place.
-        Err(fault) => {
-            drop(scene);
-            Err(JobFault::from(fault))
-        }
-    }
-}
-
-/// Returns the scene of a document, and its routes.
-fn built(alloc: Global, flat: &Flat) -> Result<OpenedScene, JobFault>
-    ensures { Gives Memory (λ o. o) result (built flat.now) }
-{
-    let scene = Scene::build(alloc, flat)?;
-    routed(alloc, flat, scene)
 }
 
 /// Returns a refusal with the blames for all that a node or a route alone tells.
@@ -68,7 +43,7 @@ fn judged_flat(alloc: Global, flat: &Flat) -> Result<(), Refused>
     ensures bad { IfErr result (λ r. (r.fault ≡ Memory)
         ⊎ ((built flat.now ≡ Err r.fault) × (r.blames ≡ flat_blames flat.now))) }
 {
-    match built(alloc, flat) {
+    match open_flat(alloc, flat) {
         Ok(opened) => {
             drop(opened);
             Ok(())

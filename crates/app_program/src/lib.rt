@@ -30,7 +30,9 @@ pub use check::check_text;
 pub use fault::ShareFault;
 pub use format::format_text;
 pub use laws::formatted_texts_stay;
-pub use open::{Job, OpenedScene, open_document, open_job, open_scene, read_job, read_schedule};
+pub use open::{
+    Job, OpenedScene, open_document, open_flat, open_job, open_scene, read_job, read_schedule,
+};
 pub use refusal::{Failure, job_fault_name, refusal_line, status_of};
 pub use run_fault::RunFault;
 pub use runs::{run, run_job, run_stock};

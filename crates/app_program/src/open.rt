@@ -50,8 +50,9 @@ fn routed(alloc: Global, flat: &Flat, scene: Scene) -> Result<OpenedScene, JobFa
     }
 }
 
-/// Returns the scene of a document, and its routes.
-fn built(alloc: Global, flat: &Flat) -> Result<OpenedScene, JobFault>
+/// Returns the scene of an expanded document, and its routes. Fails with the first fault of its
+/// nodes, or else of its routes, or with `Memory` if memory is refused.
+pub fn open_flat(alloc: Global, flat: &Flat) -> Result<OpenedScene, JobFault>
     ensures { Gives Memory (λ o. o) result (built flat.now) }
 {
     let scene = Scene::build(alloc, flat)?;
@@ -74,7 +75,7 @@ pub fn open_scene(alloc: Global, text: &[u8]) -> Result<OpenedScene, JobFault>
     ensures { Gives Memory (λ o. o) result (opened text.now) }
 {
     let flat = flattened(alloc, text)?;
-    let opened = built(alloc, &flat);
+    let opened = open_flat(alloc, &flat);
     // For the prover: an explicit call. At an exit, the drop of `flat` is proved in place.
     drop(flat);
     opened
@@ -87,7 +88,7 @@ pub fn open_document(alloc: Global, document: Document) -> Result<OpenedScene, J
     ensures { Gives Memory (λ o. o) result (opened_document document) }
 {
     let flat = expand(alloc, document)?;
-    let opened = built(alloc, &flat);
+    let opened = open_flat(alloc, &flat);
     // For the prover: an explicit call. At an exit, the drop of `flat` is proved in place.
     drop(flat);
     opened

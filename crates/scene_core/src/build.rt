@@ -16,7 +16,7 @@ use crate::numbering::Numbering;
 use crate::places::{has_too_many_places, is_any_crowded};
 use crate::row::declared_fields;
 use crate::scene::SceneNode;
-use crate::values::{Known, check_children, values_of};
+use crate::values::{NumberedNodes, check_children, values_of};
 use crate::wide::is_any_wide;
 use proto_flat::{Flat, FlatNode, Header};
 use std::alloc::{AllocError, Global};
@@ -153,7 +153,7 @@ fn header_copy(alloc: Global, header: &Header) -> Result<Header, AllocError>
 /// Returns the node with number `number`.
 fn node_of(
     alloc: Global,
-    known: Known<'_>,
+    known: NumberedNodes<'_>,
     marks: &Marks<'_>,
     number: usize,
     node: &FlatNode,
@@ -183,7 +183,7 @@ fn node_of(
 /// Appends the next node to `made`.
 fn with_node(
     alloc: Global,
-    known: Known<'_>,
+    known: NumberedNodes<'_>,
     marks: &Marks<'_>,
     n: u32,
     made: Items<SceneNode>,
@@ -209,7 +209,7 @@ fn nodes_by(
     ensures { Gives memory (λ all. all) result
         (spec.nodes_by nodes.now numbering.now (λ name. known_alone (known_of marks.now name))) }
 {
-    let known = Known {
+    let known = NumberedNodes {
         nodes,
         numbers: numbering.numbers.as_slice(),
     };

@@ -32,6 +32,8 @@ mod values;
 mod wide;
 
 pub use fault::{SceneFault, SceneFaultKind};
+pub use parts::inner_nodes;
 pub use places::is_pointing;
 pub use row::{DeclaredField, NodeField};
 pub use scene::{End, Route, Scene, SceneNode};
+pub use values::{NumberedNodes, declared_given, given_value, is_taken};

@@ -13,8 +13,8 @@ use proto_flat::{FlatField, FlatNode};
 use std::alloc::{AllocError, Global};
 use x3d_values::{Field, FieldType, fields_of};
 
-/// Returns the nodes in a value.
-pub(crate) fn inner_nodes(value: &RawValue<u32>) -> &[u32]
+/// Returns the nodes in a value, by their numbers, in its order.
+pub fn inner_nodes(value: &RawValue<u32>) -> &[u32]
     ensures { result.now ≡ spec.inner_nodes value.now }
 {
     match value {

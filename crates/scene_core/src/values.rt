@@ -24,7 +24,7 @@ use x3d_values::{
 
 /// The nodes of a document, and their numbers in the scene.
 #[derive(Clone, Copy)]
-pub struct Known<'a> {
+pub struct NumberedNodes<'a> {
     pub nodes: &'a [FlatNode],
     pub numbers: &'a [u32],
 }
@@ -34,7 +34,7 @@ pub struct Known<'a> {
 #[tactic(auto, unfolding(crate::specs::Typed::values_of))]
 pub(crate) fn values_of(
     alloc: Global,
-    known: Known<'_>,
+    known: NumberedNodes<'_>,
     node: &FlatNode,
 ) -> Result<Items<Option<Value>>, SceneFault>
     ensures { Gives memory (λ v. v) result
@@ -96,7 +96,7 @@ fn in_range(name: &str, value: &Value) -> bool
 }
 
 /// Reports whether the node exists and a field of that kind takes it.
-fn is_taken(kind: Option<NodeKind>, nodes: &[FlatNode], n: u32) -> bool
+pub fn is_taken(kind: Option<NodeKind>, nodes: &[FlatNode], n: u32) -> bool
     ensures { result ≡ spec.takes kind (slice_get nodes.now n) }
 {
     let Some(node) = nodes.get(n as usize) else {
@@ -165,9 +165,13 @@ fn typed_value(
     }
 }
 
-fn given_value(
+/// Returns what a field of a node type holds that is given a value; `None` for a rotation.
+///
+/// Fails with WrongType, ValueRange, RotationUnsupported, NotInitial or BadChild, the first in this
+/// order, on the field's line; or with Memory if memory runs out.
+pub fn given_value(
     alloc: Global,
-    known: Known<'_>,
+    known: NumberedNodes<'_>,
     row: &Field,
     field: &FlatField,
 ) -> Result<Option<Value>, SceneFault>
@@ -194,7 +198,7 @@ fn default_of(alloc: Global, row: &Field) -> Result<Option<Value>, AllocError>
 #[tactic(auto, unfolding(crate::specs::Typed::field_value))]
 fn field_value(
     alloc: Global,
-    known: Known<'_>,
+    known: NumberedNodes<'_>,
     row: &Field,
     field: Option<&FlatField>,
 ) -> Result<Option<Value>, SceneFault>
@@ -211,7 +215,7 @@ fn field_value(
 /// Appends the values of these fields, numbered from `number` on, to `made`.
 fn push_values(
     alloc: Global,
-    known: Known<'_>,
+    known: NumberedNodes<'_>,
     fields: &[FlatField],
     number: usize,
     rows: &[Field],
@@ -232,9 +236,13 @@ fn push_values(
     }
 }
 
-fn declared_given(
+/// Returns what a field that a Script declares holds if it is given a value.
+///
+/// Fails with WrongType, ValueRange, RotationUnsupported, NotInitial or BadChild, the first in this
+/// order, on the field's line, and always for a rotation; or with Memory if memory runs out.
+pub fn declared_given(
     alloc: Global,
-    known: Known<'_>,
+    known: NumberedNodes<'_>,
     declaration: &Declaration<u32>,
     field: &FlatField,
 ) -> Result<Option<Value>, SceneFault>
@@ -281,7 +289,7 @@ fn declared_empty(
 #[tactic(auto, unfolding(crate::specs::Typed::declared_value))]
 fn declared_value(
     alloc: Global,
-    known: Known<'_>,
+    known: NumberedNodes<'_>,
     declaration: &Declaration<u32>,
     field: Option<&FlatField>,
 ) -> Result<Option<Value>, SceneFault>
@@ -298,7 +306,7 @@ fn declared_value(
 /// Appends the values of the declared fields, numbered from `number` on, to `made`.
 fn push_declared(
     alloc: Global,
-    known: Known<'_>,
+    known: NumberedNodes<'_>,
     fields: &[FlatField],
     number: usize,
     interface: &[Declaration<u32>],

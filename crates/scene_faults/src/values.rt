@@ -5,139 +5,21 @@ ghost use Rattle.std.specs.List.{flat_map};
 ghost use Rattle.x3d_lists.specs.Answers.{Gives};
 ghost use Rattle.x3d_values.specs.Tables.{entry};
 ghost use Rattle.scene_core.specs.Faults.{memory};
-ghost use Rattle.scene_core.specs.Parts.{inner_nodes};
 ghost use Rattle.scene_core.specs.Typed as typed;
 ghost use Rattle.scene_faults.specs.Fields as spec;
 
 use crate::blame::{Blame, of_scene};
-use classic_tree::{Declaration, RawValue};
+use classic_tree::Declaration;
 use proto_flat::{FlatField, FlatNode};
-use scene_core::{SceneFault, SceneFaultKind};
-use scene_values::{ValueFault, checked_rotation, typed};
+use scene_core::{
+    NumberedNodes, SceneFault, SceneFaultKind, declared_given, given_value, inner_nodes, is_taken,
+};
 use std::alloc::{AllocError, Global};
 use x3d_lists::Items;
-use x3d_values::{Access, Field, FieldType, NodeKind, Value, Vec3};
+use x3d_values::{Field, FieldType, NodeKind, Value};
 
-fn fault(kind: SceneFaultKind, line: u32) -> SceneFault
-    ensures { result ≡ record { kind = kind; line = line } }
-{
-    SceneFault { kind, line }
-}
-
-fn fault_at(line: u32, refused: ValueFault) -> SceneFault
-    ensures { result ≡ typed.fault_at line refused }
-{
-    match refused {
-        ValueFault::WrongType => fault(SceneFaultKind::WrongType, line),
-        ValueFault::ValueRange => fault(SceneFaultKind::ValueRange, line),
-        ValueFault::RotationUnsupported => fault(SceneFaultKind::RotationUnsupported, line),
-        ValueFault::Memory => fault(SceneFaultKind::Memory, 0),
-    }
-}
-
-fn dropped_rotation(row: &Field, field: &FlatField) -> Result<Option<Value>, SceneFault>
-    ensures { result ≡ typed.dropped_rotation (entry row.now) field.now }
-{
-    match checked_rotation(&field.value, row.name == "orientation") {
-        Ok(()) => Ok(None),
-        Err(refused) => Err(fault_at(field.line, refused)),
-    }
-}
-
-fn is_negative(size: Vec3) -> bool
-    ensures { result ≡ typed.is_negative size }
-{
-    size.x < 0 || size.y < 0 || size.z < 0
-}
-
-/// Checks the ranges of single fields: a cycle is longer than 0, and a Box has no negative size.
-fn in_range(name: &str, value: &Value) -> bool
-    ensures { result ≡ typed.in_range name.now value.now }
-{
-    match value {
-        Value::SFTime(time) => name != "cycleInterval" || *time > 0,
-        Value::SFVec3f(size) => name != "size" || !is_negative(*size),
-        _ => true,
-    }
-}
-
-/// Returns the nodes in a value.
-fn inner_nodes(value: &RawValue<u32>) -> &[u32]
-    ensures { result.now ≡ inner_nodes value.now }
-{
-    match value {
-        RawValue::Node(node) => std::slice::from_ref(node),
-        RawValue::NodeList(nodes) => nodes.as_slice(),
-        _ => &[],
-    }
-}
-
-/// Reports whether the node exists and a field of that kind takes it.
-fn is_taken(kind: Option<NodeKind>, nodes: &[FlatNode], n: u32) -> bool
-    ensures { result ≡ typed.takes kind (slice_get nodes.now n) }
-{
-    let Some(node) = nodes.get(n as usize) else {
-        return false;
-    };
-    match kind {
-        Some(kind) => node.node_type.kind() == kind,
-        None => true,
-    }
-}
-
-fn all_taken(kind: Option<NodeKind>, nodes: &[FlatNode], inner: &[u32]) -> bool
-    ensures { result ≡ typed.all_taken kind nodes.now inner.now }
-{
-    inner.iter().all(|n| is_taken(kind, nodes, *n))
-}
-
-/// Accepts a typed value into a field of that access and kind, or returns the fault that prevents
-/// it.
-fn accepted(
-    nodes: &[FlatNode],
-    access: Access,
-    kind: Option<NodeKind>,
-    field: &FlatField,
-    value: Value,
-) -> Result<Option<Value>, SceneFault>
-    ensures { result ≡ typed.accepted nodes.now access kind field.now value }
-{
-    if !access.is_initial() {
-        drop(value);
-        return Err(fault(SceneFaultKind::NotInitial, field.line));
-    }
-    if !all_taken(kind, nodes, inner_nodes(&field.value)) {
-        drop(value);
-        return Err(fault(SceneFaultKind::BadChild, field.line));
-    }
-    Ok(Some(value))
-}
-
-fn accepted_in_range(
-    nodes: &[FlatNode],
-    row: &Field,
-    field: &FlatField,
-    value: Value,
-) -> Result<Option<Value>, SceneFault>
-    ensures { result ≡ typed.accepted_in_range nodes.now (entry row.now) field.now value }
-{
-    if !in_range(row.name, &value) {
-        drop(value);
-        return Err(fault(SceneFaultKind::ValueRange, field.line));
-    }
-    accepted(nodes, row.access, row.kind, field, value)
-}
-
-fn typed_value(alloc: Global, field_type: FieldType, field: &FlatField) -> Result<Value, SceneFault>
-    ensures { Gives memory (λ v. v) result (typed.typed_value [] field_type field.now) }
-{
-    match typed(alloc, field_type, &field.value, &[]) {
-        Ok(value) => Ok(value),
-        Err(refused) => Err(fault_at(field.line, refused)),
-    }
-}
-
-fn given_value(
+/// Returns what a field of a node type holds, but for the numbers of its nodes in a scene.
+fn value_of(
     alloc: Global,
     nodes: &[FlatNode],
     row: &Field,
@@ -146,14 +28,16 @@ fn given_value(
     ensures { Gives memory (λ v. v) result
         (typed.given_value nodes.now [] (entry row.now) field.now) }
 {
-    if row.field_type == FieldType::SFRotation {
-        return dropped_rotation(row, field);
-    }
-    let value = typed_value(alloc, row.field_type, field)?;
-    accepted_in_range(nodes, row, field, value)
+    let known = NumberedNodes {
+        nodes,
+        numbers: &[],
+    };
+    given_value(alloc, known, row, field)
 }
 
-fn declared_given(
+/// Returns what a declared field holds, but for the numbers of its nodes in a scene; of a rotation
+/// the declaration is at fault.
+fn declared_value(
     alloc: Global,
     nodes: &[FlatNode],
     declaration: &Declaration<u32>,
@@ -165,8 +49,11 @@ fn declared_given(
     if declaration.field_type == FieldType::SFRotation {
         return Ok(None);
     }
-    let value = typed_value(alloc, declaration.field_type, field)?;
-    accepted(nodes, declaration.access, None, field, value)
+    let known = NumberedNodes {
+        nodes,
+        numbers: &[],
+    };
+    declared_given(alloc, known, declaration, field)
 }
 
 fn is_memory(kind: SceneFaultKind) -> bool
@@ -266,7 +153,7 @@ pub(crate) fn push_given(
         ++ spec.blames_in (spec.value_blames nodes.now row.now.kind field.now)
         (typed.given_value nodes.now [] (entry row.now) field.now)) }
 {
-    match given_value(alloc, nodes, row, field) {
+    match value_of(alloc, nodes, row, field) {
         Ok(value) => {
             drop(value);
             Ok(())
@@ -286,7 +173,7 @@ pub(crate) fn push_declared(
     ensures { OnOk result (out.new ≡ out.old
         ++ spec.blames_in spec.itself (spec.declared_value nodes.now declaration.now field.now)) }
 {
-    match declared_given(alloc, nodes, declaration, field) {
+    match declared_value(alloc, nodes, declaration, field) {
         Ok(value) => {
             drop(value);
             Ok(())
