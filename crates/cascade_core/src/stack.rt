@@ -55,8 +55,8 @@ fn run_tasks<B: Behaviour>(
     course: &mut Course<B>,
 ) -> Result<(), AllocError>
     requires working { IsWorking routed.now buffers.old (seen course.old) }
-    ensures course { OnOk result
-        (seen course.new ≡ finish (wiring_at routed.now) (seen course.old) buffers.old.tasks.items) }
+    ensures course { OnOk result (seen course.new
+        ≡ finish (wiring_at routed.now) (seen course.old) buffers.old.tasks.items) }
     ensures rest { OnOk result (IsAtRest routed.now buffers.new (seen course.new)) }
     ensures scripts { HasSameScripts (seen course.old) (seen course.new) }
 {

@@ -3,17 +3,15 @@
 use crate::boxes::put_boxes;
 use crate::buffers::Buffers;
 use crate::course::Course;
-use crate::fault::{ApplyFault, LoadFault, PlaceFault, StatesFault, TextFault};
+use crate::fault::{ApplyFault, LoadFault, PlaceFault};
 use crate::input::advance;
 use crate::opening::open;
 use crate::parts::{Parts, parts_of, routed_of};
 use crate::routed::RoutedScene;
 use crate::work::Work;
-use cascade_trace::push_trace;
 use cascade_world::WorldData;
 use route_core::Routes;
 use scene_core::{Route, Scene};
-use scene_text::write_scene;
 use script_host::{Behaviour, Scripts, StateFault};
 use std::alloc::Global;
 use std::marker::Model;
@@ -23,10 +21,10 @@ use x3d_values::{Items, Stamped};
 /// A scene with its world, which inputs advance.
 #[derive(Drop)]
 pub struct Stage<B: Behaviour> {
-    routed: RoutedScene,
-    course: Course<B>,
+    pub(crate) routed: RoutedScene,
+    pub(crate) course: Course<B>,
     buffers: Buffers,
-    spoiled: Option<u32>,
+    pub(crate) spoiled: Option<u32>,
 }
 
 impl<B: Behaviour> Model for Stage<B> {
@@ -60,7 +58,6 @@ impl<B: Behaviour> Stage<B> {
     ghost use Rattle.cascade_core.specs.Scripts.{kinds_in, scripts_in};
     ghost use Rattle.cascade_core.specs.Held.{Running, after, holding, refusal_of, settled_by, spoiled as spoiled_of, applied_of, IfRunning, IfSpoiled, is_spoiled, trace_of, world_in};
     ghost use Rattle.cascade_core.specs.Installing.{RefusesBox, RefusesInstall, StatesFit};
-    ghost use Rattle.cascade_core.specs.Texts.{trace_text, scene_text, texts};
     ghost use Rattle.cascade_core.specs.Work.{IsWork};
     ghost use Rattle.script_running.specs.Scripts.{script_list};
     ghost use Rattle.script_host.specs.Attaching.{Fits};
@@ -205,90 +202,11 @@ impl<B: Behaviour> Stage<B> {
         }
     }
 
-    /// Appends the text of the trace. Returns `Spoiled` if the stage is spoiled and `Memory` if
-    /// memory runs out; the buffer is then unchanged.
-    #[tactic(auto, unfolding(crate::specs::Texts::trace_text))]
-    pub fn trace_text(&self, out: &mut Vec<u8>) -> Result<(), TextFault>
-        ensures refused { IfSpoiled self.now.held (result ≡ Err TextFault.Spoiled) }
-        ensures ok { IfRunning self.now.held (λ w.
-            OnOk result (out.new.items ≡ out.old.items ++ trace_text self.now.scene w)) }
-        ensures memory { IfRunning self.now.held (λ w.
-            IfErr result (λ fault. fault ≡ TextFault.Memory)) }
-        ensures err { OnErr result (out.new.items ≡ out.old.items) }
-    {
-        if self.spoiled.is_some() {
-            return Err(TextFault::Spoiled);
-        }
-        push_trace(&self.routed.scene, &self.course.live.world.trace, out)?;
-        Ok(())
-    }
-
-    /// Appends the text of the scene in its current state. Returns `Spoiled` if the stage is
-    /// spoiled and `Memory` if memory runs out; the buffer is then unchanged.
-    #[tactic(auto, unfolding(crate::specs::Texts::scene_text))]
-    pub fn scene_text(&self, out: &mut Vec<u8>) -> Result<(), TextFault>
-        ensures refused { IfSpoiled self.now.held (result ≡ Err TextFault.Spoiled) }
-        ensures ok { IfRunning self.now.held (λ w.
-            OnOk result (out.new.items
-            ≡ out.old.items ++ scene_text self.now.scene self.now.routes w)) }
-        ensures memory { IfRunning self.now.held (λ w.
-            IfErr result (λ fault. fault ≡ TextFault.Memory)) }
-        ensures err { OnErr result (out.new.items ≡ out.old.items) }
-    {
-        if self.spoiled.is_some() {
-            return Err(TextFault::Spoiled);
-        }
-        let fields = self.course.live.world.fields.as_slice();
-        write_scene(
-            &self.routed.scene,
-            self.routed.routes.as_slice(),
-            fields,
-            out,
-        )?;
-        Ok(())
-    }
-
-    /// Appends the trace and then the scene. Returns `Spoiled` if the stage is spoiled and `Memory`
-    /// if memory runs out; the buffer is then unchanged.
-    pub fn texts(&self, out: &mut Vec<u8>) -> Result<(), TextFault>
-        ensures refused { IfSpoiled self.now.held (result ≡ Err TextFault.Spoiled) }
-        ensures ok { IfRunning self.now.held (λ w. OnOk result (out.new.items
-            ≡ out.old.items ++ texts self.now.scene self.now.routes w)) }
-        ensures memory { IfRunning self.now.held (λ w.
-            IfErr result (λ fault. fault ≡ TextFault.Memory)) }
-        ensures err { OnErr result (out.new.items ≡ out.old.items) }
-    {
-        let len = out.len();
-        self.trace_text(out)?;
-        let written = self.scene_text(out);
-        if written.is_err() {
-            out.truncate(len);
-        }
-        written
-    }
-
     /// Returns the number of scripts that the scene runs.
     pub fn script_count(&self) -> usize
         ensures { result ≡ length (kinds_in self.now.scene) }
     {
         self.course.scripts.len()
-    }
-
-    /// Appends the states of the scripts in number order. Returns `Spoiled` if the stage is spoiled
-    /// and `Memory` if memory runs out; the buffer is then unchanged.
-    pub fn script_states(&self, out: &mut Vec<Items<i64>>) -> Result<(), StatesFault>
-        ensures refused { IfSpoiled self.now.held (result ≡ Err StatesFault.Spoiled) }
-        ensures ok { IfRunning self.now.held (λ w.
-            OnOk result (out.new.items ≡ out.old.items ++ w.states)) }
-        ensures memory { IfRunning self.now.held (λ w.
-            IfErr result (λ fault. fault ≡ StatesFault.Memory)) }
-        ensures err { OnErr result (out.new.items ≡ out.old.items) }
-    {
-        if self.spoiled.is_some() {
-            return Err(StatesFault::Spoiled);
-        }
-        self.course.scripts.states(out)?;
-        Ok(())
     }
 
     /// Replaces what the stage holds by a world with a state for each script. A spoiled stage is

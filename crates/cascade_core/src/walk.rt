@@ -100,8 +100,8 @@ fn walk_range<V: VisitsNodes, B: Behaviour>(
     Ok(())
 }
 
-/// Visits the nodes of a block that the visitor concerns, in a scene of `count` nodes. Skips a block
-/// where it is known to do nothing.
+/// Visits the nodes of a block that the visitor concerns, in a scene of `count` nodes. Skips a
+/// block where it is known to do nothing.
 fn walk_block<V: VisitsNodes, B: Behaviour>(
     routed: &RoutedScene,
     buffers: &mut Buffers,

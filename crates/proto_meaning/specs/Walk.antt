@@ -1,5 +1,5 @@
--- One part of a document's text after another: the state between them, and what a part does if it is
--- added (our choice).
+-- One part of a document's text after another: the state between them, and what a part does if it
+-- is added (our choice).
 use Rattle.std.specs.Prelude.{ℕ, List, [], ◌∷◌, ◌++◌, Result, Ok, Err}
 use Rattle.classic_tree.specs.declared.tree.Given.{Given}
 use Rattle.classic_tree.specs.declared.tree.RawValue.{RawValue}
