@@ -3,9 +3,10 @@ use Rattle.std.specs.Prelude.{◌≡◌, ℕ, ◌+◌, ◌-◌, ◌^◌, min, Li
 use Rattle.std.specs.Prelude.{Result, Ok, Err}
 use Rattle.share_turns.specs.declared.traffic.Traffic.{Traffic}
 
--- the number of bytes of a datagram that are received: one more than the longest that is accepted
+-- the number of bytes of a datagram that are received: one more than a packet of version 2 has room
+-- for
 abbrev pub max_received : ℕ
-max_received = 257
+max_received = 289
 
 -- the record grows by this traffic; nothing is claimed of a port that keeps no record
 abbrev pub Grows : Option (List Traffic) → Option (List Traffic) → List Traffic → Type 0

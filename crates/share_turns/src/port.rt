@@ -8,9 +8,9 @@ ghost use Rattle.share_turns.specs.declared.traffic.Traffic.TheVariants.{Nothing
 
 use thiserror::Error;
 
-/// The number of bytes of a datagram that are received: one more than the longest that is accepted,
-/// so that a longer one is noticed.
-pub const RECEIVED: usize = 257;
+/// The number of bytes of a datagram that are received: one more than a packet of version 2 has room
+/// for, so that a longer one is noticed.
+pub const RECEIVED: usize = 289;
 
 /// A send or a receive failed.
 #[derive(Clone, Copy, Debug, PartialEq, Eq, Error)]
@@ -29,7 +29,7 @@ pub trait Port {
     // The milliseconds that passed from its first rest to its last, as the port counts them.
     ghost rested: { Self → ℕ } = { λ _. 0 };
 
-    /// Sends a datagram of at most 257 bytes to a peer. A datagram that finds no room on the way is
+    /// Sends a datagram of at most 289 bytes to a peer. A datagram that finds no room on the way is
     /// lost; that isn't a failure.
     fn send(&mut self, to: u16, bytes: &[u8]) -> Result<(), PortFault>
         requires { length bytes.now ≤ max_received }
@@ -40,7 +40,7 @@ pub trait Port {
         ensures time { rested self.new ≡ rested self.old };
 
     /// Receives a datagram, if one arrived. Returns its peer and its number of bytes, which are at
-    /// the front of `into`. Of a datagram of more than 257 bytes, the first 257 are received.
+    /// the front of `into`. Of a datagram of more than 289 bytes, the first 289 are received.
     fn receive(&mut self, into: &mut [u8; RECEIVED]) -> Result<Option<(u16, usize)>, PortFault>
         ensures got { MatchResult result
             (λ came. MatchOption came (Grows (told self.old) (told self.new) (Nothing ∷ []))

@@ -7,7 +7,7 @@ use crate::port::RECEIVED;
 use arrayvec::ArrayVec;
 use std::marker::Model;
 
-/// The bytes of a datagram, at most 257.
+/// The bytes of a datagram, at most 289.
 #[derive(Debug, Drop)]
 pub struct Bytes {
     items: ArrayVec<u8, RECEIVED>,
@@ -22,7 +22,7 @@ impl Model for Bytes {
 }
 
 impl Bytes {
-    /// Copies a slice of at most 257 bytes.
+    /// Copies a slice of at most 289 bytes.
     pub fn from_slice(bytes: &[u8]) -> Bytes
         requires { length bytes.now ≤ max_received }
         ensures { result ≡ bytes.now }

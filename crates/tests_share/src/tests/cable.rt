@@ -3,7 +3,7 @@
 ghost use Rattle.std.specs.Prelude.{◌≡◌, ◌≤◌, length};
 ghost use Rattle.share_turns.specs.Told.{one_more};
 
-use share_turns::{Bytes, Datagram, Port, PortFault};
+use share_turns::{Bytes, Datagram, Port, PortFault, RECEIVED};
 use std::alloc::{AllocError, Global};
 use std::cell::RefCell;
 use std::collections::VecDeque;
@@ -59,7 +59,7 @@ impl Cable {
 
     /// Sends to an address. A datagram is lost if memory is refused.
     fn post(&mut self, to: u16, from: u16, bytes: &[u8]) -> Result<(), PortFault>
-        requires { length bytes.now ≤ 257 }
+        requires { length bytes.now ≤ 289 }
     {
         if self.fails() {
             return Err(PortFault);
@@ -74,7 +74,7 @@ impl Cable {
 }
 
 fn datagram(from: u16, bytes: &[u8]) -> Datagram
-    requires { length bytes.now ≤ 257 }
+    requires { length bytes.now ≤ 289 }
 {
     Datagram {
         peer: from,
@@ -89,7 +89,7 @@ fn bring(
     from: u16,
     bytes: &[u8],
 ) -> Result<(), AllocError>
-    requires { length bytes.now ≤ 257 }
+    requires { length bytes.now ≤ 289 }
 {
     if number % 5 == 0 {
         return Ok(());
@@ -106,8 +106,8 @@ fn bring(
 }
 
 /// Copies a datagram's bytes to the front, and returns its sender and its length.
-fn unpacked(datagram: &Datagram, into: &mut [u8; 257]) -> (u16, usize)
-    ensures { result.1 ≤ 257 }
+fn unpacked(datagram: &Datagram, into: &mut [u8; RECEIVED]) -> (u16, usize)
+    ensures { result.1 ≤ 289 }
 {
     let bytes = datagram.bytes.as_slice();
     into[..bytes.len()].copy_from_slice(bytes);
@@ -156,7 +156,7 @@ impl<'a> Port for End<'a> {
         }
     }
 
-    fn receive(&mut self, into: &mut [u8; 257]) -> Result<Option<(u16, usize)>, PortFault> {
+    fn receive(&mut self, into: &mut [u8; RECEIVED]) -> Result<Option<(u16, usize)>, PortFault> {
         let came = match self.cable.try_borrow_mut() {
             Ok(mut cable) => cable.next(self.address),
             Err(_) => Err(PortFault),

@@ -1,7 +1,7 @@
 //! When a viewer's asks and offers are sent, by a clock that only moves when it is set.
 
 use app_commands::{AskingPort, ExactPort, Pace, PatientPort};
-use share_turns::{Bytes, Datagram, FakePort, Port, Traffic};
+use share_turns::{Bytes, Datagram, FakePort, Port, RECEIVED, Traffic};
 use share_wire::{Ack, Ask, Body, Message, Packet, Piece, encode};
 use std::alloc::Global;
 use std::cell::Cell;
@@ -126,7 +126,7 @@ fn a_port_holds_back_an_ask_whose_answer_is_under_way(rt: HostRuntime) {
     let mut port = PatientPort::new(fake, &hand);
     let ask = packet(Body::Ask(Ask::new(0, 1)));
     let more = packet(Body::Ask(Ask::new(0, 2)));
-    let mut bytes = [0; 257];
+    let mut bytes = [0; RECEIVED];
     let first = port.send(HOST, ask.as_slice()).is_ok() && port.send(HOST, more.as_slice()).is_ok();
     let one = has_sent(port.port(), 1);
     let answer = port.receive(&mut bytes).is_ok() && port.send(HOST, more.as_slice()).is_ok();
@@ -149,7 +149,7 @@ fn an_exact_port_passes_over_what_is_beyond(rt: HostRuntime) {
         came = came && deliver(rt.alloc(), &mut fake, body);
     }
     let mut port = ExactPort::new(fake, Some(5));
-    let mut bytes = [0; 257];
+    let mut bytes = [0; RECEIVED];
     let mut is_empty = [false; 4];
     for each in &mut is_empty {
         if let Ok(Some((_peer, count))) = port.receive(&mut bytes) {

@@ -9,7 +9,7 @@ use super::{Row, all_hold};
 use app_commands::{JointJob, host_job, joint_job, seated_job, shared_job, view_job};
 use app_words::{HostOrder, LogUse, Order, ViewEnd, ViewOrder};
 use share_core::Host;
-use share_turns::{HostPlan, Port, PortFault, ViewPlan, host_run, view_run};
+use share_turns::{HostPlan, Port, PortFault, RECEIVED, ViewPlan, host_run, view_run};
 use std::alloc::{AllocError, Global};
 use std::cell::RefCell;
 use std::process::Abort;
@@ -113,7 +113,7 @@ impl<'a> Port for Between<'a> {
         self.end.send(to, bytes)
     }
 
-    fn receive(&mut self, into: &mut [u8; 257]) -> Result<Option<(u16, usize)>, PortFault> {
+    fn receive(&mut self, into: &mut [u8; RECEIVED]) -> Result<Option<(u16, usize)>, PortFault> {
         self.others.take_turns(self.address);
         self.end.receive(into)
     }

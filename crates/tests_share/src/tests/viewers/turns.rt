@@ -8,8 +8,8 @@ use super::hosting::{begin, offer_packet};
 use script_boxes::StockScript;
 use share_core::{Host, Viewer};
 use share_turns::{
-    Bytes, Datagram, FakePort, HostPlan, Port, SeriesFault, TurnFault, ViewPlan, agree, host_run,
-    host_turn, view_run, viewer_turn,
+    Bytes, Datagram, FakePort, HostPlan, Port, RECEIVED, SeriesFault, TurnFault, ViewPlan, agree,
+    host_run, host_turn, view_run, viewer_turn,
 };
 use share_wire::Packet;
 use std::alloc::Global;
@@ -24,7 +24,7 @@ const HOST: u16 = 5000;
 fn port_with(alloc: Global, packet: Option<Packet>) -> FakePort {
     let mut port = FakePort::failing_at(alloc, 0);
     if let Some(packet) = packet {
-        if packet.len() <= 257 {
+        if packet.len() <= RECEIVED {
             let bytes = Bytes::from_slice(packet.as_slice());
             let _came = port.deliver(Datagram { peer: HOST, bytes }).is_ok();
         }
