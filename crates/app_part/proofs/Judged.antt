@@ -1,5 +1,5 @@
 -- What is at fault in a document, by its flat form; and the tree of a text with its tokens apart.
-use Rattle.std.proofs.Common.{◌≡◌, ◌⊎◌, ℕ, List, [], Option, Some, None, Result, Ok, Err, IfOk, IfErr, OnOk, inl, inr, sym, ap, ◌∙◌}
+use Rattle.std.proofs.Common.{◌≡◌, ◌⊎◌, ℕ, List, Option, Some, None, Result, Ok, Err, IfOk, IfErr, OnOk, inl, inr, sym, ap, ◌∙◌}
 use Rattle.std.specs.Prelude.{IfSome}
 use Rattle.classic_tree.specs.declared.tree.Document.{Document}
 use Rattle.proto_flat.specs.Fault.{memory}
@@ -7,6 +7,7 @@ use Rattle.proto_flat.specs.declared.fault.ExpandFault.{ExpandFault}
 use Rattle.proto_flat.specs.declared.flat.Flat.{Flat}
 use Rattle.proto_meaning.specs.Flat.{flat}
 use Rattle.scene_faults.specs.Faults.{flat_blames}
+use Rattle.scene_faults.specs.Texts.{text_blames}
 use Rattle.scene_faults.specs.declared.blame.Blame.{Blame}
 use Rattle.app_jobs.specs.Faults.{of_expand}
 use Rattle.app_jobs.specs.declared.fault.JobFault.{JobFault}
@@ -37,15 +38,15 @@ pub bad_if : (d : Document) (f : Flat) (r : Result (Unit {0}) Refused) → flat 
     → IfErr r (λ x. (x.fault ≡ Memory) ⊎ IsToldBad d x.fault x.blames)
 bad_if d f (Ok u) is bad = tt
 bad_if d f (Err x) is (inl none) = inl none
-bad_if d f (Err x) is (inr bad) = inr (record { opened = expanded d f is ∙ bad.0; told = bad.1 ∙ sym (ap blames_of is) })
+bad_if d f (Err x) is (inr bad) = inr (record { opened = expanded d f is ∙ bad.0; told = bad.1 ∙ sym (ap (blames_of d) is) })
 
-pub unexpanded : (d : Document) (e : ExpandFault) (f : JobFault) (blames : List Blame) → (e ≡ memory) ⊎ (flat d ≡ Err e)
-    → f ≡ of_expand e → blames ≡ [] → (f ≡ Memory) ⊎ IsToldBad d f blames
-unexpanded d e f blames (inl none) is empty = inl (is ∙ ap of_expand none)
-unexpanded d e f blames (inr told) is empty =
+pub unexpanded : (d : Document) (e : ExpandFault) (f : JobFault) (r : Refused) (blames : List Blame) → (e ≡ memory) ⊎ (flat d ≡ Err e)
+    → f ≡ of_expand e → (r.fault ≡ f) × (r.blames ≡ blames) → blames ≡ text_blames d → (r.fault ≡ Memory) ⊎ IsToldBad d r.fault r.blames
+unexpanded d e f r blames (inl none) is same told = inl (same.0 ∙ is ∙ ap of_expand none)
+unexpanded d e f r blames (inr bad) is same told =
     inr (record {
-      opened = refused d e told ∙ ap (λ (g : JobFault). let r : Result OpenedScene JobFault = Err g in r) (sym is);
-      told = empty ∙ sym (ap blames_of told);
+      opened = refused d e bad ∙ ap (λ (g : JobFault). let r : Result OpenedScene JobFault = Err g in r) (sym (same.0 ∙ is));
+      told = same.1 ∙ told ∙ sym (ap (blames_of d) bad);
     })
 
 pub numbered_made : {E : Type 0} (text : List ℕ) (document : Document) (made : Apart) (r : Result (Option Placed) E) → IsApart text made

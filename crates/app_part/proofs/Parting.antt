@@ -1,5 +1,5 @@
 -- From the answers of one call to those of the next.
-use Rattle.std.proofs.Common.{◌≡◌, ◌⊎◌, ℕ, true, List, Option, Result, Ok, Err, IfOk, IfErr, inl, inr, refl, sym, subst}
+use Rattle.std.proofs.Common.{◌≡◌, ◌⊎◌, ℕ, List, Option, Result, Ok, Err, IfOk, IfErr, inl, inr, refl, sym, subst}
 use Rattle.std.specs.Option.{option_map}
 use Rattle.std.specs.List.Sorted.{IsPermutation, IsNonDecreasingBy}
 use Rattle.classic_lenient.specs.Lenient.{IsLenient}
@@ -7,13 +7,11 @@ use Rattle.classic_lenient.specs.declared.reading.Lenient.{Lenient}
 use Rattle.classic_part.specs.declared.notes.Note.{Note}
 use Rattle.app_jobs.specs.declared.fault.JobFault.{JobFault}
 use Rattle.app_jobs.specs.declared.fault.JobFault.TheVariants.{Memory}
-use Rattle.app_part.specs.Mends.{is_limit}
 use Rattle.app_part.specs.Apart.{IsPlaced}
 use Rattle.app_part.specs.Order.{AreByPlace, IsOrdered, note_place}
-use Rattle.app_part.specs.Parts.{no_part}
 use Rattle.app_part.specs.Kept.{IsFirstLost, IsLostOf, IsSaid}
 use Rattle.app_part.specs.Streams.{AreKeptTexts, AreShown, ArePartTexts, IsOrderedPart}
-use Rattle.app_part.specs.Whole.{HasNoPartOf, IsLessPart, IsPartOf, IsPartOfLenient, IsPartOfText, IsScene, IsNoScene, IsRefused, IsUnmended}
+use Rattle.app_part.specs.Whole.{HasNoPartOf, IsLessPart, IsNoPartsText, IsPartOf, IsPartOfLenient, IsPartOfText, IsScene, IsNoScene, IsRefused, IsUnmended}
 use Rattle.app_part.specs.declared.part.ScenePart.{ScenePart}
 use Rattle.app_part.specs.declared.places.Placed.{Placed}
 use Rattle.app_part.specs.declared.streams.KeptTexts.{KeptTexts}
@@ -37,9 +35,8 @@ pub unmended : (text : List ℕ) (first : JobFault) (lenient : Lenient) (r : Res
     → IfErr r (HasNoPartOf text lenient) → IfErr r (λ f. IsNoScene text first → IsRefused text f)
 unmended text first lenient (Ok part) read why = tt
 unmended text first lenient (Err f) read (inl none) = λ bad. inl none
-unmended text first lenient (Err f) read (inr (inl none)) = λ bad. inr (inl none)
-unmended text first lenient (Err f) read (inr (inr stuck)) =
-    λ bad. inr (inr (inr (inl (record { first = first; bad = bad; lenient = lenient; read = read; stuck = stuck }))))
+unmended text first lenient (Err f) read (inr stuck) =
+    λ bad. inr (inr (inl (record { first = first; bad = bad; lenient = lenient; read = read; stuck = stuck })))
 
 -- the part of a tree with places, or why it has none
 pub lenient_made : (text : List ℕ) (lenient : Lenient) (placed : Placed) (r : Result ScenePart JobFault) → IsPlaced text lenient placed
@@ -51,23 +48,14 @@ pub lenient_refused : (text : List ℕ) (lenient : Lenient) (placed : Placed) (r
     → IfErr r (IsUnmended placed.lenient.document) → IfErr r (HasNoPartOf text lenient)
 lenient_refused text lenient placed (Ok part) has why = tt
 lenient_refused text lenient placed (Err f) has (inl none) = inl none
-lenient_refused text lenient placed (Err f) has (inr (inl none)) = inr (inl none)
-lenient_refused text lenient placed (Err f) has (inr (inr stuck)) = inr (inr (record { placed = placed; has = has; stuck = stuck }))
+lenient_refused text lenient placed (Err f) has (inr stuck) = inr (record { placed = placed; has = has; stuck = stuck })
 
 -- a part whose text is refused
 pub refused_check : (text : List ℕ) (part : ScenePart) (r : Result ScenePart JobFault) → IsPartOfText text part
-    → IfErr r (λ f. (f ≡ Memory) ⊎ ((f ≡ no_part) ⊎ (IsNoScene part.text.items f × (is_limit f ≡ true))))
-    → IfErr r (IsRefused text)
+    → IfErr r (λ f. (f ≡ Memory) ⊎ IsNoPartsText part.text.items f) → IfErr r (IsRefused text)
 refused_check text part (Ok made) is why = tt
 refused_check text part (Err f) is (inl none) = inl none
-refused_check text part (Err f) is (inr (inl none)) = inr (inl none)
-refused_check text part (Err f) is (inr (inr refused)) =
-    inr (inr (inr (inr (record {
-      made = part;
-      part = is;
-      refused = refused.0;
-      limit = refused.1;
-    }))))
+refused_check text part (Err f) is (inr refused) = inr (inr (inr (record { made = part; part = is; refused = refused })))
 
 same_items : (shown part : ScenePart) → shown.text ≡ part.text → shown.text.items ≡ part.text.items
 same_items shown part same = rw same refl

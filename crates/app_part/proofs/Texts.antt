@@ -1,5 +1,5 @@
 -- Texts that are scenes, and laws of their parts.
-use Rattle.std.proofs.Common.{◌≡◌, ◌⊎◌, ℕ, List, Bool, true, false, Result, Ok, Err, IfOk, IfErr, OnOk, inl, inr, refl, sym, ap, ◌∙◌}
+use Rattle.std.proofs.Common.{◌≡◌, ◌⊎◌, ℕ, List, Bool, true, false, Result, Ok, Err, IfOk, IfErr, OnOk, inl, inr, refl, sym, ap, subst, ◌∙◌}
 use Rattle.classic_tree.specs.Writing.{document_text}
 use Rattle.classic_tree.specs.declared.tree.Document.{Document}
 use Rattle.classic_text.specs.Reading.{memory, read_text}
@@ -15,8 +15,8 @@ use Rattle.app_program.specs.Opening.{next, same, good, built, flattened, opened
 use Rattle.app_program.specs.declared.open.OpenedScene.{OpenedScene}
 use Rattle.app_part.specs.Laws.{PartsAreTheirParts, RefusalsAreLimits, ScenesAreRefusedAsTexts, ScenesAreTheirParts}
 use Rattle.app_part.specs.Mends.{is_limit}
-use Rattle.app_part.specs.Parts.{IsGood, IsBad, no_part}
-use Rattle.app_part.specs.Whole.{IsLessPart, IsNoScene, IsPartOfText, IsRefused, IsScene, IsUnread, IsWhole, says_memory}
+use Rattle.app_part.specs.Parts.{IsGood, IsBad, no_text}
+use Rattle.app_part.specs.Whole.{IsAnother, IsAnswer, IsLessPart, IsNoPartsText, IsNoScene, IsPartOfText, IsRefused, IsScene, IsUnread, IsWhole, says_memory}
 use Rattle.app_part.specs.declared.part.ScenePart.{ScenePart}
 
 -- ---- a text is opened as its document
@@ -53,18 +53,46 @@ pub scene_if : {E : Type 0} (text : List ℕ) (d : Document) (r : Result (Unit {
 scene_if text d (Ok u) read same good = is_scene text d read same good
 scene_if text d (Err e) read same good = tt
 
+-- why the text of a part is no scene
 pub no_scene_if : {X : Type 0} (text : List ℕ) (d : Document) (r : Result X JobFault) → read_text text ≡ Ok d
-    → IfErr r (λ f. (f ≡ Memory) ⊎ ((f ≡ no_part) ⊎ IsBad d f))
-    → IfErr r (λ f. (f ≡ Memory) ⊎ ((f ≡ no_part) ⊎ IsNoScene text f))
+    → IfErr r (λ f. (f ≡ Memory) ⊎ (IsAnother d text f ⊎ IsAnswer (IsBad d) f))
+    → IfErr r (λ f. (f ≡ Memory) ⊎ IsNoPartsText text f)
 no_scene_if text d (Ok u) read why = tt
 no_scene_if text d (Err f) read (inl none) = inl none
-no_scene_if text d (Err f) read (inr (inl none)) = inr (inl none)
-no_scene_if text d (Err f) read (inr (inr bad)) = inr (inr (no_scene_of text d f read bad))
+no_scene_if text d (Err f) read (inr (inl another)) = inr (inl (record { document = d; read = read; another = another }))
+no_scene_if text d (Err f) read (inr (inr (inl limit))) = inr (inr (inl (no_scene_of text d f read limit.0, limit.1)))
+no_scene_if text d (Err f) read (inr (inr (inr other))) =
+    inr (inr (inr (other.0, no_scene_of text d other.0 read other.1, other.2, other.3)))
 
-pub unread_if : (text : List ℕ) (e : ReadFault) (f : JobFault) → (e ≡ memory) ⊎ (read_text text ≡ Err e) → f ≡ of_read e
-    → (f ≡ Memory) ⊎ ((f ≡ no_part) ⊎ IsNoScene text f)
-unread_if text e f (inl none) is = inl (is ∙ ap of_read none)
-unread_if text e f (inr read) is = inr (inr (unread text e read ∙ ap (λ (g : JobFault). let r : Result OpenedScene JobFault = Err g in r) (sym is)))
+unread_fault : (text : List ℕ) (e : ReadFault) (first : JobFault) → read_text text ≡ Err e → first ≡ of_read e → IsNoScene text first
+unread_fault text e first read is = unread text e read ∙ ap (λ (g : JobFault). let r : Result OpenedScene JobFault = Err g in r) (sym is)
+
+pub unread_if : (text : List ℕ) (e : ReadFault) (first f : JobFault) → (e ≡ memory) ⊎ (read_text text ≡ Err e) → first ≡ of_read e
+    → ((f ≡ first) × (is_limit first ≡ true)) ⊎ ((f ≡ no_text) × (is_limit first ≡ false))
+    → (f ≡ Memory) ⊎ IsNoPartsText text f
+unread_if text e first f (inl none) is (inl same) = inl (same.0 ∙ is ∙ ap of_read none)
+unread_if text e first f (inl none) is (inr off) = absurd (memory_is_limit (sym (ap is_limit (is ∙ ap of_read none)) ∙ off.1))
+  where
+    memory_is_limit : true ≡ false → ⊥
+    memory_is_limit e = cc
+unread_if text e first f (inr read) is (inl same) =
+    inr (inr (inl (
+      subst (λ g. IsNoScene text g) (sym same.0) (unread_fault text e first read is),
+      ap is_limit same.0 ∙ same.1,
+    )))
+unread_if text e first f (inr read) is (inr off) = inr (inr (inr (first, unread_fault text e first read is, off.1, off.0)))
+
+-- the answer for a document that is no scene
+pub answer_if : (d : Document) (first f : JobFault) → (first ≡ Memory) ⊎ IsBad d first
+    → ((f ≡ first) × (is_limit first ≡ true)) ⊎ ((f ≡ no_text) × (is_limit first ≡ false))
+    → (f ≡ Memory) ⊎ IsAnswer (IsBad d) f
+answer_if d first f (inl none) (inl same) = inl (same.0 ∙ none)
+answer_if d first f (inl none) (inr off) = absurd (memory_is_limit (sym (ap is_limit none) ∙ off.1))
+  where
+    memory_is_limit : true ≡ false → ⊥
+    memory_is_limit e = cc
+answer_if d first f (inr bad) (inl same) = inr (inl (subst (λ g. IsBad d g) (sym same.0) bad, ap is_limit same.0 ∙ same.1))
+answer_if d first f (inr bad) (inr off) = inr (inr (first, bad, off.1, off.0))
 
 -- ---- a scene, and a text that is none
 
@@ -103,7 +131,7 @@ less_refused text f (Err g) is why = why is
 
 pub no_document : (text : List ℕ) (e : ReadFault) (f : JobFault) → (e ≡ memory) ⊎ IsUnreadable text e → f ≡ of_read e → IsRefused text f
 no_document text e f (inl none) is = inl (is ∙ ap of_read none)
-no_document text e f (inr why) is = inr (inr (inl (record { read_fault = e; unreadable = why; is = is })))
+no_document text e f (inr why) is = inr (inl (record { read_fault = e; unreadable = why; is = is }))
 
 -- ---- laws
 
@@ -116,11 +144,10 @@ scenes_are_their_parts text scene made is (inr less) = absurd (not_both scene le
 
 pub scenes_are_refused_as_texts : ScenesAreRefusedAsTexts
 scenes_are_refused_as_texts text scene fault is (inl none) = inl none
-scenes_are_refused_as_texts text scene fault is (inr (inl none)) = inr (inl none)
-scenes_are_refused_as_texts text scene fault is (inr (inr (inl none))) =
+scenes_are_refused_as_texts text scene fault is (inr (inl none)) =
     absurd (not_both scene (of_read none.unreadable.0) (sym is ∙ unread text none.unreadable.0 none.unreadable.1))
-scenes_are_refused_as_texts text scene fault is (inr (inr (inr (inl stuck)))) = absurd (not_both scene stuck.first (sym is ∙ stuck.bad))
-scenes_are_refused_as_texts text scene fault is (inr (inr (inr (inr no_text)))) = inr (inr no_text)
+scenes_are_refused_as_texts text scene fault is (inr (inr (inl stuck))) = absurd (not_both scene stuck.first (sym is ∙ stuck.bad))
+scenes_are_refused_as_texts text scene fault is (inr (inr (inr no_text))) = inr no_text
 
 pub parts_are_their_parts : PartsAreTheirParts
 parts_are_their_parts first second scene part =
@@ -130,9 +157,13 @@ parts_are_their_parts first second scene part =
       whole = w;
     }
 
+limited_text : (text : List ℕ) (fault : JobFault) → IsNoPartsText text fault → is_limit fault ≡ true
+limited_text text fault (inl read) = ap is_limit read.another.1
+limited_text text fault (inr (inl limit)) = limit.1
+limited_text text fault (inr (inr other)) = ap is_limit other.3
+
 pub refusals_are_limits : RefusalsAreLimits
 refusals_are_limits text fault (inl none) = inr (ap is_limit none)
-refusals_are_limits text fault (inr (inl none)) = inr (ap is_limit none)
-refusals_are_limits text fault (inr (inr (inl none))) = inl none
-refusals_are_limits text fault (inr (inr (inr (inl has)))) = inr has.stuck.stuck.limit
-refusals_are_limits text fault (inr (inr (inr (inr no_text)))) = inr no_text.limit
+refusals_are_limits text fault (inr (inl none)) = inl none
+refusals_are_limits text fault (inr (inr (inl has))) = inr has.stuck.stuck.limit
+refusals_are_limits text fault (inr (inr (inr no_text))) = inr (limited_text no_text.made.text.items fault no_text.refused)

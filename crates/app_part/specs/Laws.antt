@@ -5,7 +5,6 @@ use Rattle.app_jobs.specs.declared.fault.JobFault.TheVariants.{Memory}
 use Rattle.app_program.specs.Opening.{opened}
 use Rattle.app_program.specs.declared.open.OpenedScene.{OpenedScene}
 use Rattle.app_part.specs.Mends.{is_limit}
-use Rattle.app_part.specs.Parts.{no_part}
 use Rattle.app_part.specs.Whole.{IsNoDocument, IsNoText, IsPartOfText, IsRefused, IsScene, IsWhole}
 use Rattle.app_part.specs.declared.part.ScenePart.{ScenePart}
 
@@ -15,11 +14,11 @@ ScenesAreTheirParts =
     (text : List ℕ) (scene : OpenedScene) (made : ScenePart) → opened text ≡ Ok scene
     → IsPartOfText text made → IsWhole text made
 
--- a scene is refused only as a text that is too long or too deep, unless no part is found
+-- a scene is refused only for the text that `format` writes of it
 abbrev pub ScenesAreRefusedAsTexts : Type 0
 ScenesAreRefusedAsTexts =
     (text : List ℕ) (scene : OpenedScene) (fault : JobFault) → opened text ≡ Ok scene
-    → IsRefused text fault → (fault ≡ Memory) ⊎ ((fault ≡ no_part) ⊎ IsNoText text fault)
+    → IsRefused text fault → (fault ≡ Memory) ⊎ IsNoText text fault
 
 -- the second is the first, and nothing was left out of it
 pub record IsSamePart (first second : ScenePart) : Type 0 where

@@ -6,6 +6,7 @@ pub mod Listing
 pub mod Mends
 pub mod Order
 pub mod Parts
+pub mod Statements
 pub mod Streams
 pub mod Tokens
 pub mod Told

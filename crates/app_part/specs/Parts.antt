@@ -1,5 +1,5 @@
 -- The part of a document that is a scene: what is at fault is left out, again and again.
-use Rattle.std.specs.Prelude.{◌≡◌, ◌⊎◌, ℕ, List, [], ◌++◌, Err, Some}
+use Rattle.std.specs.Prelude.{◌≡◌, ◌⊎◌, ℕ, ◌+◌, ◌^◌, List, [], ◌++◌, false, Err, Some, None}
 use Rattle.classic_tree.specs.Writing.{document_text}
 use Rattle.classic_tree.specs.declared.tree.Document.{Document}
 use Rattle.classic_part.specs.declared.notes.Note.{Note}
@@ -12,12 +12,12 @@ use Rattle.app_program.specs.Opening.{opened_document}
 use Rattle.scene_faults.specs.declared.blame.Blame.{Blame}
 use Rattle.app_part.specs.Judging.{IsToldBad}
 pub use Rattle.app_part.specs.Judging.{IsGood}
-use Rattle.app_part.specs.Mends.{mends, places}
+use Rattle.app_part.specs.Mends.{is_limit, mends, places}
+use Rattle.app_part.specs.Statements.{all_statements}
 
--- the fault of a text of which no part was found: its rounds or tries have no end, nothing is left
--- to leave out for a fault, or the text of the part is another when it is read and written again
-abbrev pub no_part : JobFault
-no_part = Expand (record { kind = TooLarge; line = 0 })
+-- the fault of a text whose part is a scene, but not as a text
+abbrev pub no_text : JobFault
+no_text = Expand (record { kind = TooLarge; line = 0 })
 
 -- what stays of a document without what is refused, with the notes on what goes
 pub record IsPart (document : Document) (refused : List ℕ) (left : List Note)
@@ -45,14 +45,25 @@ pub record IsTurnedDown (document : Document) (refused : List ℕ) (fault : JobF
   pub settled : IsPart document refused left part
   pub bad : IsToldBad part fault blames
 
--- memory ran out, or no part was found
-abbrev pub IsNoTry : JobFault → Type 0
-IsNoTry fault = (fault ≡ Memory) ⊎ (fault ≡ no_part)
+-- What goes of a document after a number of tries: nothing; or more, which is at fault in the part
+-- without the others.
+pub data Mending (document : Document) : ℕ → List Blame → Type 0 where
+  begun : Mending document 0 []
+  more : {tries : ℕ} {left blames more : List Blame} {fault : JobFault}
+      → Mending document tries left → IsTurnedDown document (places left) fault blames
+      → mends (places left) fault blames ≡ Some more
+      → Mending document (tries + 1) (left ++ more)
 
--- What goes of a document: nothing; or more, which is at fault in the part without the
--- others.
-pub data Mending (document : Document) : List Blame → Type 0 where
-  begun : Mending document []
-  more : {left blames more : List Blame} {fault : JobFault} → Mending document left
-      → IsTurnedDown document (places left) fault blames
-      → mends (places left) fault blames ≡ Some more → Mending document (left ++ more)
+-- no more is tried: nothing is found that goes for a fault, which is no limit, or there were 65,536
+-- tries
+abbrev pub IsEnded : Document → ℕ → List Blame → Type 0
+IsEnded document tries left =
+    (tries ≡ 2 ^ 16) ⊎ ((fault : JobFault) × (blames : List Blame)
+    × IsTurnedDown document (places left) fault blames × (is_limit fault ≡ false)
+    × (mends (places left) fault blames ≡ None))
+
+-- What goes of a document: what is at fault; or at last all its statements.
+pub data Mended (document : Document) : List Blame → Type 0 where
+  at_fault : {tries : ℕ} {left : List Blame} → Mending document tries left → Mended document left
+  everything : {tries : ℕ} {left : List Blame} → Mending document tries left
+      → IsEnded document tries left → Mended document (left ++ all_statements document)

@@ -6,6 +6,7 @@
 //! | `judging` | whether a document is a scene, and what is at fault |
 //! | `mends` | which part is left out for a fault |
 //! | `tries`, `part` | parts without those, again and again until one is a scene |
+//! | `bare` | all statements, which go at last |
 //! | `checks` | whether the text of a part is a scene |
 //! | `laws` | laws of parts |
 //! | `order`, `words`, `told`, `list` | the lines on what was left out |
@@ -14,6 +15,7 @@
 #![tactic(auto)]
 
 mod apart;
+mod bare;
 mod checks;
 mod judging;
 mod kept;

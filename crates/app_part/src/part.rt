@@ -7,11 +7,12 @@ ghost use Rattle.app_part.specs.Mends.{place, places};
 ghost use Rattle.app_part.specs.Parts as spec;
 ghost use Rattle.app_part.specs.Whole as whole;
 
-use crate::checks::{answer, checked};
+use crate::bare::all_statements;
+use crate::checks::checked;
 use crate::judging::Refused;
-use crate::mends::mends as mend;
+use crate::mends::{is_limit, mends as mend};
 use crate::places::{Placed, is_memory, placed_of};
-use crate::tries::{Made, no_part, text_of, tried};
+use crate::tries::{Made, text_of, tried};
 use app_jobs::JobFault;
 use app_program::open_scene;
 use classic_lenient::{Lenient, Unread, as_x3d, read_lenient};
@@ -23,7 +24,7 @@ use std::alloc::{AllocError, Global};
 use x3d_values::Items;
 
 /// How often what is at fault is left out.
-const MAX_TRIES: u32 = 1 << 16;
+const MAX_TRIES: u32 = 65_536;
 
 /// The part of a text that is a scene, and what was left out: statements that aren't read, the
 /// notes on nodes, fields and the like, and what was at fault. Each has a place: the line in
@@ -64,36 +65,68 @@ fn push_blames(mends: &mut Mends, blames: &[Blame]) -> Result<(), AllocError>
     Ok(())
 }
 
-/// Leaves out what is at fault. Fails with the first fault if that is a limit.
-fn leave_out(alloc: Global, mends: &mut Mends, refused: Refused) -> Result<(), JobFault>
-    ensures more { OnOk result
-        (whole.IsMore mends.old mends.new refused.fault refused.blames) }
-    ensures refused { IfErr result (λ f. (f ≡ Memory)
-        ⊎ ((f ≡ spec.no_part) ⊎ whole.IsLast refused.fault f)) }
+/// Leaves out what is at fault, and reports whether that was found. Fails with the first fault if
+/// that is a limit.
+fn leave_out(alloc: Global, mends: &mut Mends, refused: Refused) -> Result<bool, JobFault>
+    ensures left { IfOk result
+        (whole.IsLeft mends.old mends.new refused.fault refused.blames) }
+    ensures refused { IfErr result (λ f. (f ≡ Memory) ⊎ whole.IsLast refused.fault f) }
 {
     let Refused { fault, blames } = refused;
     let Some(more) = mend(alloc, mends.refused.as_slice(), &fault, blames)? else {
-        return Err(answer(fault));
+        if is_limit(&fault) {
+            return Err(fault);
+        }
+        return Ok(false);
     };
     let pushed = push_blames(mends, more.as_slice());
     drop(more);
-    Ok(pushed?)
+    pushed?;
+    Ok(true)
 }
 
-/// Returns the part of a document that is a scene. Fails with the fault of a part of which nothing
-/// is left out.
+/// Returns the part of a document without all its statements.
+fn bare(alloc: Global, document: &Document, mends: &mut Mends) -> Result<Made, JobFault>
+    ensures left { OnOk result (whole.IsBare document.now mends.old mends.new) }
+    ensures made { IfOk result
+        (λ m. spec.IsMade document.now mends.new.refused m.text.items m.left) }
+    ensures refused { IfErr result (λ f. f ≡ Memory) }
+{
+    let all = all_statements(alloc, document)?;
+    let pushed = push_blames(mends, all.as_slice());
+    drop(all);
+    pushed?;
+    match tried(alloc, document, mends.refused.as_slice()) {
+        Ok(made) => Ok(made),
+        Err(refused) => {
+            let Refused { fault, blames } = refused;
+            drop(blames);
+            Err(fault)
+        }
+    }
+}
+
+/// Returns the part of a document that is a scene: without what is at fault, or at last without all
+/// its statements. Fails with a limit that the part passes.
 fn mended(alloc: Global, document: &Document, mends: &mut Mends) -> Result<Made, JobFault>
-    requires { whole.IsMending document.now mends.old }
+    requires { whole.IsMending document.now 0 mends.old }
     ensures made { IfOk result (λ m. whole.IsMended document.now mends.new m) }
     ensures refused { IfErr result (whole.IsUnmended document.now) }
 {
-    for _turn in 0..MAX_TRIES {
+    let mut tries = 0;
+    while tries < MAX_TRIES {
         match tried(alloc, document, mends.refused.as_slice()) {
             Ok(made) => return Ok(made),
-            Err(refused) => leave_out(alloc, mends, refused)?,
+            Err(refused) => {
+                let more = leave_out(alloc, mends, refused)?;
+                if !more {
+                    return bare(alloc, document, mends);
+                }
+                tries += 1;
+            }
         }
     }
-    Err(no_part())
+    bare(alloc, document, mends)
 }
 
 /// Returns the part of the tree of a text.
@@ -201,8 +234,8 @@ fn draft(alloc: Global, text: &[u8]) -> Result<ScenePart, JobFault>
 /// scene is its own part.
 ///
 /// Fails with the first fault of the text if it is no document even without the statements that
-/// aren't read; with a limit that the part passes; with `TooLarge` on line 0 if no part is found;
-/// or with `Memory` if memory runs out.
+/// aren't read; with a limit that the part passes; with `TooLarge` on line 0 if the text of the part
+/// is read as another, which no text is known for; or with `Memory` if memory runs out.
 pub fn part_of_text(alloc: Global, text: &[u8]) -> Result<ScenePart, JobFault>
     ensures made { IfOk result (whole.IsPartOfText text.now) }
     ensures good { IfOk result (λ p. whole.IsScene p.text.items) }

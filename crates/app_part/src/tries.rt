@@ -10,7 +10,6 @@ use crate::judging::{Refused, judged};
 use app_jobs::JobFault;
 use classic_part::{Note, part_of};
 use classic_tree::{Document, write};
-use proto_flat::{ExpandFault, ExpandFaultKind};
 use std::alloc::{AllocError, Global};
 use x3d_values::Items;
 
@@ -21,31 +20,18 @@ pub(crate) struct Made {
     pub left: Items<Note>,
 }
 
-/// Returns the fault of a text of which no part was found.
-pub(crate) fn no_part() -> JobFault
-    ensures { result ≡ spec.no_part }
-{
-    JobFault::Expand(ExpandFault {
-        kind: ExpandFaultKind::TooLarge,
-        line: 0,
-    })
-}
-
 /// Returns what stays of a document without what is refused, and appends the notes on what goes.
 fn settled(
     alloc: Global,
     document: &Document,
     refused: &[u32],
     left: &mut Items<Note>,
-) -> Result<Document, JobFault>
+) -> Result<Document, AllocError>
     requires { left.old ≡ [] }
-    ensures made { IfOk result (spec.IsPart document.now refused.now left.new) }
-    ensures refused { IfErr result (λ f. (f ≡ Memory) ⊎ (f ≡ spec.no_part)) }
+    ensures { IfOk result (spec.IsPart document.now refused.now left.new) }
 {
-    match part_of(alloc, document, refused, left)? {
-        Some(round) => Ok(round.document),
-        None => Err(no_part()),
-    }
+    let round = part_of(alloc, document, refused, left)?;
+    Ok(round.document)
 }
 
 /// Returns the text of a document.
@@ -91,16 +77,13 @@ fn text_if_good(alloc: Global, document: Document) -> Result<Vec<u8>, Refused>
 pub(crate) fn tried(alloc: Global, document: &Document, refused: &[u32]) -> Result<Made, Refused>
     ensures made { IfOk result (λ m. spec.IsMade document.now refused.now m.text.items m.left) }
     ensures refused { IfErr result
-        (λ r. spec.IsNoTry r.fault
+        (λ r. (r.fault ≡ Memory)
         ⊎ spec.IsTurnedDown document.now refused.now r.fault r.blames) }
 {
     let mut left = Items::new(alloc);
-    let part = match settled(alloc, document, refused, &mut left) {
-        Ok(part) => part,
-        Err(fault) => {
-            drop(left);
-            return Err(without_blames(alloc, fault));
-        }
+    let Ok(part) = settled(alloc, document, refused, &mut left) else {
+        drop(left);
+        return Err(without_blames(alloc, JobFault::Memory));
     };
     match text_if_good(alloc, part) {
         Ok(text) => Ok(Made { text, left }),

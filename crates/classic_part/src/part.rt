@@ -1,6 +1,6 @@
 //! Rounds of leaving out, until nothing more goes.
 
-ghost use Rattle.std.specs.Prelude.{◌≡◌, ◌++◌, IfOk, IfSome, OnOk};
+ghost use Rattle.std.specs.Prelude.{◌≡◌, ◌++◌, IfOk, OnOk};
 ghost use Rattle.std.specs.List.{flat_map, list_any};
 ghost use Rattle.classic_part.specs.Part.{kept_in, notes_in, statement_part};
 ghost use Rattle.classic_part.specs.Rounds as spec;
@@ -13,8 +13,6 @@ use classic_tree::{Document, Statement};
 use std::alloc::{AllocError, Global};
 use std::mem;
 use x3d_values::{Duplicate, Items};
-
-const MAX_ROUNDS: u32 = 1 << 16;
 
 /// What stays of a document in one round, and the notes on it.
 #[derive(Drop)]
@@ -115,27 +113,26 @@ fn collect(alloc: Global, notes: &[Note], left: &mut Items<Note>) -> Result<(), 
     Ok(())
 }
 
-/// Returns the round after which nothing more goes, or `None` if 65,536 rounds are not enough, and
-/// appends the notes on what went in each round. Fails if memory runs out.
+/// Returns the round after which nothing more goes, and appends the notes on what went in each
+/// round. Fails if memory runs out.
 pub fn part_of(
     alloc: Global,
     document: &Document,
     refused: &[u32],
     left: &mut Items<Note>,
-) -> Result<Option<Round>, AllocError>
+) -> Result<Round, AllocError>
     ensures { IfOk result
-        (λ r. IfSome r (λ made. spec.IsSettled refused.now document.now made left.old left.new)) }
+        (λ made. spec.IsSettled refused.now document.now made left.old left.new) }
 {
     let mut made = first_round(alloc, document, refused)?;
-    for _round in 0..MAX_ROUNDS {
-        collect(alloc, made.notes.as_slice(), left)?;
-        let after = next_round(alloc, &made, refused)?;
-        if !any_goes(after.notes.as_slice()) {
-            drop(after);
-            return Ok(Some(made));
-        }
-        drop(mem::replace(&mut made, after));
+    collect(alloc, made.notes.as_slice(), left)?;
+    let mut after = next_round(alloc, &made, refused)?;
+    while any_goes(after.notes.as_slice()) {
+        collect(alloc, after.notes.as_slice(), left)?;
+        let further = next_round(alloc, &after, refused)?;
+        let before = mem::replace(&mut after, further);
+        drop(mem::replace(&mut made, before));
     }
-    drop(made);
-    Ok(None)
+    drop(after);
+    Ok(made)
 }

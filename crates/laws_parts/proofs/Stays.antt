@@ -28,7 +28,7 @@ use Rattle.classic_part.specs.Part.{Part, whole, gone as left_out, kept_in, note
 use Rattle.classic_part.specs.Rounds.{one_round, after}
 use Rattle.classic_part.specs.Rules.{meaning_of, word_of, turns, field_rule}
 use Rattle.classic_part.proofs.Equations.{item_part-field, item_part-declaration, item_part-route, item_part-proto, node_part-use, node_part-full, statement_part-node, statement_part-route, statement_part-proto, proto_part_is}
-use Rattle.laws_documents.proofs.Trees.{Layers, OfValue, OfGiven, OfDeclaration, every}
+use Rattle.classic_part.proofs.Trees.{Layers, OfValue, OfGiven, OfDeclaration, every}
 use Rattle.laws_parts.specs.Stays.{Piece, an_item, a_node, a_declaration, a_statement, a_proto, nodes_in, nodes_of, but_nodes, inside, IsName, Stay, nothing, gone, same, again, field, declared, item_declared, item_proto, full, node_statement, proto_statement, proto, IsOf, WhatStaysIsAsItWas}
 use Rattle.laws_parts.proofs.Words.{word_stays}
 

@@ -38,6 +38,16 @@ impl Reason {
     }
 }
 
+/// Returns the blame for a fault of a part of a text.
+pub(crate) fn of_expand(kind: ExpandFaultKind, line: u32) -> Blame
+    ensures { result ≡ spec.of_expand kind line }
+{
+    Blame {
+        line,
+        reason: Reason::Expand(kind),
+    }
+}
+
 /// Returns the blame for a fault of a field or a node.
 pub(crate) fn of_scene(kind: SceneFaultKind, line: u32) -> Blame
     ensures { result ≡ spec.of_scene kind line }

@@ -55,9 +55,7 @@ fn what_the_table_lacks_goes(rt: HostRuntime) -> Result<(), Fail> {
     let alloc = rt.alloc();
     let document = document_of(alloc, TEXT)?;
     let mut left = Items::new(alloc);
-    let Some(part) = part_of(alloc, &document, &[], &mut left)? else {
-        return Err(Fail::from("the rounds don't end"));
-    };
+    let part = part_of(alloc, &document, &[], &mut left)?;
     assert!(rt; text_of(alloc, &part.document)?.as_slice() == PART.as_bytes());
     let mut lines = Vec::new(alloc);
     for note in left.as_slice() {

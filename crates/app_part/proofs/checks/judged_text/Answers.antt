@@ -11,4 +11,4 @@ returns-in-Ok-clause-refused c =
 
 pub returns-in-Err-clause-refused : goal.returns-in-Err-clause-refused
 returns-in-Err-clause-refused c =
-    unread_if c.args.text.now c.in-Err.fault c.from.result c.in-Err.ensures.exact c.from.ensures
+    unread_if c.args.text.now c.in-Err.fault c.from.result c.answer.result c.in-Err.ensures.exact c.from.ensures c.answer.ensures

@@ -1,5 +1,5 @@
 use Rattle.app_part.proofs.Judged.{good_if, bad_if, unexpanded}
-use Rattle.app_part.proofs.judging.judged.Goals as goal
+use Rattle.app_part.proofs.judging.judged_by.Goals as goal
 
 pub returns-in-Ok-clause-good : goal.returns-in-Ok-clause-good
 returns-in-Ok-clause-good c =
@@ -11,4 +11,4 @@ returns-in-Ok-clause-bad c =
 
 pub returns-in-Err-clause-bad : goal.returns-in-Err-clause-bad
 returns-in-Err-clause-bad c =
-    unexpanded c.args.document c.in-Err.fault c.from.result c.new.result c.in-Err.ensures c.from.ensures c.new.ensures
+    unexpanded c.args.document c.in-Err.fault c.from.result c.unexpanded.result c.args.blames c.in-Err.ensures c.from.ensures c.unexpanded.ensures c.requires
