@@ -94,7 +94,11 @@ enum x3d_status {
   X3D_OFFERS_SPENT = 53,   /* 2^32 - 1 offers were made in this boot */
   X3D_NOT_PIECE = 54,      /* the datagram is not a piece of a snapshot */
   X3D_NOT_WHOLE = 55,      /* pieces of the snapshot are missing */
-  X3D_TOO_LARGE = 56       /* the snapshot is too large to be sent in pieces */
+  X3D_TOO_LARGE = 56,      /* the snapshot is too large to be sent in pieces */
+  X3D_NOT_A_LOG = 60,      /* the bytes of an entry are none that a host of this scene wrote there */
+  X3D_LOG_GAP = 61,        /* an entry of the log is missing, or stands in the wrong place */
+  X3D_NOT_LASTING = 62,    /* the host was opened, not resumed: it has no log */
+  X3D_NOT_AWAITED = 63     /* no append with this token is under way */
 };
 
 /* What an input led to: how many outputs sent, how many routes were followed, and how many scripts
@@ -227,6 +231,13 @@ struct x3d_reply {
   uint32_t count;
 };
 
+/* What the log of a host answers to an append of entries (x3d_host_stored). */
+enum x3d_append {
+  X3D_APPEND_STORED = 0, /* the log has the entries, for good */
+  X3D_APPEND_TAKEN = 1,  /* the log has other entries there, of another host, and none of these */
+  X3D_APPEND_DOUBT = 2   /* the log has all of them or none: it must be read to know */
+};
+
 /* What a viewer did with a datagram. */
 enum x3d_took {
   X3D_TOOK_OLD = 0,     /* the input has been applied before */
@@ -287,7 +298,7 @@ enum x3d_left {
 
 /* ---- the library itself. Each text is a constant of the library; do not free it. */
 
-/* Returns the library's version, such as `0.2.0`, or `0.2.0-unproved` if it was built without a
+/* Returns the library's version, such as `0.3.0`, or `0.3.0-unproved` if it was built without a
  * proof. */
 const char *x3d_version(void);
 /* Returns the X3D_ABI that the library was built with. */
@@ -477,6 +488,9 @@ uint8_t x3d_world_load(struct x3d_world *world, uint32_t boot, const uint8_t *by
 uint8_t x3d_world_script_count(const struct x3d_world *world, size_t *count);
 /* Lists two numbers for each script, in their order: its node, and its kind (an x3d_kind). */
 uint8_t x3d_world_list_scripts(struct x3d_world *world);
+/* Lists four numbers for each route, in the order of the text: the node and the field of its
+ * source, and those of its target. A route that the text repeats is listed once. */
+uint8_t x3d_world_list_routes(struct x3d_world *world);
 /* Replaces the object that runs the k-th script by a new one of kind `kind` (an x3d_kind). It takes
  * over the script's state. The world is unchanged whatever is returned. May return: X3D_RANGE for
  * an unknown kind, X3D_SPOILED, X3D_NO_SUCH_SCRIPT, X3D_KIND_DIFFERS, or X3D_MEMORY. */
@@ -533,12 +547,43 @@ uint8_t x3d_host_floor_packet(const struct x3d_host *host, uint8_t *out, size_t 
                               size_t *wanted);
 /* Drops the inputs below `number`, which becomes the floor; their memory is used again or freed.
  * May return: X3D_FLOOR_BACK if `number` is below the floor, or X3D_FLOOR_AHEAD if it is above the
- * number of the next input. */
+ * number of the next input (of a host that was resumed: of the first that is not stored). */
 uint8_t x3d_host_drop_below(struct x3d_host *host, uint32_t number);
 /* Writes the number of inputs that are numbered. */
 uint8_t x3d_host_count(const struct x3d_host *host, uint32_t *count);
 /* Writes the number of viewers. */
 uint8_t x3d_host_viewers(const struct x3d_host *host, uint32_t *count);
+/* Writes the time of the last input that is numbered, in microseconds, or 0 before the first. */
+uint8_t x3d_host_time(const struct x3d_host *host, int64_t *time);
+
+/* ---- a host that goes on: the program stores what it numbers, in a log of its own
+ *
+ * A log is bytes that only grow at their end. Such a host is resumed from all bytes of its log, and
+ * none at first. What it numbers then waits until the program has stored it. Only after that the
+ * host shows it: x3d_host_packet, x3d_host_ack and x3d_host_take speak of stored inputs alone, and
+ * x3d_host_drop_below and x3d_host_keep drop these alone. x3d_host_count and x3d_host_time speak of
+ * all. So a host that is killed and resumed from its log is the host that its viewers know. */
+
+/* Resumes the host of a scene's text, for 1 to 64 viewers, from the `log_length` bytes of its log.
+ * It replaces the one that the handle had. The host has all inputs of the log, and its floor is 1.
+ * May return, in this order: X3D_RANGE for another number of viewers; X3D_WRONG_SCENE if the bytes
+ * do not begin with this scene's mark; X3D_LOG_GAP or X3D_NOT_A_LOG, by the first wrong entry,
+ * whose number (from 1) is then written to `entry`; X3D_MEMORY at any time. Then the handle is
+ * empty. */
+uint8_t x3d_host_resume(struct x3d_host *host, const uint8_t *text, size_t length, uint8_t viewers,
+                        const uint8_t *log, size_t log_length, uint32_t *entry);
+/* Copies the bytes of the append that is under way, and writes its token and its number of bytes.
+ * If none is under way, it first begins one of all entries that wait; if none wait, there are 0
+ * bytes. Store the bytes at the log's end, durably, and then call x3d_host_stored. Until then each
+ * call gives the same bytes and token, and what is numbered meanwhile waits for the next append.
+ * May return: X3D_NOT_LASTING, X3D_ROOM if `room` bytes are not enough, or X3D_MEMORY. */
+uint8_t x3d_host_pending(struct x3d_host *host, uint32_t *token, uint8_t *out, size_t room,
+                         size_t *wanted);
+/* Says what the log answered to the append with this token (an x3d_append). After
+ * X3D_APPEND_STORED the host shows its inputs. After X3D_APPEND_TAKEN and X3D_APPEND_DOUBT the host
+ * is ahead of its log: it is freed, and the handle is empty. Read the log again, and resume. May
+ * return: X3D_RANGE if `answer` is no x3d_append, X3D_NOT_LASTING, or X3D_NOT_AWAITED. */
+uint8_t x3d_host_stored(struct x3d_host *host, uint32_t token, uint8_t answer);
 
 /* ---- a viewer of a shared world: it holds the world, offers what it points at, and applies the
  * host's inputs in order. Calls that copy a datagram return the same statuses as a host's. */
@@ -635,6 +680,7 @@ uint8_t x3d_viewer_copy_changed(const struct x3d_viewer *viewer, struct x3d_chan
                                 size_t room, size_t *wanted);
 uint8_t x3d_viewer_script_count(const struct x3d_viewer *viewer, size_t *count);
 uint8_t x3d_viewer_list_scripts(struct x3d_viewer *viewer);
+uint8_t x3d_viewer_list_routes(struct x3d_viewer *viewer);
 uint8_t x3d_viewer_replace_script(struct x3d_viewer *viewer, size_t k, uint8_t kind);
 uint8_t x3d_viewer_meet(struct x3d_viewer *viewer, const struct x3d_aim *aim, struct x3d_met *met);
 

@@ -37,13 +37,13 @@ static size_t some(uint8_t *bytes) {
 int main(int count, char **words) {
   struct x3d_host hosts[2] = {X3D_NONE, X3D_NONE};
   struct x3d_viewer viewers[4] = {X3D_NONE, X3D_NONE, X3D_NONE, X3D_NONE};
-  static uint8_t shot[1 << 16];
+  static uint8_t shot[1 << 16], log[1 << 16];
   uint8_t out[512], bytes[X3D_PACKET], text[4096];
   int64_t numbers[64];
   struct x3d_change changes[8];
   struct x3d_datagram datagram;
-  size_t wanted, shot_length = 0, length, n;
-  uint32_t told;
+  size_t wanted, shot_length = 0, log_length = 0, length, n;
+  uint32_t told, token = 0;
   uint16_t field;
   int64_t time = 0;
   long calls = count > 1 ? atol(words[1]) : 100000, done = 0;
@@ -60,7 +60,7 @@ int main(int count, char **words) {
     size_t room = below(8) ? sizeof out : below(sizeof out);
     const char *scene = scenes[below(12) ? 0 : below(3)];
     int status = 0;
-    switch (below(38)) {
+    switch (below(42)) {
     case 0:
       if (!below(8))
         status = x3d_host_open(host, (const uint8_t *)scene, strlen(scene), (uint8_t)below(66));
@@ -196,6 +196,26 @@ int main(int count, char **words) {
     case 37:
       status = x3d_host_heard(host, (uint8_t)below(66), &told);
       if (!below(16)) status += x3d_host_keep(host, (uint32_t)number());
+      break;
+    case 38:
+      if (below(8) && host->at) break;
+      if (!below(4) && log_length) log[below(log_length)] ^= (uint8_t)(1 << below(8));
+      status = x3d_host_resume(host, (const uint8_t *)scene, strlen(scene), (uint8_t)below(66), log,
+                               below(2) ? log_length : below(log_length + 1), &told);
+      if (status != X3D_DONE) log_length = 0;
+      break;
+    case 39:
+    case 40:
+      n = sizeof log - log_length;
+      status = x3d_host_pending(host, &token, log + log_length, below(8) ? n : below(n + 1), &wanted);
+      if (status == X3D_DONE && below(4) &&
+          x3d_host_stored(host, token, (uint8_t)(below(8) ? 0 : below(4))) == X3D_DONE)
+        log_length += wanted;
+      break;
+    case 41:
+      status = x3d_host_stored(host, below(2) ? token : (uint32_t)number(), (uint8_t)below(4));
+      int64_t last;
+      status += x3d_host_time(host, &last);
       break;
     }
     done += status == X3D_DONE;

@@ -48,6 +48,10 @@ const REASONS = {
   54: "NotPiece",
   55: "NotWhole",
   56: "TooLarge",
+  60: "NotALog",
+  61: "LogGap",
+  62: "NotLasting",
+  63: "NotAwaited",
 };
 
 export class Refusal extends Error {
@@ -61,11 +65,12 @@ export class Refusal extends Error {
 }
 
 export class Fault extends Error {
-  constructor(status) {
+  constructor(status, entry = 0) {
     const reason = REASONS[status] ?? `Status${status}`;
-    super(reason);
+    super(entry === 0 ? reason : `${reason}, entry ${entry}`);
     this.name = "Fault";
     this.reason = reason;
     this.status = status;
+    this.entry = entry || null;
   }
 }

@@ -1,9 +1,10 @@
 // The host of a shared world, which numbers inputs.
-import { Fault, NO_PACKET } from "./faults.js";
+import { DONE, Fault, NO_PACKET, RANGE } from "./faults.js";
 import { fits, signed } from "./numbers.js";
 import { bytesOf, Held } from "./reading.js";
 
 const REPLIES = ["Asked", "Numbered", "Repeat", "Ahead", "OldBoot", "Below", "NothingToDo"];
+const ANSWERS = ["Stored", "Taken", "InDoubt"];
 
 /** What `copy` copies, or null if there is no such datagram. */
 export function packetOrNull(copy) {
@@ -16,14 +17,43 @@ export function packetOrNull(copy) {
 }
 
 export class Host extends Held {
-  constructor(library, scene, viewers) {
+  constructor(library, scene, viewers, log = null) {
     super(library, "host");
     try {
-      library.lend(bytesOf(scene), (...text) => this._call("open", ...text, fits(viewers, 8)));
+      library.lend(bytesOf(scene), (...text) => {
+        if (log === null) this._call("open", ...text, fits(viewers, 8));
+        else library.lend(log, (...bytes) => this._resume([...text, fits(viewers, 8), ...bytes]));
+      });
     } catch (error) {
       this.close();
       throw error;
     }
+  }
+
+  static resume(library, scene, viewers, log = new Uint8Array()) {
+    return new Host(library, scene, viewers, log);
+  }
+
+  _resume(passed) {
+    this._library.data.setUint32(Number(this._library.out), 0, true);
+    const status = this._status("resume", ...passed, this._library.out);
+    if (status !== DONE) throw new Fault(status, this._library.told());
+  }
+
+  append() {
+    const bytes = this._packet("pending", this._library.out);
+    return { token: this._library.told(), bytes };
+  }
+
+  stored(token, answer = "Stored") {
+    const number = ANSWERS.indexOf(answer);
+    if (number < 0) throw new Fault(RANGE);
+    this._call("stored", fits(token, 32), number);
+  }
+
+  time() {
+    this._call("time", this._library.out);
+    return BigInt.asIntN(64, this._library.toldWide());
   }
 
   clock(time) {

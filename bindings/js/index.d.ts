@@ -67,6 +67,12 @@ export interface Script {
   kind: "counter" | "gate" | "adder" | "batch" | "mover" | "meter";
 }
 
+/** A route: the node and the field that send, and those that take. */
+export interface Route {
+  source: [number, number];
+  target: [number, number];
+}
+
 /** What a datagram says:
  * - `Input`, of the host: its number and time; with a pointer also who pointed, and `aim`;
  * - `Offer`, of viewer `who`: its number in its boot, and `aim`;
@@ -115,6 +121,13 @@ export interface Reply {
   count: number;
 }
 
+/** What a host that was resumed wants stored: bytes for its log's end, and the token by which `Host.stored` is told of
+ * it. Without bytes nothing waits. */
+export interface Append {
+  token: number;
+  bytes: Uint8Array;
+}
+
 /** What a viewer did with a datagram:
  * - `Applied`: `count` inputs were applied;
  * - `Kept`: the input is kept until the ones before it have come;
@@ -137,9 +150,11 @@ export class Refusal extends Error {
 
 /** Why a call is refused: the status of include/x3d.h, and its name, such as `NotNext`. */
 export class Fault extends Error {
-  constructor(status: number);
+  constructor(status: number, entry?: number);
   readonly status: number;
   readonly reason: string;
+  /** The number of the first wrong entry of a log (`Host.resume`), or null. */
+  readonly entry: number | null;
 }
 
 /** What the library's memory holds, until `close`. (What is dropped without it is freed some time later, or never.) */
@@ -190,6 +205,8 @@ declare abstract class Readable extends Held {
   scriptCount(): number;
   /** The node and the kind of each script, in the order of their numbers. */
   scripts(): Script[];
+  /** The routes of the scene, in the order of the text; one that the text repeats is listed once. */
+  routes(): Route[];
   /** Replaces a script, numbered from 0, with a new one of its kind, which goes on in its state. Faults: `Range`,
    * `NoSuchScript`, `KindDiffers`, `Memory`. */
   replaceScript(script: number, kind: Script["kind"]): void;
@@ -272,6 +289,19 @@ export class Host extends Held {
   count(): number;
   /** The number of viewers. */
   viewers(): number;
+  /** The host of a scene that the bytes of its log make: all of them, and none at first. What it numbers then waits
+   * until it is stored (`append`), and only after that it shows it. Faults: `Range` (another number of viewers),
+   * `WrongScene`; `LogGap` and `NotALog`, with the number of the first wrong entry; `Memory`. */
+  static resume(library: Library, scene: Scene, viewers: number, log?: Uint8Array): Host;
+  /** The append that is under way, or else a new one of all entries that wait. Store its bytes at the log's end,
+   * durably, and then call `stored`. Faults: `NotLasting` (the host was not resumed), `Memory`. */
+  append(): Append;
+  /** Says what the log answered to the append with this token: `Stored`, for good, and the host shows its inputs from
+   * now on; or `Taken` (the log has other entries there) or `InDoubt`: each further call throws `Closed`. Read the log,
+   * and resume. Faults: `NotLasting`, `NotAwaited`. */
+  stored(token: number, answer?: "Stored" | "Taken" | "InDoubt"): void;
+  /** The time of the last input that is numbered, in microseconds, or 0 before the first. */
+  time(): bigint;
 }
 
 /** A viewer of a scene, as boot `boot` (1 to 2^32 - 1) of viewer `who` (0 to 63): it holds the world, offers what it

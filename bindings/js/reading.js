@@ -223,6 +223,12 @@ export class Readable extends Held {
     return each.map(([node, kind]) => ({ node, kind: KINDS[kind] }));
   }
 
+  routes() {
+    const numbers = this._listed("list_routes");
+    const each = Array.from({ length: numbers.length / 4 }, (_, k) => numbers.slice(4 * k, 4 * k + 4));
+    return each.map(([node, field, to, toField]) => ({ source: [node, field], target: [to, toField] }));
+  }
+
   replaceScript(script, kind) {
     const number = KINDS.indexOf(kind);
     if (number < 0) throw new Fault(RANGE);

@@ -1,7 +1,6 @@
-"""A host that may be killed at any moment: what it numbers is committed to a SQLite file before anyone
-hears of it, and a host that begins again takes the same calls in the same order, so it is the host that
-it was. Two viewers go on beside it. This kills it (SIGKILL) again and again, and compares the viewers
-with the world of the file's entries."""
+"""A host that may be killed at any moment: it shows what is committed to a SQLite file alone, and a host
+that is resumed from that file is the host that it was. Two viewers go on beside it. This kills it
+(SIGKILL) again and again, and compares the viewers with the world of the file's entries."""
 
 import os
 import pickle
@@ -31,32 +30,32 @@ AIM = Aim((0, 0, 10_000_000), (0, 0, -1_000_000))
 
 
 class LastingHost:
-    """A host whose calls that number an input are the rows of a table."""
+    """A host over a table of appends: the file is its log."""
 
     def __init__(self, file, scene, viewers):
         self.log = sqlite3.connect(file)
         self.log.executescript("PRAGMA locking_mode = EXCLUSIVE; PRAGMA synchronous = FULL;")
-        self.log.execute("CREATE TABLE IF NOT EXISTS entries (number INTEGER PRIMARY KEY, time, datagram)")
-        self.host = Host(scene, viewers)
-        for number, time, packet in self.log.execute("SELECT * FROM entries ORDER BY number"):
-            made = self.host.clock(time) if packet is None else self.host.take(packet).number
-            if made != number:
-                raise ValueError(f"entry {number} is not of this host")
+        self.log.execute("CREATE TABLE IF NOT EXISTS appends (number INTEGER PRIMARY KEY, bytes)")
+        rows = self.log.execute("SELECT bytes FROM appends ORDER BY number")
+        self.host = Host.resume(scene, viewers, b"".join(row[0] for row in rows))
 
     def turn(self, time, arrived):
-        """Numbers a clock, takes datagrams, each with the viewer that it is from, and commits what was
-        numbered. Then it returns what to send. After an error the host is ahead of the file: begin
-        again with a new one."""
-        rows, replies = [(self.host.clock(time), time, None)], []
+        """Numbers a clock, if there is a time, takes datagrams, each with the viewer that it is from, and
+        commits what was numbered. Then it returns what to send: asks are answered by what was stored
+        before. After an error begin again with a new one."""
+        if time:
+            self.host.clock(time)
+        replies = []
         for who, packet in arrived:
             try:
                 replies.append((who, self.host.take_from(who, packet)))
             except Fault:  # refused: nothing has changed
                 continue
-            if replies[-1][1].kind == "Numbered":
-                rows.append((replies[-1][1].number, None, packet))
-        with self.log:  # all of it, or nothing
-            self.log.executemany("INSERT INTO entries VALUES (?, ?, ?)", rows)
+        append = self.host.append()
+        if append.bytes:
+            with self.log:  # all of it, or nothing
+                self.log.execute("INSERT INTO appends (bytes) VALUES (?)", (append.bytes,))
+            self.host.stored(append.token)
         return [(who, packet) for who, reply in replies for packet in (*self.host.packets(reply), self.host.ack(who))]
 
 
@@ -116,8 +115,7 @@ def main(file):
             process.communicate()
             process, killed = started(file), killed + 1
     for _ in range(2 + TURNS // 32):  # at most 64 inputs an ask
-        time += TICK
-        for who, packet in exchanged(process, time, [(who, viewer.ask()) for who, viewer in enumerate(viewers)], False):
+        for who, packet in exchanged(process, None, [(who, viewer.ask()) for who, viewer in enumerate(viewers)], False):
             viewers[who].take(packet)
     process.kill()
     process.communicate()

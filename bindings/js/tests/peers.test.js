@@ -1,7 +1,7 @@
 // A host and its viewers: offers, lost datagrams, joining late, rewinding, and what is refused.
 import assert from "node:assert/strict";
 import { before, test } from "node:test";
-import { Host, Refusal, Viewer, datagram } from "../index.js";
+import { Host, Refusal, Viewer, World, datagram } from "../index.js";
 import { Carrier } from "./carrier.js";
 import { AIM, DOOR, fresh, nodeOf, refused } from "./common.js";
 
@@ -142,4 +142,42 @@ test("what is refused changes nothing", () => {
   host.close();
   refused("Closed", () => viewer.ask());
   refused("Closed", () => host.clock(1));
+});
+
+test("a host that was resumed shows what its log has alone", () => {
+  const host = Host.resume(library, DOOR, 1);
+  const viewer = new Viewer(library, DOOR, 0, 1);
+  assert.deepEqual([host.append().bytes.length, host.time()], [0, 0n]);
+  viewer.offer(true, AIM);
+  const [offer] = viewer.resend();
+  assert.deepEqual([host.clock(5), host.take(offer).number, host.time()], [1, 2, 6n]);
+  assert.deepEqual([host.packet(1), datagram(library, host.ack(0)).number], [null, 0]);
+  const { token, bytes: log } = host.append();
+  assert.deepEqual(host.append(), { token, bytes: log });
+  refused("NotAwaited", () => host.stored(token + 1));
+  refused("Range", () => host.stored(token, "Lost"));
+  host.stored(token);
+  assert.deepEqual([datagram(library, host.packet(1)).time, datagram(library, host.ack(0)).number], [5n, 1]);
+  host.clock(9);
+  host.stored(host.append().token, "InDoubt");
+  refused("Closed", () => host.clock(10));
+  const again = Host.resume(library, DOOR, 1, log);
+  assert.deepEqual([again.count(), again.time(), again.take(offer).kind], [2, 6n, "Repeat"]);
+  refused("NotLasting", () => new Host(library, DOOR, 1).append());
+  refused("WrongScene", () => Host.resume(library, `${DOOR}\n`, 1, log));
+  const gap = new Uint8Array([...log.slice(0, 32), ...log.slice(49)]);
+  assert.throws(() => Host.resume(library, DOOR, 1, gap), { reason: "LogGap", entry: 1 });
+  assert.throws(() => Host.resume(library, DOOR, 1, log.slice(0, 48)), { reason: "NotALog", entry: 1 });
+});
+
+test("routes are listed by the numbers of their nodes and fields", () => {
+  const world = new World(library, DOOR);
+  const named = (label, field) => [world.nodeNamed(label), world.fieldNamed(world.nodeNamed(label), field)];
+  const wanted = [
+    { source: named("Knob", "touchTime"), target: named("Motor", "startTime") },
+    { source: named("Motor", "fraction_changed"), target: named("Slide", "set_fraction") },
+    { source: named("Slide", "value_changed"), target: named("Door", "translation") },
+  ];
+  assert.deepEqual(world.routes(), wanted);
+  assert.deepEqual(new Viewer(library, DOOR, 0, 1).routes(), wanted);
 });

@@ -227,6 +227,51 @@ class Nodes(unittest.TestCase):
         self.refused("Closed", viewer.ask)
         self.refused("Closed", host.clock, 1)
 
+    def test_a_host_shows_what_its_log_has_alone(self):
+        log, host, viewer = b"", Host.resume(DOOR, 1), Viewer(DOOR, 0, 1)
+        self.assertEqual((host.append().bytes, host.time()), (b"", 0))
+        viewer.offer(True, AIM)
+        self.assertEqual((host.clock(5), host.take(viewer.resend()[0]).number, host.time()), (1, 2, 6))
+        self.assertEqual((host.packet(1), datagram(host.ack(0)).number), (None, 0))
+        append = host.append()
+        self.assertEqual(host.append(), append)
+        self.refused("NotAwaited", host.stored, append.token + 1)
+        self.refused("Range", host.stored, append.token, "Lost")
+        log += append.bytes
+        host.stored(append.token)
+        self.assertEqual((datagram(host.packet(1)).time, datagram(host.ack(0)).number), (5, 1))
+        host.clock(9)
+        host.stored(host.append().token, "InDoubt")
+        self.refused("Closed", host.clock, 10)
+        again = Host.resume(DOOR, 1, log)
+        self.assertEqual((len(again), again.time(), datagram(again.ack(0)).number), (2, 6, 1))
+        self.assertEqual(again.take(viewer.resend()[0]).kind, "Repeat")
+        self.refused("NotLasting", Host(DOOR, 1).append)
+        self.refused("WrongScene", Host.resume, DOOR + "\n", 1, log)
+        for name, wrong in ("LogGap", log[:32] + log[49:]), ("NotALog", log[:48]):
+            with self.assertRaises(Fault) as refused:
+                Host.resume(DOOR, 1, wrong)
+            self.assertEqual((refused.exception.name, refused.exception.entry), (name, 1))
+
+    def test_an_append_of_many_entries_is_copied_whole(self):
+        host = Host.resume(DOOR, 1)
+        for time in range(1, 1001):
+            host.clock(time)
+        append = host.append()
+        self.assertEqual(len(append.bytes), 32 + 17 * 1000)
+        self.assertEqual(len(Host.resume(DOOR, 1, append.bytes)), 1000)
+
+    def test_routes_are_listed_by_numbers(self):
+        with World(DOOR) as world, Viewer(DOOR, 0, 1) as viewer:
+            named = lambda label, field: (world.node_named(label), world.field_named(world.node_named(label), field))
+            wanted = [
+                (named("Knob", "touchTime"), named("Motor", "startTime")),
+                (named("Motor", "fraction_changed"), named("Slide", "set_fraction")),
+                (named("Slide", "value_changed"), named("Door", "translation")),
+            ]
+            self.assertEqual(world.routes(), wanted)
+            self.assertEqual(viewer.routes(), wanted)
+
 
 if __name__ == "__main__":
     unittest.main()

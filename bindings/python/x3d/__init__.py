@@ -23,13 +23,14 @@ system's libx3d.so.0.
 
 from ._faults import Fault, Refusal
 from ._library import version
-from ._nodes import Datagram, Host, Reply, Taken, Viewer, datagram
-from ._reading import Aim, Change, Changed, FieldType, Meeting, Script
+from ._nodes import Append, Datagram, Host, Reply, Taken, Viewer, datagram
+from ._reading import Aim, Change, Changed, FieldType, Meeting, Route, Script
 from ._part import LeftOut, Part
 from ._world import Saved, Work, World
 
 __all__ = [
     "Aim",
+    "Append",
     "Change",
     "Changed",
     "Datagram",
@@ -41,6 +42,7 @@ __all__ = [
     "Part",
     "Refusal",
     "Reply",
+    "Route",
     "Saved",
     "Script",
     "Taken",

@@ -18,7 +18,8 @@ class Refusal(Exception):
 
 class Fault(Exception):
     """Why a call on a world is refused: its `name` and its `status`. A status of a later library
-    that this module has no name for is named `Status` and its number.
+    that this module has no name for is named `Status` and its number. `entry` is the number of the
+    first wrong entry of a log (`Host.resume`), or None.
 
     Nothing has then changed, but that after `Memory` at an input, or while a snapshot is loaded,
     the world is spoiled: only a snapshot brings one back."""
@@ -61,12 +62,17 @@ class Fault(Exception):
         54: "NotPiece",
         55: "NotWhole",
         56: "TooLarge",
+        60: "NotALog",
+        61: "LogGap",
+        62: "NotLasting",
+        63: "NotAwaited",
     }
 
-    def __init__(self, status: int) -> None:
+    def __init__(self, status: int, entry: int = 0) -> None:
         self.status = status
         self.name = self.NAMES.get(status, f"Status{status}")
-        super().__init__(self.name)
+        self.entry: Optional[int] = entry or None
+        super().__init__(f"{self.name}, entry {entry}" if entry else self.name)
 
     @property
     def text(self) -> str:

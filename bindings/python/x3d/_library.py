@@ -100,6 +100,7 @@ CALLS = {
     "x3d_world_load": [_WORLD, c_uint32, c_char_p, c_size_t, POINTER(RawSaved)],
     "x3d_world_script_count": [_WORLD, _SIZE],
     "x3d_world_list_scripts": [_WORLD],
+    "x3d_world_list_routes": [_WORLD],
     "x3d_world_replace_script": [_WORLD, c_size_t, c_uint8],
     "x3d_host_open": [_HOST, c_char_p, c_size_t, c_uint8],
     "x3d_host_close": [_HOST],
@@ -115,6 +116,10 @@ CALLS = {
     "x3d_host_drop_below": [_HOST, c_uint32],
     "x3d_host_count": [_HOST, _COUNT],
     "x3d_host_viewers": [_HOST, _COUNT],
+    "x3d_host_time": [_HOST, POINTER(c_int64)],
+    "x3d_host_resume": [_HOST, c_char_p, c_size_t, c_uint8, c_char_p, c_size_t, POINTER(c_uint32)],
+    "x3d_host_pending": [_HOST, POINTER(c_uint32), c_char_p, c_size_t, _SIZE],
+    "x3d_host_stored": [_HOST, c_uint32, c_uint8],
     "x3d_viewer_open": [_VIEWER, c_char_p, c_size_t, c_uint8, c_uint32, c_char_p, c_size_t, _SIZE],
     "x3d_viewer_close": [_VIEWER],
     "x3d_viewer_applied": [_VIEWER, _COUNT],
@@ -154,6 +159,7 @@ CALLS = {
     "x3d_viewer_copy_changed": [_VIEWER, POINTER(RawChange), c_size_t, _SIZE],
     "x3d_viewer_script_count": [_VIEWER, _SIZE],
     "x3d_viewer_list_scripts": [_VIEWER],
+    "x3d_viewer_list_routes": [_VIEWER],
     "x3d_viewer_replace_script": [_VIEWER, c_size_t, c_uint8],
     "x3d_part_open": [_PART, c_char_p, c_size_t, c_char_p, c_size_t, _SIZE],
     "x3d_part_close": [_PART],
@@ -210,6 +216,7 @@ _SHORT = {
     "x3d_host_floor_packet",
     "x3d_host_count",
     "x3d_host_viewers",
+    "x3d_host_time",
     "x3d_viewer_applied",
     "x3d_viewer_boot",
     "x3d_viewer_waiting",
@@ -252,7 +259,7 @@ def text_instance(text: bytes) -> int:
 
 
 def version() -> str:
-    """The library's version, as `0.2.0`; `0.2.0-unproved` if it was built without a proof."""
+    """The library's version, as `0.3.0`; `0.3.0-unproved` if it was built without a proof."""
     return str(_call("x3d_version")().decode())
 
 

@@ -11,6 +11,8 @@ _NO_PACKET = 25
 _PACKET = 256
 _REPLIES = ("Asked", "Numbered", "Repeat", "Ahead", "OldBoot", "Below", "NothingToDo")
 _TAKEN = ("Old", "Beyond", "Kept", "Applied", "Noted", "Behind")
+_ANSWERS = ("Stored", "Taken", "InDoubt")
+_ROOM = 12
 _GATHERED = ("New", "Again", "Whole", "Other")
 
 
@@ -78,6 +80,14 @@ class Taken(NamedTuple):
     count: int
 
 
+class Append(NamedTuple):
+    """What a host that was resumed wants stored: bytes for its log's end, and the token by which
+    `Host.stored` is told of it. Without bytes nothing waits."""
+
+    token: int
+    bytes: bytes
+
+
 class _Node(Held):
     """What sends datagrams."""
 
@@ -116,6 +126,49 @@ class Host(_Node):
         self._reply = RawReply()
         text = scene.encode() if isinstance(scene, str) else bytes(scene)
         self._call("open", text, len(text), fits(viewers, 8))
+
+    @classmethod
+    def resume(cls, scene: Union[bytes, str], viewers: int, log: bytes = b"") -> "Host":
+        """The host of a scene that the bytes of its log make: all of them, and none at first. What
+        it numbers then waits until it is stored (`append`), and only after that it shows it.
+
+        Faults: `Range` (another number of viewers), `WrongScene`; `LogGap` and `NotALog`, with the
+        number of the first wrong entry; `Memory`."""
+        host = cls.__new__(cls)
+        _Node.__init__(host)
+        host._reply, entry = RawReply(), ctypes.c_uint32()
+        text = scene.encode() if isinstance(scene, str) else bytes(scene)
+        status = host._status("resume", text, len(text), fits(viewers, 8), log, len(log), entry)
+        if status:
+            raise Fault(status, entry.value)
+        return host
+
+    def append(self) -> Append:
+        """The append that is under way, or else a new one of all entries that wait. Store its bytes
+        at the log's end, durably, and then call `stored`. Faults: `NotLasting` (the host was not
+        resumed), `Memory`."""
+        token, room = ctypes.c_uint32(), 4096
+        while True:
+            out = ctypes.create_string_buffer(room)
+            status = self._status("pending", token, out, room, self._wanted)
+            if status != _ROOM:
+                self._good(status)
+                return Append(token.value, ctypes.string_at(out, self._wanted.value))
+            room = self._wanted.value
+
+    def stored(self, token: int, answer: str = "Stored") -> None:
+        """Says what the log answered to the append with this token: `Stored`, for good, and the
+        host shows its inputs from now on; or `Taken` (the log has other entries there) or `InDoubt`:
+        the host is then closed. Read the log, and resume. Faults: `NotLasting`, `NotAwaited`."""
+        if answer not in _ANSWERS:
+            raise Fault(11)
+        self._call("stored", fits(token, 32), _ANSWERS.index(answer))
+
+    def time(self) -> int:
+        """The time of the last input that is numbered, in microseconds, or 0 before the first."""
+        time = ctypes.c_int64()
+        self._call("time", time)
+        return time.value
 
     def clock(self, time: int) -> int:
         """Numbers a clock at a time of 1 to 10^18 microseconds, above that of the last input, and

@@ -51,6 +51,13 @@ class Script(NamedTuple):
     kind: str
 
 
+class Route(NamedTuple):
+    """A route: the node and the field that send, and those that take."""
+
+    source: Tuple[int, int]
+    target: Tuple[int, int]
+
+
 class Changed(NamedTuple):
     """A field that was set, with the type and the numbers of its current value; a string has no
     numbers."""
@@ -303,6 +310,14 @@ class Readable(Held):
         time = ctypes.c_int64()
         self._call("time", time)
         return time.value
+
+    def routes(self) -> List[Route]:
+        """The routes of the scene, in the order of the text; one that the text repeats is listed
+        once."""
+        self._call("list_routes")
+        numbers = self._numbers()
+        fours = zip(numbers[::4], numbers[1::4], numbers[2::4], numbers[3::4])
+        return [Route((node, field), (to, to_field)) for node, field, to, to_field in fours]
 
     def scripts(self) -> List[Script]:
         """The scripts that the scene runs; their places in this list are their numbers."""

@@ -44,6 +44,26 @@ impl fmt::Display for Refusal {
 
 impl Error for Refusal {}
 
+/// Why no host is resumed from a log.
+#[derive(Clone, Copy, Debug, PartialEq, Eq)]
+pub struct LogRefusal {
+    /// `WrongScene`, `LogGap`, `NotALog`, `Range` or `Memory`.
+    pub fault: Fault,
+    /// The number of the first wrong entry, from 1, if an entry is wrong.
+    pub entry: Option<u32>,
+}
+
+impl fmt::Display for LogRefusal {
+    fn fmt(&self, f: &mut fmt::Formatter<'_>) -> fmt::Result {
+        match self.entry {
+            Some(entry) => write!(f, "entry {entry}: {}", self.fault),
+            None => self.fault.fmt(f),
+        }
+    }
+}
+
+impl Error for LogRefusal {}
+
 /// Why a call is refused. Nothing has then changed, but that after `Memory` at an input, or while a
 /// snapshot is loaded, the world is spoiled: only a snapshot brings one back.
 #[derive(Clone, Copy, Debug, PartialEq, Eq)]
@@ -119,6 +139,14 @@ pub enum Fault {
     NotWhole,
     /// The snapshot is too large to be sent in pieces.
     TooLarge,
+    /// An entry of a log is none that a host of this scene wrote there.
+    NotALog,
+    /// An entry of a log is missing.
+    LogGap,
+    /// The host was not resumed: it has no log.
+    NotLasting,
+    /// No append with this token is under way.
+    NotAwaited,
     /// A status that this crate has no name for, such as one of a later library.
     Other(u8),
 }
@@ -163,6 +191,10 @@ impl Fault {
             54 => Fault::NotPiece,
             55 => Fault::NotWhole,
             56 => Fault::TooLarge,
+            60 => Fault::NotALog,
+            61 => Fault::LogGap,
+            62 => Fault::NotLasting,
+            63 => Fault::NotAwaited,
             other => Fault::Other(other),
         })
     }
@@ -207,6 +239,10 @@ impl fmt::Display for Fault {
             Fault::NotPiece => "the datagram is no piece of a snapshot",
             Fault::NotWhole => "pieces of the snapshot are missing",
             Fault::TooLarge => "the snapshot is too large to be sent in pieces",
+            Fault::NotALog => "the log has an entry that no host of this scene wrote there",
+            Fault::LogGap => "an entry of the log is missing",
+            Fault::NotLasting => "the host was not resumed",
+            Fault::NotAwaited => "no append with this token is under way",
         })
     }
 }

@@ -1,6 +1,6 @@
 //! The host of a shared world.
 
-use crate::fault::Fault;
+use crate::fault::{Fault, LogRefusal};
 use crate::packet::{Packet, packet};
 use crate::raw::{self, RawHost, RawReply};
 use std::ptr;
@@ -41,6 +41,17 @@ fn reply_of(raw: &RawReply) -> Reply {
     }
 }
 
+/// What a host that was resumed wants stored: bytes for its log's end, and the token by which
+/// `Host::stored` is told of it. Without bytes nothing waits.
+#[derive(Clone, Debug, PartialEq, Eq)]
+pub struct Append {
+    pub token: u32,
+    pub bytes: Vec<u8>,
+}
+
+const STORED: u8 = 0;
+const ROOM: u8 = 12;
+
 /// The host of a scene: it numbers what happens, and hands it out. Of the scene it keeps the mark
 /// of its text alone, and does not look at it.
 pub struct Host {
@@ -66,6 +77,63 @@ impl Host {
             unsafe { raw::x3d_host_open(&mut host.handle, text.as_ptr(), text.len(), viewers) };
         Fault::told(status)?;
         Ok(host)
+    }
+
+    /// The host of a scene's text for 1 to 64 viewers that the bytes of its log make: all of them,
+    /// and none at first. What it numbers then waits until it is stored (`append`), and only after
+    /// that it shows it.
+    pub fn resume(text: &[u8], viewers: u8, log: &[u8]) -> Result<Host, LogRefusal> {
+        let mut host = Host {
+            handle: RawHost {
+                at: ptr::null_mut(),
+            },
+        };
+        let mut entry = 0;
+        // SAFETY: as in `new`.
+        let status = unsafe {
+            raw::x3d_host_resume(
+                &mut host.handle,
+                text.as_ptr(),
+                text.len(),
+                viewers,
+                log.as_ptr(),
+                log.len(),
+                &mut entry,
+            )
+        };
+        match Fault::told(status) {
+            Ok(()) => Ok(host),
+            Err(fault) => Err(LogRefusal {
+                fault,
+                entry: (entry != 0).then_some(entry),
+            }),
+        }
+    }
+
+    /// The append that is under way, or else a new one of all entries that wait. Store its bytes at
+    /// the log's end, durably, and then call `stored`. Faults: `NotLasting`, `Memory`.
+    pub fn append(&mut self) -> Result<Append, Fault> {
+        let (mut token, mut wanted, mut bytes) = (0, 0, Vec::new());
+        loop {
+            let room = bytes.len();
+            let out: *mut u8 = bytes.as_mut_ptr();
+            let status = unsafe {
+                raw::x3d_host_pending(&mut self.handle, &mut token, out, room, &mut wanted)
+            };
+            if status != ROOM {
+                Fault::told(status)?;
+                bytes.truncate(wanted);
+                return Ok(Append { token, bytes });
+            }
+            bytes.resize(wanted, 0);
+        }
+    }
+
+    /// Takes it that the log has the bytes of the append with this token, for good: the host shows
+    /// its inputs from now on. If the log has other entries there, or that is in doubt, drop the
+    /// host instead, read the log, and resume. Faults: `NotLasting`, `NotAwaited`.
+    pub fn stored(&mut self, token: u32) -> Result<(), Fault> {
+        Fault::told(unsafe { raw::x3d_host_stored(&mut self.handle, token, STORED) })
     }
 
     /// Numbers a clock at a time of 1 to 10^18 microseconds, above that of the last input, and
@@ -177,6 +245,13 @@ impl Host {
         let mut count = 0;
         unsafe { raw::x3d_host_count(&mut self.handle, &mut count) };
         count
+    }
+
+    /// The time of the last input that is numbered, in microseconds, or 0 before the first.
+    pub fn time(&mut self) -> i64 {
+        let mut time = 0;
+        unsafe { raw::x3d_host_time(&mut self.handle, &mut time) };
+        time
     }
 
     /// How many viewers there are.

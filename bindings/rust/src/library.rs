@@ -10,7 +10,7 @@ fn text(at: *const c_char) -> &'static str {
     text.to_str().expect("a text of the library is UTF-8")
 }
 
-/// The library's version, such as `0.2.0`; `0.2.0-unproved` if it was built without a proof.
+/// The library's version, such as `0.3.0`; `0.3.0-unproved` if it was built without a proof.
 #[must_use]
 pub fn version() -> &'static str {
     // SAFETY: the call has no premises.

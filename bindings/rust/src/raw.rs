@@ -199,6 +199,7 @@ unsafe extern "C" {
     ) -> u8;
     pub fn x3d_world_time(world: *mut RawWorld, time: *mut i64) -> u8;
     pub fn x3d_world_list_scripts(world: *mut RawWorld) -> u8;
+    pub fn x3d_world_list_routes(world: *mut RawWorld) -> u8;
     pub fn x3d_world_list_roots(world: *mut RawWorld) -> u8;
     pub fn x3d_world_list_children(world: *mut RawWorld, node: u32) -> u8;
     pub fn x3d_world_list_value(world: *mut RawWorld, node: u32, field: u16) -> u8;
@@ -266,6 +267,24 @@ unsafe extern "C" {
     pub fn x3d_host_drop_below(host: *mut RawHost, number: u32) -> u8;
     pub fn x3d_host_count(host: *mut RawHost, count: *mut u32) -> u8;
     pub fn x3d_host_viewers(host: *mut RawHost, count: *mut u32) -> u8;
+    pub fn x3d_host_time(host: *mut RawHost, time: *mut i64) -> u8;
+    pub fn x3d_host_resume(
+        host: *mut RawHost,
+        text: *const u8,
+        length: usize,
+        viewers: u8,
+        log: *const u8,
+        log_length: usize,
+        entry: *mut u32,
+    ) -> u8;
+    pub fn x3d_host_pending(
+        host: *mut RawHost,
+        token: *mut u32,
+        out: *mut u8,
+        room: usize,
+        wanted: *mut usize,
+    ) -> u8;
+    pub fn x3d_host_stored(host: *mut RawHost, token: u32, answer: u8) -> u8;
     pub fn x3d_viewer_open(
         viewer: *mut RawViewer,
         text: *const u8,
@@ -372,6 +391,7 @@ unsafe extern "C" {
     ) -> u8;
     pub fn x3d_viewer_time(viewer: *mut RawViewer, time: *mut i64) -> u8;
     pub fn x3d_viewer_list_scripts(viewer: *mut RawViewer) -> u8;
+    pub fn x3d_viewer_list_routes(viewer: *mut RawViewer) -> u8;
     pub fn x3d_viewer_list_roots(viewer: *mut RawViewer) -> u8;
     pub fn x3d_viewer_list_children(viewer: *mut RawViewer, node: u32) -> u8;
     pub fn x3d_viewer_list_value(viewer: *mut RawViewer, node: u32, field: u16) -> u8;

@@ -74,6 +74,22 @@ pub(crate) fn scripts_of(numbers: &[u32]) -> Vec<(u32, Kind)> {
     numbers.chunks_exact(2).filter_map(script).collect()
 }
 
+/// A route: the node and the field that send, and those that take.
+#[derive(Clone, Copy, Debug, PartialEq, Eq)]
+pub struct Route {
+    pub source: (u32, u16),
+    pub target: (u32, u16),
+}
+
+/// The routes that these numbers list, four for each.
+pub(crate) fn routes_of(numbers: &[i64]) -> Vec<Route> {
+    let route = |four: &[i64]| Route {
+        source: (four[0] as u32, four[1] as u16),
+        target: (four[2] as u32, four[3] as u16),
+    };
+    numbers.chunks_exact(4).map(route).collect()
+}
+
 /// The methods that read, by the calls of one of the two.
 macro_rules! readable {
     (
@@ -87,6 +103,7 @@ macro_rules! readable {
         $list_changed:ident,
         $list_children:ident,
         $list_roots:ident,
+        $list_routes:ident,
         $list_scripts:ident,
         $list_value:ident,
         $make_changes:ident,
@@ -242,6 +259,13 @@ macro_rules! readable {
                 let mut time = 0;
                 Fault::told(unsafe { raw::$time(&mut self.handle, &mut time) })?;
                 Ok(time)
+            }
+
+            /// The routes of the scene, in the order of the text; one that the text repeats is
+            /// listed once.
+            pub fn routes(&mut self) -> Result<Vec<Route>, Fault> {
+                Fault::told(unsafe { raw::$list_routes(&mut self.handle) })?;
+                Ok(routes_of(&self.listed()))
             }
 
             /// How many scripts the scene runs, which are numbered from 0.

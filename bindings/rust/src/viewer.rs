@@ -5,7 +5,7 @@ use crate::changes::Changes;
 use crate::fault::{Fault, Refusal};
 use crate::packet::{Packet, packet};
 use crate::raw::{self, RawField, RawMet, RawTaken, RawViewer};
-use crate::reading::{Aim, Meeting, copied, readable, scripts_of};
+use crate::reading::{Aim, Meeting, Route, copied, readable, routes_of, scripts_of};
 use crate::world::Kind;
 use std::ptr;
 
@@ -267,6 +267,7 @@ readable!(
     x3d_viewer_list_changed,
     x3d_viewer_list_children,
     x3d_viewer_list_roots,
+    x3d_viewer_list_routes,
     x3d_viewer_list_scripts,
     x3d_viewer_list_value,
     x3d_viewer_make_changes,

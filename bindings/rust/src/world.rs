@@ -5,7 +5,7 @@ use crate::changes::Changes;
 use crate::fault::{Fault, Refusal};
 use crate::part::Part;
 use crate::raw::{self, RawField, RawMet, RawSaved, RawWork, RawWorld};
-use crate::reading::{Aim, Meeting, copied, readable, scripts_of};
+use crate::reading::{Aim, Meeting, Route, copied, readable, routes_of, scripts_of};
 use std::ptr;
 
 /// What an input gave rise to.
@@ -190,6 +190,7 @@ readable!(
     x3d_world_list_changed,
     x3d_world_list_children,
     x3d_world_list_roots,
+    x3d_world_list_routes,
     x3d_world_list_scripts,
     x3d_world_list_value,
     x3d_world_make_changes,

@@ -183,3 +183,49 @@ fn what_is_refused_changes_nothing() {
         Err(Fault::NoSuchScript)
     );
 }
+
+#[test]
+fn a_host_shows_what_its_log_has_alone() {
+    let mut host = Host::resume(DOOR, 1, b"").unwrap();
+    let mut viewer = Viewer::open(DOOR, 0, 1).unwrap();
+    assert!(host.append().unwrap().bytes.is_empty());
+    viewer.offer(true, &aim()).unwrap();
+    let offer = viewer.resend(0).unwrap();
+    assert_eq!(host.clock(5), Ok(1));
+    assert_eq!(host.take(&offer), Ok(Reply::Numbered(2)));
+    assert_eq!((host.time(), host.packet(1)), (6, None));
+    let append = host.append().unwrap();
+    assert_eq!(host.append().as_ref(), Ok(&append));
+    assert_eq!(host.stored(append.token + 1), Err(Fault::NotAwaited));
+    host.stored(append.token).unwrap();
+    assert!(host.packet(2).is_some());
+    let log = append.bytes;
+    let mut again = Host::resume(DOOR, 1, &log).unwrap();
+    assert_eq!((again.count(), again.time()), (2, 6));
+    assert_eq!(again.take(&offer), Ok(Reply::Repeat));
+    let cut = Host::resume(DOOR, 1, &log[..48]).err().unwrap();
+    assert_eq!((cut.fault, cut.entry), (Fault::NotALog, Some(1)));
+    let gap = [&log[..32], &log[49..]].concat();
+    let gap = Host::resume(DOOR, 1, &gap).err().unwrap();
+    assert_eq!((gap.fault, gap.entry), (Fault::LogGap, Some(1)));
+    let other = Host::resume(b"#X3D V3.0 utf8\n", 1, &log).err().unwrap();
+    assert_eq!((other.fault, other.entry), (Fault::WrongScene, None));
+    let mut opened = Host::new(DOOR, 1).unwrap();
+    assert_eq!(opened.append(), Err(Fault::NotLasting));
+}
+
+#[test]
+fn routes_are_listed_by_numbers() {
+    let mut world = World::open(DOOR).unwrap();
+    let mut viewer = Viewer::open(DOOR, 0, 1).unwrap();
+    let routes = world.routes().unwrap();
+    let mut named = |label, field| {
+        let node = world.node_named(label).unwrap();
+        (node, world.field_named(node, field).unwrap())
+    };
+    assert_eq!(routes[0].source, named("Knob", "touchTime"));
+    assert_eq!(routes[0].target, named("Motor", "startTime"));
+    assert_eq!(routes[2].target, named("Door", "translation"));
+    assert_eq!(viewer.routes().unwrap(), routes);
+    assert_eq!(routes.len(), 3);
+}

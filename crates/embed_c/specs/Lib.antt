@@ -1,4 +1,5 @@
 pub mod Answers
 pub mod NodeAnswers
+pub mod LogAnswers
 pub mod Parts
 pub mod Points

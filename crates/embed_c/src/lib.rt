@@ -2,9 +2,10 @@
 //! with it. include/x3d.h declares them.
 //!
 //! The functions of a world are in `open`, `inputs`, `scripts`, `shots`, `texts`, `lists`,
-//! `changed` and `asks`. Those of a host are in `host`, and those of a viewer in `viewer`,
-//! `joining`, `viewer_texts`, `viewer_lists`, `viewer_changed` and `viewer_asks`. `datagram` reads
-//! a datagram, and `parts` makes the part of a text.
+//! `changed` and `asks`. Those of a host are in `host` and `lasting`, and those of a viewer in
+//! `viewer`, `joining`, `viewer_texts`, `viewer_lists`, `viewer_changed` and `viewer_asks`.
+//! `routes` has a call of a world and one of a viewer. `datagram` reads a datagram, and `parts`
+//! makes the part of a text.
 #![tactic(auto)]
 
 mod asks;
@@ -13,9 +14,11 @@ mod datagram;
 mod host;
 mod inputs;
 mod joining;
+mod lasting;
 mod lists;
 mod open;
 mod parts;
+mod routes;
 mod scripts;
 mod shots;
 mod texts;

@@ -1,1 +1,4 @@
 mod Held
+mod LineTexts
+mod Fronts
+mod AheadLaws

@@ -6,6 +6,11 @@ pub mod Lines
 pub mod Meeting
 pub mod Names
 pub mod Hosts
+pub mod Lasting
+pub mod Appends
+pub mod Logs
+pub mod WriteAhead
+pub mod LogStatus
 pub mod Viewers
 pub mod Datagrams
 pub mod PeerStatus

@@ -1,5 +1,5 @@
 -- What is read of a world, or why nothing is.
-use Rattle.std.specs.Prelude.{ℕ, ℤ, List, [], Option, Some, None, Result, Ok, Err, nat_lt, length, if◌then◌else◌}
+use Rattle.std.specs.Prelude.{ℕ, ℤ, pos, List, [], ◌∷◌, Option, Some, None, Result, Ok, Err, nat_lt, length, if◌then◌else◌}
 use Rattle.std.specs.List.{flat_map}
 use Rattle.std.specs.Option.{option_map}
 use Rattle.cascade_core.specs.Course.{Scripted}
@@ -8,6 +8,7 @@ use Rattle.cascade_core.specs.Texts.{scene_text}
 use Rattle.pick_core.specs.Sensors.{sensors_of}
 use Rattle.pick_core.specs.declared.hit.Hit.{Hit}
 use Rattle.scene_core.specs.Scene.{SceneView, children_of, field_name, label_of, rows_at, type_at}
+use Rattle.scene_core.specs.declared.scene.Route.{Route}
 use Rattle.snapshot_core.specs.Shot.{shot}
 use Rattle.snapshot_core.specs.declared.fault.SaveFault.{SaveFault}
 use Rattle.snapshot_core.specs.declared.fault.SaveFault.TheVariants as save
@@ -116,6 +117,16 @@ numbers_in stage node field =
 -- the node and the kind of each script
 abbrev pub scripts_listed : SceneView → Result (List ℤ) LookFault
 scripts_listed scene = Ok (scripts_in scene)
+
+-- the node and the field of a route's source, and those of its target
+abbrev pub route_numbers : Route → List ℤ
+route_numbers route =
+    pos route.source.node ∷ pos route.source.field ∷ pos route.target.node
+    ∷ pos route.target.field ∷ []
+
+-- those of each route
+abbrev pub routes_listed : List Route → Result (List ℤ) LookFault
+routes_listed routes = Ok (flat_map route_numbers routes)
 
 -- the fields that inputs after a number set, each once, and the numbers of their current values
 abbrev pub changed_in : StageView → (since : ℕ) → Result Listing LookFault

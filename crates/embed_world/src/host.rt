@@ -4,9 +4,10 @@ ghost use Rattle.std.specs.Prelude.{◌≡◌, nat_eq};
 ghost use Rattle.std.specs.Cmp.Lexicographic.{pointwise};
 ghost use Rattle.embed_world.specs.Hosts.{is_anothers, is_other};
 
+use crate::lasting::{Lasting, ack_by, clock_by, drop_by, keep_by, packet_by, take_by};
 use share_core::Host;
 use share_law::{FloorFault, HostFault, HostReply, NumberFault};
-use share_turns::{Heard, drop_passed, hear, sender_of};
+use share_turns::{Heard, hear, sender_of};
 use share_wire::{Message, Packet, WireFault, decode};
 use snapshot_core::scene_mark;
 use std::alloc::Global;
@@ -44,11 +45,14 @@ fn is_anothers(mark: &[u8; 32], who: u8, read: &Result<Message, WireFault>) -> b
     }
 }
 
-/// The host of a scene, with the scene's mark, and what it has heard of its viewers.
+/// The host of a scene, with the scene's mark, and what it has heard of its viewers. A host that
+/// was resumed shows what its program has stored alone.
 #[derive(Drop)]
 pub struct EmbeddedHost {
     pub(crate) host: Host,
     pub(crate) heard: Heard,
+    /// What its program hasn't stored, if it was resumed from the bytes of a log.
+    pub(crate) lasting: Option<Lasting>,
 }
 
 impl EmbeddedHost {
@@ -72,6 +76,7 @@ impl EmbeddedHost {
         Some(EmbeddedHost {
             host: Host::new(alloc, scene_mark(text), viewers),
             heard: Heard::nobody(),
+            lasting: None,
         })
     }
 
@@ -80,7 +85,7 @@ impl EmbeddedHost {
     pub fn clock(&mut self, time: i64) -> Result<u32, NumberFault>
         ensures { Clocks self.old time result self.new }
     {
-        self.host.clock(time)
+        clock_by(&mut self.host, &mut self.lasting, time)
     }
 
     /// Takes a datagram that was decoded.
@@ -94,10 +99,7 @@ impl EmbeddedHost {
             &self.host.mark(),
             self.host.viewers(),
         );
-        match read {
-            Ok(message) => self.host.take_message(message),
-            Err(fault) => Err(HostFault::Wire(fault)),
-        }
+        take_by(&mut self.host, &mut self.lasting, &read)
     }
 
     /// Takes the bytes of a datagram, as `Host::take` of share_core does.
@@ -120,22 +122,20 @@ impl EmbeddedHost {
     }
 
     /// Returns the datagram of the input with this number, if there is one, as `Host::packet` of
-    /// share_core does.
+    /// share_core does. A host that was resumed has one only if it is stored.
     pub fn packet(&self, number: u32) -> Option<Packet>
         ensures { option_map (λ p. p.items) result ≡ spec.input_bytes self.now number }
     {
-        self.host.packet(number)
+        packet_by(&self.host, &self.lasting, number)
     }
 
     /// Returns the datagram that says how many offers of viewer `who` are numbered, as `Host::ack`
-    /// of share_core does. `None` if there is no such viewer.
+    /// of share_core does; of a host that was resumed, how many are stored. `None` if there is no
+    /// such viewer.
     pub fn ack(&self, who: u8) -> Option<Packet>
         ensures { option_map (λ p. p.items) result ≡ spec.ack_bytes self.now who }
     {
-        if who >= self.host.viewers() {
-            return None;
-        }
-        Some(self.host.ack(who))
+        ack_by(&self.host, &self.lasting, who)
     }
 
     /// Returns the floor: inputs below it have no datagrams.
@@ -153,11 +153,11 @@ impl EmbeddedHost {
     }
 
     /// Drops the inputs below `floor` and returns the floor, as `Host::drop_below` of share_core
-    /// does.
+    /// does; of a host that was resumed, stored inputs alone (`FloorAhead`).
     pub fn drop_below(&mut self, floor: u32) -> Result<u32, FloorFault>
         ensures { Drops self.old floor result self.new }
     {
-        self.host.drop_below(floor)
+        drop_by(&mut self.host, &self.lasting, floor)
     }
 
     /// Returns the highest number that viewer `who` has asked from, or 0 if it hasn't asked: it has
@@ -173,11 +173,11 @@ impl EmbeddedHost {
     }
 
     /// Drops the inputs that every viewer that asked has, except the last `count` of them. Drops
-    /// nothing if none has asked.
+    /// nothing if none has asked. A host that was resumed keeps what isn't stored.
     pub fn keep(&mut self, count: u32)
         ensures { self.new ≡ spec.keeping self.old count }
     {
-        drop_passed(&mut self.host, &self.heard, Some(count));
+        keep_by(&mut self.host, &self.lasting, &self.heard, count);
     }
 
     /// Returns the number of inputs that are numbered.

@@ -4,7 +4,9 @@
 //! |---|---|
 //! | `world`, `opening`, `input`, `scripts`, `shots` | a world: made, moved on, saved, loaded |
 //! | `host`, `viewer`, `pieces`, `datagram` | a host and a viewer, and what they send |
-//! | `texts`, `lists`, `viewer_texts`, `viewer_lists`, `asks` | reads of them: texts and numbers |
+//! | `lasting`, `appends`, `logs`, `log_fault`, `log_status` | a host whose program has its log |
+//! | `law` | what such a host keeps |
+//! | `texts`, `lists`, `viewer_texts`, `viewer_lists`, `routes`, `asks` | what is read of them |
 //! | `changed` | the fields that were set after an input |
 //! | `lines`, `meet`, `named` | what a read looks up |
 //! | `status`, `peer_status`, `tell`, `found`, `buffers`, `aim` | how C sees an answer |
@@ -12,6 +14,7 @@
 #![tactic(auto)]
 
 mod aim;
+mod appends;
 mod asks;
 mod buffers;
 mod changed;
@@ -20,13 +23,19 @@ mod fault;
 mod found;
 mod host;
 mod input;
+mod lasting;
+mod law;
 mod lines;
 mod lists;
+mod log_fault;
+mod log_status;
+mod logs;
 mod meet;
 mod named;
 mod opening;
 mod peer_status;
 mod pieces;
+mod routes;
 mod scripts;
 mod shots;
 mod status;
@@ -47,13 +56,19 @@ pub use embed_scene::FieldAs;
 pub use fault::LookFault;
 pub use host::EmbeddedHost;
 pub use input::{pointer_of, stamped};
+pub use lasting::{Append, AppendFault};
+pub use law::hosts_write_ahead;
 pub use lines::{push_changes, push_lines};
 pub use lists::{
     ListEntry, write_children, write_numbers, write_roots, write_scripts, write_sensors,
 };
+pub use log_fault::{LogFault, status_of_log, tell_entry};
+pub use log_status::{answer_of, status_of_answer, status_of_append};
 pub use meet::{Meeting, met_by};
 pub use named::number_named;
 pub use peer_status::{NO_PACKET, status_of_floor, status_of_size};
+pub use routes::write_routes;
+pub use share_pending::AppendAnswer;
 pub use shots::write_snapshot;
 pub use status::{
     CLOSED, DONE, MEMORY, RANGE, status_of_apply, status_of_look, status_of_place, status_of_save,
