@@ -1,6 +1,6 @@
 pub mod Staging
 pub mod Loaded
 pub mod Logging
-pub mod Meeting
+pub mod JointJobs
 pub mod Viewed
 pub mod Agreed

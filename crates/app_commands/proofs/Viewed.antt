@@ -8,7 +8,7 @@ use Rattle.app_commands.specs.Jobs.{fitting}
 use Rattle.app_commands.specs.Stages.{scripts_refusal}
 use Rattle.app_commands.specs.Viewing.{IsSeated, points, viewer_of}
 use Rattle.app_commands.specs.declared.job.SharedJob.{SharedJob}
-use Rattle.app_commands.proofs.Meeting.{is_staffed}
+use Rattle.app_commands.proofs.JointJobs.{is_staffed}
 
 pub is_seated : (order : Order) (bytes : List ℕ) (who boot : ℕ) (job : SharedJob) (viewer : ViewerView) (asked : List Point)
     → fitting order bytes ≡ Ok job → scripts_refusal job.scene ≡ None → viewer ≡ viewer_of job who boot → asked ≡ points job.inputs

@@ -7,3 +7,5 @@ pub mod Rehearsing
 pub mod Joining
 pub mod Beyond
 pub mod Pace
+pub mod Ended
+pub mod Welcomed

@@ -3,7 +3,7 @@
 ghost use Rattle.std.specs.Prelude.{◌≡◌};
 ghost use Rattle.app_commands.specs.Pace.{is_reminded};
 
-use crate::patient::millis_at;
+use crate::rests::millis_at;
 use share_turns::{Port, PortFault, RECEIVED};
 use share_wire::Packet;
 use std::time::Clock;

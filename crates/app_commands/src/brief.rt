@@ -1,5 +1,6 @@
 //! A short form of what a datagram says.
 
+use share_session::{Message2, decode as decode_two};
 use share_wire::{Ack, Ask, Body, Floor, Offer, decode};
 use x3d_values::Stamped;
 
@@ -66,19 +67,39 @@ fn of_body(body: Body) -> Brief {
     }
 }
 
-/// How bytes relate to a run.
+/// How bytes relate to a run. A port above that of a run sees the run's own datagrams in version 1.
 #[derive(Clone, Copy)]
 pub(crate) enum Came {
     /// Not a datagram.
     Foreign,
     /// A datagram of another scene.
     Elsewhere,
+    /// A datagram of version 2 which isn't of the run.
+    OtherRun,
+    /// A Hello to a host of the run's scene.
+    Hello,
     /// A datagram of the run's own scene.
     Here(Brief),
 }
 
 fn is_same(mark: &[u8; 32], other: &[u8; 32]) -> bool {
     mark == other
+}
+
+/// Returns how bytes that aren't of version 1 relate to a run of the scene with this mark.
+fn how_came_in_two(bytes: &[u8], mark: &[u8; 32]) -> Came {
+    match decode_two(bytes) {
+        Ok(Message2::Said(_, _)) => Came::OtherRun,
+        Ok(Message2::Hello(hello)) => {
+            if is_same(&hello.mark, mark) {
+                Came::Hello
+            } else {
+                Came::Elsewhere
+            }
+        }
+        Ok(Message2::Welcome(_)) => Came::Foreign,
+        Err(_) => Came::Foreign,
+    }
 }
 
 /// Returns how bytes relate to a run of the scene with this mark.
@@ -91,7 +112,7 @@ pub(crate) fn how_came(bytes: &[u8], mark: &[u8; 32]) -> Came {
                 Came::Elsewhere
             }
         }
-        Err(_) => Came::Foreign,
+        Err(_) => how_came_in_two(bytes, mark),
     }
 }
 

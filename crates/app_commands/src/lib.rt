@@ -1,5 +1,5 @@
-//! The commands in which several nodes do a job: which steps a job may have, and the work of a
-//! host, of a viewer, and of both together, in memory or each at a port.
+//! The commands in which several nodes do a job: which steps a job may have, the work of a viewer,
+//! and that of a host and viewers together, in memory or each at a port.
 #![tactic(auto)]
 
 mod asking;
@@ -12,16 +12,19 @@ mod joining;
 mod pace;
 mod patient;
 mod rehearsing;
+mod rests;
 mod sockets;
 mod stages;
 mod telling;
+mod timed;
+mod viewer_port;
 mod viewing;
 mod watch;
+mod welcomed;
 
 pub use asking::AskingPort;
 pub use exact::ExactPort;
 pub use fits::job_fits;
-pub use hosting::host_job;
 pub use job::{SharedJob, shared_job};
 pub use joining::{JointJob, agree_job, joint_job};
 pub use pace::Pace;
@@ -29,5 +32,8 @@ pub use patient::PatientPort;
 pub use rehearsing::rehearse_job;
 pub use sockets::{bound, bound_free, number_of};
 pub use telling::TellingPort;
+pub use timed::TimedPort;
+pub use viewer_port::ViewerPort;
 pub use viewing::{Seat, first_boot, give_job, seated_job, view_job};
 pub use watch::{Counts, Note, Peer, Refusal, Watch};
+pub use welcomed::{Meeting, Met, meet};

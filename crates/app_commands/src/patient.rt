@@ -1,12 +1,12 @@
 //! A port that waits if nothing comes, and sends nothing again while its answer may be under way.
 
-ghost use Rattle.std.specs.Prelude.{◌≡◌, ◌+◌, ◌-◌, ◌^◌, None, false, min};
-ghost use Rattle.std.specs.Option.{option_or};
-ghost use Rattle.app_commands.specs.Pace.{first_rest, next_rest, passed_between, unsent};
+ghost use Rattle.std.specs.Prelude.{◌≡◌, None, false};
+ghost use Rattle.app_commands.specs.Pace.{first_rest, next_rest, unsent};
 ghost use Rattle.share_turns.specs.Told.{max_received};
 
 use crate::brief::{Brief, brief_of};
 use crate::pace::Pace;
+use crate::rests::{Rests, millis_at};
 use share_entries::Entry;
 use share_logged::Learns;
 use share_turns::{Port, PortFault, RECEIVED};
@@ -35,9 +35,7 @@ pub struct PatientPort<P, C> {
     pace: Pace,
     rest: u32,
     came: bool,
-    /// When the last rest ended, in milliseconds of the clock, and how long all took.
-    ended: Option<u64>,
-    rested: u64,
+    rests: Rests,
 }
 
 impl<P, C> PatientPort<P, C> {
@@ -47,8 +45,7 @@ impl<P, C> PatientPort<P, C> {
         ensures pace { result.pace ≡ unsent }
         ensures rest { result.rest ≡ first_rest }
         ensures came { result.came ≡ false }
-        ensures ended { result.ended ≡ None }
-        ensures rested { result.rested ≡ 0 }
+        ensures rests { result.rests ≡ record { ended = None; rested = 0 } }
     {
         PatientPort {
             port,
@@ -56,8 +53,7 @@ impl<P, C> PatientPort<P, C> {
             pace: Pace::new(),
             rest: SHORTEST,
             came: false,
-            ended: None,
-            rested: 0,
+            rests: Rests::new(),
         }
     }
 
@@ -79,22 +75,6 @@ impl<P, C> PatientPort<P, C> {
         self.rest = next_rest(self.rest, is_new);
         came
     }
-
-    /// Ends a rest at this time, in milliseconds, if the clock says it. Returns how many passed
-    /// since the last one ended.
-    fn end_rest(&mut self, now: Option<u64>) -> u64
-        ensures result { result ≡ min (passed_between self.old.ended now)
-            (2 ^ 64 - 1 - self.old.rested) }
-        ensures state { self.new ≡ record self.old {
-          ended = option_or now self.old.ended;
-          rested = self.old.rested + result;
-        } }
-    {
-        let passed = passed_between(self.ended, now).min(u64::MAX - self.rested);
-        self.ended = now.or(self.ended);
-        self.rested += passed;
-        passed
-    }
 }
 
 impl<P, C: Drop> PatientPort<P, C> {
@@ -114,24 +94,6 @@ fn next_rest(rest: u32, is_new: bool) -> u32
         SHORTEST
     } else {
         rest.saturating_mul(2).min(LONGEST)
-    }
-}
-
-/// Returns how many milliseconds passed between two rests that ended at these times.
-fn passed_between(ended: Option<u64>, now: Option<u64>) -> u64
-    ensures { result ≡ passed_between ended now }
-{
-    match (ended, now) {
-        (Some(ended), Some(now)) => now.saturating_sub(ended),
-        _ => 0,
-    }
-}
-
-/// Returns the time of a clock in milliseconds, if it says it.
-pub(crate) fn millis_at<C: Clock>(clock: &C) -> Option<u64> {
-    match clock.monotonic() {
-        Ok(time) => u64::try_from(time.as_millis()).ok(),
-        Err(_) => None,
     }
 }
 
@@ -156,7 +118,7 @@ impl<P: Port, C: Clock> PatientPort<P, C> {
     /// Reports whether a datagram is sent now.
     fn is_due(&mut self, bytes: &[u8]) -> bool
         ensures port { self.new.port ≡ self.old.port }
-        ensures time { self.new.rested ≡ self.old.rested }
+        ensures time { self.new.rests ≡ self.old.rests }
     {
         let now = time_of(&self.clock);
         match brief_of(bytes) {
@@ -169,7 +131,7 @@ impl<P: Port, C: Clock> PatientPort<P, C> {
     /// Records a datagram that was received.
     fn take_note(&mut self, bytes: &[u8])
         ensures port { self.new.port ≡ self.old.port }
-        ensures time { self.new.rested ≡ self.old.rested }
+        ensures time { self.new.rests ≡ self.old.rests }
     {
         self.came = true;
         let now = time_of(&self.clock);
@@ -192,7 +154,7 @@ impl<P: Port, C: Clock> PatientPort<P, C> {
             (λ came. MatchOption came ⊤ (λ r. (r.1 ≤ max_received) × ⊤)) (λ _. ⊤) }
         ensures failures { P.failure_count self.new.port
             ≡ counted result (P.failure_count self.old.port) }
-        ensures time { self.new.rested ≡ self.old.rested }
+        ensures time { self.new.rests ≡ self.old.rests }
     {
         let left = self.pace.left(time_of(&self.clock));
         if left == 0 {
@@ -212,7 +174,7 @@ impl<P: Port, C: Clock> PatientPort<P, C> {
 impl<P: Port, C: Clock> Port for PatientPort<P, C> {
     ghost failure_count = { λ p. P.failure_count p.port };
 
-    ghost rested = { λ p. p.rested };
+    ghost rested = { λ p. p.rests.rested };
 
     fn send(&mut self, to: u16, bytes: &[u8]) -> Result<(), PortFault> {
         if !self.is_due(bytes) {
@@ -244,7 +206,7 @@ impl<P: Port, C: Clock> Port for PatientPort<P, C> {
             thread::sleep(&self.clock, Duration::from_millis(u64::from(SHORTEST)));
         }
         let now = millis_at(&self.clock);
-        self.end_rest(now)
+        self.rests.end(now)
     }
 }
 

@@ -33,6 +33,13 @@ impl<P, R: Eprint> TellingPort<P, R> {
         }
     }
 
+    /// Returns the inner port.
+    pub fn port(&self) -> &P
+        ensures { result.now ≡ self.now.port }
+    {
+        &self.port
+    }
+
     /// Returns how much passed; nothing is counted unless the port is verbose.
     pub fn counts(&self) -> Counts {
         self.watch.counts()

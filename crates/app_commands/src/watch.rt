@@ -37,6 +37,7 @@ impl fmt::Display for Counts {
 pub enum Refusal {
     Foreign,
     WrongScene,
+    OtherRun,
     BadViewer,
     OldBoot,
 }
@@ -46,8 +47,9 @@ impl Refusal {
         match self {
             Refusal::Foreign => 0,
             Refusal::WrongScene => 1,
-            Refusal::BadViewer => 2,
-            Refusal::OldBoot => 3,
+            Refusal::OtherRun => 2,
+            Refusal::BadViewer => 3,
+            Refusal::OldBoot => 4,
         }
     }
 
@@ -55,6 +57,7 @@ impl Refusal {
         match self {
             Refusal::Foreign => "not a datagram of a shared world",
             Refusal::WrongScene => "another scene",
+            Refusal::OtherRun => "another run",
             Refusal::BadViewer => "no such viewer",
             Refusal::OldBoot => "an old boot",
         }
@@ -121,7 +124,7 @@ pub struct Watch {
     asked: u32,
     is_behind: bool,
     wait: Wait,
-    told: [bool; 4],
+    told: [bool; 5],
     counts: Counts,
 }
 
@@ -137,7 +140,7 @@ impl Watch {
             asked: 1,
             is_behind: false,
             wait: Wait::Idle(0),
-            told: [false; 4],
+            told: [false; 5],
             counts: Counts {
                 turns: 0,
                 received: 0,
@@ -181,6 +184,8 @@ impl Watch {
         let brief = match how_came(bytes, &self.mark) {
             Came::Foreign => return Some(Refusal::Foreign),
             Came::Elsewhere => return Some(Refusal::WrongScene),
+            Came::OtherRun => return Some(Refusal::OtherRun),
+            Came::Hello => return None,
             Came::Here(brief) => brief,
         };
         match (self.peer, brief) {

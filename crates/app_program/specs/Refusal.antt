@@ -26,7 +26,7 @@ use Rattle.app_program.specs.declared.refusal.Failure.{Failure}
 use Rattle.app_program.specs.declared.refusal.Failure.TheVariants.{Order, Job, Run, Share}
 
 -- ---- statuses: 1 for scenes, scripts and snapshots, 2 for words, boots and jobs, 3 for turns that
--- are used up, 4 for devices, 5 for memory
+-- are used up and for a run that a viewer can't be in, 4 for devices, 5 for memory
 
 abbrev pub read_status : ReadFaultKind → ℕ
 read_status read.Memory = 5
@@ -68,6 +68,9 @@ share_status share.Port = 4
 share_status share.TurnsUsedUp = 3
 share_status share.BootNotNew = 2
 share_status share.BadSnapshot = 1
+share_status share.OtherRun = 3
+share_status share.OtherList = 3
+share_status share.NoWelcome = 3
 share_status share.Spoiled = 5
 share_status share.Memory = 5
 
@@ -100,6 +103,9 @@ share_fault_name share.Port = codes "Port"
 share_fault_name share.TurnsUsedUp = codes "TurnsUsedUp"
 share_fault_name share.BootNotNew = codes "BootNotNew"
 share_fault_name share.BadSnapshot = codes "BadSnapshot"
+share_fault_name share.OtherRun = codes "OtherRun"
+share_fault_name share.OtherList = codes "OtherList"
+share_fault_name share.NoWelcome = codes "NoWelcome"
 share_fault_name share.Spoiled = codes "Spoiled"
 share_fault_name share.Memory = codes "Memory"
 

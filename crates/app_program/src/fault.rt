@@ -13,6 +13,12 @@ pub enum ShareFault {
     BootNotNew,
     #[error("what was gathered is not a snapshot of the scene")]
     BadSnapshot,
+    #[error("the host is of another run")]
+    OtherRun,
+    #[error("an input is of another list")]
+    OtherList,
+    #[error("the host didn't welcome the viewer")]
+    NoWelcome,
     #[error("memory was refused before")]
     Spoiled,
     #[error("memory was refused")]

@@ -75,6 +75,9 @@ fn share_status(fault: ShareFault) -> u8
         ShareFault::BadSnapshot => 1,
         ShareFault::BootNotNew => 2,
         ShareFault::TurnsUsedUp => 3,
+        ShareFault::OtherRun => 3,
+        ShareFault::OtherList => 3,
+        ShareFault::NoWelcome => 3,
         ShareFault::Port => 4,
         ShareFault::Spoiled => 5,
         ShareFault::Memory => 5,
@@ -82,7 +85,8 @@ fn share_status(fault: ShareFault) -> u8
 }
 
 /// Returns the exit status: 1 for a refused scene, its scripts or a snapshot; 2 for words, boots
-/// and jobs; 3 for turns that are used up; 4 for devices; 5 for memory.
+/// and jobs; 3 for turns that are used up, or a run that a viewer can't be in; 4 for devices; 5 for
+/// memory.
 pub fn status_of(failure: &Failure) -> u8
     ensures { result ≡ status failure.now }
 {
@@ -132,6 +136,9 @@ fn share_fault_name(fault: ShareFault) -> &'static str
         ShareFault::TurnsUsedUp => "TurnsUsedUp",
         ShareFault::BootNotNew => "BootNotNew",
         ShareFault::BadSnapshot => "BadSnapshot",
+        ShareFault::OtherRun => "OtherRun",
+        ShareFault::OtherList => "OtherList",
+        ShareFault::NoWelcome => "NoWelcome",
         ShareFault::Spoiled => "Spoiled",
         ShareFault::Memory => "Memory",
     }

@@ -164,6 +164,8 @@ asked_range (View asked) p h = record {
   at_low = at_least (codes "at") p.1 1 65535 asked.at h.1.at;
   give_low = at_least (codes "give") p.1 1 65535 asked.give h.1.give;
   give_turns_low = h.1.give_turns.low_end;
+  wire_low = at_least (codes "wire") p.1 1 2 asked.wire h.1.wire;
+  wire_high = at_most (codes "wire") p.1 1 2 asked.wire h.1.wire;
   together = h.2;
 }
 asked_range (Recall until info) p h = at_most (codes "until") p.1 0 1048576 until h.1

@@ -6,7 +6,7 @@ use Rattle.clap.specs.Simple.{on_top}
 use Rattle.app_words.specs.Options.{viewers_rule, turns_rule, port_rule, keep_rule, every_rule}
 use Rattle.app_words.specs.Options.{until_rule}
 use Rattle.app_words.specs.Options.{who_rule, boot_rule, exactly_rule, at_rule, give_rule}
-use Rattle.app_words.specs.Options.{give_turns_rule, host_viewers_rule, host_turns_rule}
+use Rattle.app_words.specs.Options.{give_turns_rule, wire_rule, host_viewers_rule, host_turns_rule}
 use Rattle.app_words.specs.Options.{log_rule, new_log_rule, keep_names_rule, text_rule}
 use Rattle.app_words.specs.Options.{join_rule, info_rule, list_rule, verbose_rule, number_rule, flag_rule}
 use Rattle.app_words.specs.declared.commands.CommandWords.{CommandWords}
@@ -54,11 +54,11 @@ host_app = taking (codes "host")
     ∷ log_rule ∷ new_log_rule ∷ verbose_rule ∷ [])
 
 -- `view --port P --who V --boot B --until N --exactly N --turns T --at Q --give Q --give-turns T
--- --join -v`
+-- --wire VERSION --join -v`
 unfoldable pub view_app : App
 view_app = taking (codes "view")
     (port_rule ∷ who_rule ∷ boot_rule ∷ until_rule ∷ exactly_rule ∷ turns_rule ∷ at_rule
-    ∷ give_rule ∷ give_turns_rule ∷ join_rule ∷ verbose_rule ∷ [])
+    ∷ give_rule ∷ give_turns_rule ∷ wire_rule ∷ join_rule ∷ verbose_rule ∷ [])
 
 -- `recall --until N --info`
 unfoldable pub recall_app : App

@@ -88,6 +88,10 @@ abbrev pub give_turns_rule : Rule
 give_turns_rule =
     record (ranged (codes "give-turns") 1 4294967295) { defaults = codes "1000000" ∷ [] }
 
+-- `--wire VERSION`, 1 or 2
+abbrev pub wire_rule : Rule
+wire_rule = ranged (codes "wire") 1 2
+
 -- `--NAME`, a flag
 abbrev pub flag : Text → Rule
 flag name = record (new_rule name) { long = Some name; action = Some SetTrue }

@@ -94,6 +94,9 @@ MayHaveAt rows at = MayHaveNumberIn (codes "at") rows 1 65535 at
 abbrev pub MayHaveGive : List Row → Option ℕ → Type 0
 MayHaveGive rows give = MayHaveNumberIn (codes "give") rows 1 65535 give
 
+abbrev pub MayHaveWire : List Row → Option ℕ → Type 0
+MayHaveWire rows wire = MayHaveNumberIn (codes "wire") rows 1 2 wire
+
 -- one of `--until` and `--exactly` was given, and it says when a viewer ends
 abbrev pub IsEnd : List Row → ViewEnd → Type 0
 IsEnd rows (Until n) = MayHaveUntil rows (Some n) × MayHaveExactly rows None
@@ -166,6 +169,7 @@ pub record AsksView (rows : List Row) (o : ViewOrder) : Type 0 where
   pub at : MayHaveAt rows o.at
   pub give : MayHaveGive rows o.give
   pub give_turns : IsGiveTurns rows o.give_turns
+  pub wire : MayHaveWire rows o.wire
   pub join : o.join ≡ is_given (codes "join") rows
   pub verbose : o.verbose ≡ is_given (codes "verbose") rows
 
@@ -219,6 +223,8 @@ pub record ViewInRange (o : ViewOrder) : Type 0 where
   pub at_low : IfSome o.at (λ q. 1 ≤ q)
   pub give_low : IfSome o.give (λ q. 1 ≤ q)
   pub give_turns_low : 1 ≤ o.give_turns
+  pub wire_low : IfSome o.wire (λ v. 1 ≤ v)
+  pub wire_high : IfSome o.wire (λ v. v ≤ 2)
   pub together : misfit_of o ≡ None
 
 -- the numbers of an order are in the ranges that hosts and viewers take

@@ -16,7 +16,7 @@ use crate::help::{
 use crate::options::{
     AT, BOOT, EVERY, EXACTLY, FlagOption, GIVE, GIVE_TURNS, HOST_TURNS, HOST_UNTIL, HOST_VIEWERS,
     INFO, JOIN, KEEP, KEEP_NAMES, LIST, LOG, NEW_LOG, NumberOption, PORT, RECALL_UNTIL, TURNS,
-    TextOption, VERBOSE, VIEW_UNTIL, VIEWERS, WHO, flag_arg, number_arg, text_arg,
+    TextOption, VERBOSE, VIEW_UNTIL, VIEWERS, WHO, WIRE, flag_arg, number_arg, text_arg,
 };
 use clap::Command;
 use std::alloc::{AllocError, Global};
@@ -90,7 +90,7 @@ static OTHER_COMMANDS: [CommandWords; 4] = [
         about: "Offer points to a host over UDP, apply what it numbers, and print trace and scene",
         after_help: VIEW_HELP,
         options: &[
-            PORT, WHO, BOOT, VIEW_UNTIL, EXACTLY, TURNS, AT, GIVE, GIVE_TURNS,
+            PORT, WHO, BOOT, VIEW_UNTIL, EXACTLY, TURNS, AT, GIVE, GIVE_TURNS, WIRE,
         ],
         texts: &[],
         flags: &[JOIN, VERBOSE],
@@ -156,7 +156,7 @@ fn bare_command<'a>(alloc: Global) -> Result<Command<'a>, AllocError>
     ensures local { IfOk result (λ c. (fields_of c).has_globals ≡ false) }
 {
     Command::new(alloc, "x3d_share")
-        .version("0.2.0")
+        .version("0.3.0")
         .propagate_version(true)
         .subcommand_required(true)
         .disable_help_subcommand(true)

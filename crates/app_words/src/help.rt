@@ -149,6 +149,9 @@ these 32 take a millisecond or two, so 1000000 last about a minute.
 A turn of the others takes up to 64 datagrams. If nothing comes, a turn waits 50 milliseconds, and
 up to 50 more pass before the next, so 1000000 turns last up to 28 hours.
 A viewer that is stopped by a signal before its inputs are applied prints nothing.
+It asks the host for its run, for a second, and then stays in it: datagrams of other runs are
+dropped. If the host doesn't answer, it speaks version 1 of datagrams, in which a run has no name.
+With --wire 2 it asks for 10 seconds and then ends, with --wire 1 it doesn't ask.
 
 Example:
   x3d_share view --port 4000 --who 0 --boot 1 --until 2 < examples/view.job
@@ -157,7 +160,7 @@ Status:
   0  the trace and the scene are printed
   1  the scene is refused, or with --join, what was gathered is not a snapshot of it
   2  the words or the job are refused, or with --join, the boot is
-  3  all turns were used up
+  3  all turns were used up, the run is over, or with --wire 2, the host didn't answer
   4  a device failed
   5  memory ran out";
 

@@ -224,6 +224,15 @@ pub const GIVE_TURNS: NumberOption = NumberOption {
     help: "How many turns it gives, 1 to 4294967295",
 };
 
+pub const WIRE: NumberOption = NumberOption {
+    name: "wire",
+    low: 1,
+    high: 2,
+    unless: Unless::Nothing,
+    value: "VERSION",
+    help: "The version of datagrams, 1 or 2 [default: 2, or else 1]",
+};
+
 pub const JOIN: FlagOption = FlagOption {
     name: "join",
     letter: None,

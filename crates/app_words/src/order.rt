@@ -69,6 +69,8 @@ pub struct ViewOrder {
     pub give: Option<u16>,
     /// How many turns it gives, 1 to 2^32 - 1.
     pub give_turns: u32,
+    /// The version of datagrams, 1 or 2; `None` for 2, or 1 if the host doesn't answer in 2.
+    pub wire: Option<u8>,
     /// Joins from the pieces of another viewer's snapshot.
     pub join: bool,
     /// Reports events on standard error.

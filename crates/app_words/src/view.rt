@@ -5,6 +5,7 @@ ghost use Rattle.clap.specs.Words.{rows_of, found_of};
 ghost use Rattle.app_words.specs.Words.{AsksView, IsEnd, end_of};
 ghost use Rattle.app_words.specs.Words.{IsGiveTurns, IsWho, IsBoot};
 ghost use Rattle.app_words.specs.Words.{MayHaveAt, MayHaveExactly, MayHaveGive, MayHaveNumberIn};
+ghost use Rattle.app_words.specs.Words.{MayHaveWire};
 ghost use Rattle.app_words.specs.declared.order.ViewEnd.{ViewEnd as EndOf};
 ghost use Rattle.app_words.specs.declared.order.ViewOrder.{ViewOrder as ViewOf};
 
@@ -75,6 +76,19 @@ fn give_turns_in(found: &ArgMatches<'_>) -> Option<u32>
     number_in(found, "give-turns", 1, u32::MAX)
 }
 
+/// Returns the version of datagrams, or `Some(None)` if the option was left out.
+fn wire_in(found: &ArgMatches<'_>) -> Option<Option<u8>>
+    ensures some { IfSome result (λ o. MayHaveWire (rows_of (found_of found.now)) o) }
+    ensures none { IfNone result
+        ((o : Option ℕ) → ¬ MayHaveWire (rows_of (found_of found.now)) o) }
+{
+    match optional_in(found, "wire", 1, 2) {
+        Some(Some(wire)) => Some(Some(wire as u8)),
+        Some(None) => Some(None),
+        None => None,
+    }
+}
+
 /// Returns the end that `--until` and `--exactly` ask for, if exactly one of them has a number.
 fn end_of(until: Option<u32>, exactly: Option<u32>) -> Option<ViewEnd>
     ensures { result ≡ end_of until exactly }
@@ -132,6 +146,9 @@ pub(crate) fn view_asked(found: &ArgMatches<'_>) -> Option<ViewOrder>
     let Some(give_turns) = give_turns_in(found) else {
         return None;
     };
+    let Some(wire) = wire_in(found) else {
+        return None;
+    };
     Some(ViewOrder {
         port,
         who,
@@ -141,6 +158,7 @@ pub(crate) fn view_asked(found: &ArgMatches<'_>) -> Option<ViewOrder>
         at,
         give,
         give_turns,
+        wire,
         join: is_named(found, "join"),
         verbose: is_named(found, "verbose"),
     })

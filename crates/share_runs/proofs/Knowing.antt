@@ -23,7 +23,7 @@ use Rattle.share_runs.specs.declared.viewer_run.Early.{Early}
 use Rattle.share_runs.specs.declared.viewer_run.ViewerRun.{ViewerRun}
 use Rattle.share_runs.specs.Known.{IsOf, chain_in, is_early}
 use Rattle.share_runs.specs.Steps.{after_step, input_step, said_step, step_of}
-use Rattle.share_runs.specs.Hearing.{Changes, KnowsMore, Holds, IsDue, IsGathered, IsHeard, IsNext, IsOfList, IsTaken, Keeps, early_of, early_said, is_due, text_of}
+use Rattle.share_runs.specs.Hearing.{Changes, KnowsMore, MayHold, IsDue, IsGathered, IsHeard, IsNext, IsOfList, IsTaken, Keeps, early_of, early_said, is_due, text_of}
 
 -- ---- chains
 
@@ -188,8 +188,8 @@ due_taken {A} items xs ys o e r a old new same found is got t =
 grows_same : (old new : KnownList) → new.from ≡ old.from → (more : List (List ℕ)) → new.chains.items ≡ old.chains.items ++ more → KnowsMore old new
 grows_same old new f more e = inr (f, more, e)
 
-holds_same : (xs more ys : List Early) → ys ≡ xs → Holds xs more ys
-holds_same xs more ys e = (xs, inl refl, inl e)
+holds_same : (xs more ys : List Early) → ys ≡ xs → MayHold xs more ys
+holds_same xs more ys e = inr e
 
 kept_same : (old new : ViewerRun) (from : ℕ) (m : Message2) → new ≡ old → Keeps old from m new
 kept_same old new from m e = record {

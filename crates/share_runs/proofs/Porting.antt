@@ -1,6 +1,6 @@
 -- What a port of a viewer in a run hands on, from one moment to a later one.
 use Rattle.std.proofs.Common.{◌≡◌, ℕ, Bool, true, false, cond, List, [], ◌∷◌, ◌++◌, length, Option, Some, None, inl, inr, refl, sym, ap, subst, ◌∙◌, arith, append_assoc, append-nil}
-use Rattle.std.specs.Prelude.{IfOk, IfSome, MatchOption, Result, Ok, Err, nat_eq}
+use Rattle.std.specs.Prelude.{IfOk, IfSome, MatchOption, Result, Ok, Err, drop, filter, nat_eq, nat_lt}
 use Rattle.std.specs.List.{AllByRecursion, find}
 use Rattle.std.specs.Option.{option_map}
 use Rattle.std.specs.Cmp.Lexicographic.{pointwise, bytes_decides}
@@ -23,7 +23,7 @@ use Rattle.share_runs.specs.declared.view_port.Handing.{Handing}
 use Rattle.share_runs.specs.declared.view_port.Handing.TheVariants.{Dropped}
 use Rattle.share_runs.specs.declared.viewer_run.Early.{Early}
 use Rattle.share_runs.specs.declared.viewer_run.ViewerRun.{ViewerRun}
-use Rattle.share_runs.specs.Hearing.{Holds, IsDue, IsHeard, IsTaken, KnowsMore, early_of, is_due}
+use Rattle.share_runs.specs.Hearing.{MayHold, IsDue, IsDueInput, IsHeard, IsReleased, IsTaken, KnowsMore, early_of, is_due, is_needed, kept_of}
 use Rattle.share_runs.specs.Port.{HasCome, HaveCome, IsRecorded, Hears, IsBytesTaken, handed_in, handed_of}
 use Rattle.share_runs.specs.Steps.{said_step, step_of}
 use Rattle.share_runs.proofs.Knowing.{is_heard, keeps}
@@ -76,16 +76,25 @@ all_come_found passed session p (x ∷ xs) e h is = go (p x) is (all_come_found 
   go true same later = subst (λ (z : Early). HasCome passed z.from (datagram (Said session (body.Input z.input)))) (same_Some x e same) h.0
   go false same later = later same
 
-all_come_held : (passed : List Traffic) (session : List ℕ) (old more new : List Early) → AllCome passed session old → AllCome passed session more → Holds old more new → AllCome passed session new
-all_come_held passed session old more new h k (kept, from, to) =
-    let first : AllCome passed session kept = elim from [
-      | inl same ↦ subst (λ (z : List Early). AllCome passed session z) (sym same) h
-      | inr none ↦ subst (λ (z : List Early). AllCome passed session z) (sym none) tt
-    ] in
-    elim to [
-      | inl same ↦ subst (λ (z : List Early). AllCome passed session z) (sym same) first
-      | inr longer ↦ subst (λ (z : List Early). AllCome passed session z) (sym longer) (all_come_append passed session kept more first k)
-    ]
+all_come_rest : (passed : List Traffic) (session : List ℕ) (xs : List Early) → AllCome passed session xs → AllCome passed session (drop 1 xs)
+all_come_rest passed session [] h = tt
+all_come_rest passed session (e ∷ es) h = h.1
+
+all_come_either : (passed : List Traffic) (session : List ℕ) (b : Bool) (xs ys : List Early) → AllCome passed session xs → AllCome passed session ys → AllCome passed session (cond b xs ys)
+all_come_either passed session true xs ys h k = h
+all_come_either passed session false xs ys h k = k
+
+all_come_held : (passed : List Traffic) (session : List ℕ) (old more new : List Early) → AllCome passed session old → AllCome passed session more → MayHold old more new → AllCome passed session new
+all_come_held passed session old more new h k (inl holds) =
+    let all : AllCome passed session (old ++ more) = all_come_append passed session old more h k in
+    subst (λ (z : List Early). AllCome passed session z) (sym holds)
+    (all_come_either passed session (nat_lt 64 (length (old ++ more))) (drop 1 (old ++ more)) (old ++ more) (all_come_rest passed session (old ++ more) all) all)
+all_come_held passed session old more new h k (inr same) = subst (λ (z : List Early). AllCome passed session z) (sym same) h
+
+all_come_filtered : (passed : List Traffic) (session : List ℕ) (p : Early → Bool) (xs : List Early) → AllCome passed session xs → AllCome passed session (filter p xs)
+all_come_filtered passed session p [] h = tt
+all_come_filtered passed session p (x ∷ xs) h =
+    all_come_either passed session (p x) (x ∷ filter p xs) (filter p xs) (h.0, all_come_filtered passed session p xs h.1) (all_come_filtered passed session p xs h.1)
 
 -- ---- nothing is handed on, and nothing changes
 
@@ -127,7 +136,7 @@ module _ (old new : ViewerRun) (a b : Option (List Traffic)) (from : ℕ) (what 
   abbrev paired : List ℕ → ℕ × List ℕ
   paired t = (from, t)
 
-  held_then : (passed : List Traffic) → HaveCome passed old → HasCome passed from (datagram m) → new.session ≡ old.session → Holds old.held.items (early_of from m) new.held.items → HaveCome passed new
+  held_then : (passed : List Traffic) → HaveCome passed old → HasCome passed from (datagram m) → new.session ≡ old.session → MayHold old.held.items (early_of from m) new.held.items → HaveCome passed new
   held_then passed held come same holds =
       subst (λ (s : List ℕ). AllCome passed s new.held.items) (sym same)
       (all_come_held passed old.session old.held.items (early_of from m) new.held.items held (all_come_early passed old.session from what come) holds)
@@ -241,6 +250,29 @@ hears_then old mid new a b c handed h k = record {
   came = λ r. k.came (h.recorded r);
 }
 
+-- ---- what the viewer has is held no longer
+
+hears_released : (old mid : ViewerRun) (a : Option (List Traffic)) → IsReleased old mid → Hears old mid a a None
+hears_released old mid a r =
+    let session : mid.session ≡ old.session = ap (λ (z : ViewerRun). z.session) r.0 in
+    record {
+      mark = ap (λ (z : ViewerRun). z.mark) r.0;
+      session = session;
+      knows_more = subst (λ (z : KnownList). KnowsMore old.known z) (sym (ap (λ (z : ViewerRun). z.known) r.0)) (knows_itself old.known);
+      of_run = tt;
+      recorded = λ k. record {
+        passed = k.passed;
+        is = k.is;
+        held =
+            subst (λ (s : List ℕ). AllCome k.passed s mid.held.items) (sym session)
+            (subst (λ (z : List Early). AllCome k.passed old.session z) (sym r.1) (all_come_filtered k.passed old.session (is_needed old.known) old.held.items k.held));
+      };
+      came = λ k. tt;
+    }
+
+pub hears_next : (old new : ViewerRun) (a : Option (List Traffic)) (handed : Option (ℕ × List ℕ)) → IsDueInput old handed new → Hears old new a a handed
+hears_next old new a handed (mid, released, due) = hears_then old mid new a a a handed (hears_released old mid a released) (hears_due mid new a handed due)
+
 -- ---- for the calls of the port
 
 pub at_some : {X : Type 0} (N : Type 0) (S : X → Type 0) (o : Option X) (x : X) → o ≡ Some x → MatchOption o N S → S x
@@ -271,14 +303,14 @@ module _ {A : Type 0} (items : A → List ℕ) where
   both_of h = (h.0, items h.1)
 
   pub due_hears : (old new : ViewerRun) (a : Option (List Traffic)) (o : Option (ℕ × A)) (x : ℕ × A) → o ≡ Some x
-      → IsDue (find (is_due old.known) old.held.items) old (option_map both_of o) new → Hears old new a a (Some (x.0, items x.1))
+      → IsDueInput old (option_map both_of o) new → Hears old new a a (Some (x.0, items x.1))
   due_hears old new a o x is d =
-      hears_due old new a (Some (x.0, items x.1)) (subst (λ (z : Option (ℕ × A)). IsDue (find (is_due old.known) old.held.items) old (option_map both_of z) new) is d)
+      hears_next old new a (Some (x.0, items x.1)) (subst (λ (z : Option (ℕ × A)). IsDueInput old (option_map both_of z) new) is d)
 
   pub not_due_hears : (old new : ViewerRun) (a : Option (List Traffic)) (o : Option (ℕ × A)) → o ≡ None
-      → IsDue (find (is_due old.known) old.held.items) old (option_map both_of o) new → Hears old new a a None
+      → IsDueInput old (option_map both_of o) new → Hears old new a a None
   not_due_hears old new a o is d =
-      hears_due old new a None (subst (λ (z : Option (ℕ × A)). IsDue (find (is_due old.known) old.held.items) old (option_map both_of z) new) is d)
+      hears_next old new a None (subst (λ (z : Option (ℕ × A)). IsDueInput old (option_map both_of z) new) is d)
 
 pub dropped_then : (old mid new : ViewerRun) (a b c : Option (List Traffic)) (r : Result Handing PortFault) (came : Handing) (handed : Option (ℕ × List ℕ)) → r ≡ Ok came → came ≡ Dropped
     → Hears old mid a b (handed_of r) → Hears mid new b c handed → Hears old new a c handed

@@ -1,5 +1,7 @@
 -- What a viewer of a run hands on, and what it keeps (our choice).
 use Rattle.std.specs.Prelude.{◌≡◌, ◌⊎◌, ℕ, ◌+◌, ◌++◌, ◌∷◌, ◌==◌, [], ⊤, Bool, true, List, length, Option, None, Some, IfSome}
+use Rattle.std.specs.Prelude.{drop, filter, nat_le, nat_lt, if◌then◌else◌}
+use Rattle.std.specs.List.{find}
 use Rattle.std.specs.Option.{option_map}
 use Rattle.share_wire.specs.Datagram.{datagram}
 use Rattle.share_wire.specs.declared.message.Message.{Message}
@@ -83,11 +85,17 @@ early_of from (Said session (Piece p)) = []
 early_of from (Hello h) = []
 early_of from (Welcome w) = []
 
--- a held input more, or not, for lack of memory; all may have been dropped before, for lack of room
+-- of more than 64 held inputs the one that came first goes
+abbrev pub kept_of : List Early → List Early
+kept_of held = if nat_lt 64 (length held) then drop 1 held else held
+
+-- an input more is held
 abbrev pub Holds : (old more new : List Early) → Type 0
-Holds old more new =
-    (kept : List Early) × ((kept ≡ old) ⊎ (kept ≡ []))
-    × ((new ≡ kept) ⊎ (new ≡ kept ++ more))
+Holds old more new = new ≡ kept_of (old ++ more)
+
+-- it is held, unless memory is refused; then nothing changes
+abbrev pub MayHold : (old more new : List Early) → Type 0
+MayHold old more new = Holds old more new ⊎ (new ≡ old)
 
 -- what changes: the chains, the starts, what is held
 pub record Changes (old new : ViewerRun) (next : List (List ℕ)) (more : List Prefix) : Type 0 where
@@ -115,7 +123,7 @@ IsTaken step.HandOn old from m handed new = (handed ≡ text_of old m) × (new �
 IsTaken step.Next old from m handed new = IsNext old m handed new
 IsTaken step.Hold old from m handed new =
     (handed ≡ None) × (new ≡ record old { held = new.held })
-    × Holds old.held.items (early_of from m) new.held.items
+    × MayHold old.held.items (early_of from m) new.held.items
 IsTaken step.Gather old from m handed new = IsGathered old m handed new
 IsTaken step.Drop old from m handed new = (handed ≡ None) × (new ≡ old)
 IsTaken step.OtherRun old from m handed new = (handed ≡ None) × (new ≡ old)
@@ -127,9 +135,19 @@ pub record Keeps (old : ViewerRun) (from : ℕ) (m : Message2) (new : ViewerRun)
   pub mark : new.mark ≡ old.mark
   pub session : new.session ≡ old.session
   pub grows : KnowsMore old.known new.known
-  pub held : Holds old.held.items (early_of from m) new.held.items
+  pub held : MayHold old.held.items (early_of from m) new.held.items
 
 -- ---- held inputs
+
+-- the viewer lacks a held input, or the ones before it
+abbrev pub is_needed : KnownList → Early → Bool
+is_needed k e = nat_le (k.from + length k.chains.items) e.input.number
+
+-- no input is held that the viewer has
+abbrev pub IsReleased : (old new : ViewerRun) → Type 0
+IsReleased old new =
+    (new ≡ record old { held = new.held })
+    × (new.held.items ≡ filter (is_needed old.known) old.held.items)
 
 -- the input that was held, as a message
 abbrev pub early_said : ViewerRun → Early → Message2
@@ -138,7 +156,7 @@ early_said r e = Said r.session (Input e.input)
 abbrev pub is_due : KnownList → Early → Bool
 is_due k e = (k.from + length k.chains.items) == e.input.number
 
--- the first held input with the next number is taken, as if it came now, and stays held
+-- the first held input with the next number is taken, as if it came now
 abbrev pub IsDue : Option Early → (old : ViewerRun) → Option (ℕ × List ℕ)
     → (new : ViewerRun) → Type 0
 IsDue None old handed new = (handed ≡ None) × (new ≡ old)
@@ -146,3 +164,9 @@ IsDue (Some e) old handed new =
     IsTaken (step_of old.session old.known (early_said old e)) old e.from (early_said old e)
     (option_map (λ h. h.1) handed) new
     × IfSome handed (λ h. h.0 ≡ e.from)
+
+-- what the viewer has is held no longer, and then the next input is taken, if it is held
+abbrev pub IsDueInput : (old : ViewerRun) → Option (ℕ × List ℕ) → (new : ViewerRun) → Type 0
+IsDueInput old handed new =
+    (mid : ViewerRun) × IsReleased old mid
+    × IsDue (find (is_due mid.known) mid.held.items) mid handed new

@@ -11,14 +11,11 @@ use crate::greetings::{Greetings, with_cookie};
 use share_session::{Hello, Message2, Welcome, decode, encode};
 use share_turns::{MOST, Port, PortFault, RECEIVED};
 
-/// How often a viewer waits for a Welcome, each time for at most `WAIT` milliseconds: a second in
-/// all.
+/// How often a viewer says Hello, and then waits for a Welcome for at most `WAIT` milliseconds: a
+/// second in all.
 const WAITS: u32 = 20;
 
 const WAIT: u32 = 50;
-
-/// A viewer that isn't welcomed says Hello again after this many waits.
-const WAITS_A_HELLO: u32 = 5;
 
 /// The age of a nonce that was answered, in milliseconds: the time that `arrive` takes at most.
 const ARRIVAL_MILLIS: u32 = 1_000;
@@ -71,18 +68,14 @@ fn receive_welcome<P: Port>(
     }
 }
 
-/// Says Hello, if it is time to say it.
-fn say_hello<P: Port>(port: &mut P, host: u16, hello: &Hello, waits: u32) -> Result<(), PortFault>
+fn say_hello<P: Port>(port: &mut P, host: u16, hello: &Hello) -> Result<(), PortFault>
     ensures failures { P.failure_count port.new ≡ counted result (P.failure_count port.old) }
     ensures time { P.rested port.new ≡ P.rested port.old }
 {
-    if waits % WAITS_A_HELLO > 0 {
-        return Ok(());
-    }
     port.send(host, encode(&Message2::Hello(*hello)).as_slice())
 }
 
-/// Waits at most `waits` times for a Welcome.
+/// Says Hello and waits for a Welcome, at most `waits` times.
 fn await_welcome<P: Port>(
     port: &mut P,
     host: u16,
@@ -96,7 +89,7 @@ fn await_welcome<P: Port>(
     if waits == 0 {
         return Ok(None);
     }
-    say_hello(port, host, hello, waits)?;
+    say_hello(port, host, hello)?;
     port.wait(WAIT);
     match receive_welcome(port, hello, MOST)? {
         Some(welcome) => Ok(Some(welcome)),
@@ -104,9 +97,9 @@ fn await_welcome<P: Port>(
     }
 }
 
-/// Says Hello to the host, four times a second, and waits at most a second for a Welcome that
-/// answers it. Other datagrams are dropped. Returns `None` if no such Welcome came: then the host
-/// isn't there yet, or it speaks version 1 alone.
+/// Says Hello to the host, twenty times in a second, until a Welcome comes that answers it. Other
+/// datagrams are dropped. Returns `None` if no such Welcome came: then the host isn't there yet, or
+/// it speaks version 1 alone.
 ///
 /// Fails if a send or a receive fails.
 pub fn arrive<P: Port>(port: &mut P, host: u16, hello: &Hello) -> Result<Option<Welcome>, PortFault>

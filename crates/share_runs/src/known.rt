@@ -1,6 +1,6 @@
 //! What a viewer of a run knows of its list of inputs.
 
-ghost use Rattle.std.specs.Prelude.{◌≡◌, ◌+◌, ◌++◌, ◌∷◌, ◌==◌, [], length, OnErr, OnOk, nat_lt, slice_get};
+ghost use Rattle.std.specs.Prelude.{◌≡◌, ◌+◌, ◌++◌, ◌∷◌, ◌==◌, [], length, OnErr, OnOk, nat_le, nat_lt, slice_get};
 ghost use Rattle.share_runs.specs.Known as spec;
 
 use share_entries::Chain;
@@ -48,6 +48,12 @@ fn is_next(from: u64, count: u64, number: u64) -> bool
     number >= from && number - from == count
 }
 
+fn is_needed(from: u64, count: u64, number: u64) -> bool
+    ensures { result ≡ nat_le (from + count) number }
+{
+    number >= from && number - from >= count
+}
+
 fn start_at(starts: &[Prefix], n: u64) -> Option<Chain>
     ensures { result ≡ spec.start_at starts.now n }
 {
@@ -58,7 +64,7 @@ fn start_at(starts: &[Prefix], n: u64) -> Option<Chain>
 }
 
 impl KnownList {
-    ghost use Rattle.std.specs.Prelude.{◌≡◌, ◌++◌, ◌∷◌, ◌==◌, [], length, OnErr, OnOk};
+    ghost use Rattle.std.specs.Prelude.{◌≡◌, ◌++◌, ◌∷◌, ◌==◌, [], length, OnErr, OnOk, nat_le};
     ghost use Rattle.share_runs.specs.Known as spec;
     ghost use Rattle.share_runs.specs.Saying.{IsAsked};
 
@@ -74,6 +80,13 @@ impl KnownList {
         ensures { result ≡ ((self.now.from + length self.now.chains.items) == number) }
     {
         is_next(self.from, self.chains.len() as u64, number)
+    }
+
+    /// Reports whether an input has the next number or a later one.
+    pub(crate) fn is_needed(&self, number: u64) -> bool
+        ensures { result ≡ nat_le (self.now.from + length self.now.chains.items) number }
+    {
+        is_needed(self.from, self.chains.len() as u64, number)
     }
 
     /// Returns the chain after `n` inputs, if it is known there.

@@ -1,8 +1,8 @@
 //! A viewer in a run: what it hands on of the datagrams of that run, and what it keeps.
 
-ghost use Rattle.std.specs.Prelude.{◌≡◌, ◌⊎◌, [], ◌∷◌, ◌++◌, IfSome};
+ghost use Rattle.std.specs.Prelude.{◌≡◌, [], ◌∷◌, OnErr, OnOk, filter};
 ghost use Rattle.std.specs.List.{find};
-ghost use Rattle.share_runs.specs.Hearing.{Holds, is_due};
+ghost use Rattle.share_runs.specs.Hearing.{Holds, is_due, is_needed, kept_of};
 
 use crate::known::KnownList;
 use crate::saying::said_of;
@@ -33,15 +33,37 @@ pub struct ViewerRun {
     pub(crate) is_other_list: bool,
 }
 
-/// Holds an input. If there are `MAX_HELD`, they are dropped first. It is dropped if memory is
-/// refused.
-fn hold(held: &mut Vec<Early>, early: Early)
-    ensures { Holds held.old.items (early ∷ []) held.new.items }
+/// Drops the input that came first, if more than `MAX_HELD` are held.
+fn make_room(held: &mut Vec<Early>)
+    ensures { held.new.items ≡ kept_of held.old.items }
 {
-    if held.len() >= MAX_HELD {
-        held.clear();
+    if held.len() > MAX_HELD {
+        held.remove(0);
     }
-    let _held = held.push(early);
+}
+
+/// Holds an input. If `MAX_HELD` are held, the one that came first is dropped. Fails if memory is
+/// refused; then nothing changes.
+fn hold(held: &mut Vec<Early>, early: Early) -> Result<(), AllocError>
+    ensures ok { OnOk result (Holds held.old.items (early ∷ []) held.new.items) }
+    ensures err { OnErr result (held.new.items ≡ held.old.items) }
+{
+    held.push(early)?;
+    make_room(held);
+    Ok(())
+}
+
+fn is_needed(known: &KnownList, early: &Early) -> bool
+    ensures { result ≡ is_needed known.now early.now }
+{
+    known.is_needed(early.input.number.get())
+}
+
+/// Drops the inputs that a viewer has.
+fn release(known: &KnownList, held: &mut Vec<Early>)
+    ensures { held.new.items ≡ filter (is_needed known.now) held.old.items }
+{
+    held.retain(|early| is_needed(known, early));
 }
 
 fn is_due(known: &KnownList, early: &Early) -> bool
@@ -73,8 +95,8 @@ impl ViewerRun {
     ghost use Rattle.share_session.specs.Datagram.{datagram};
     ghost use Rattle.share_session.specs.Runs.{session_of};
     ghost use Rattle.share_runs.specs.Hearing.{IsGathered, IsHeard, IsNext};
-    ghost use Rattle.share_runs.specs.Hearing.{Holds, IsDue, IsTaken, Keeps, early_of, is_due};
-    ghost use Rattle.share_runs.specs.Hearing.{text_of};
+    ghost use Rattle.share_runs.specs.Hearing.{IsDue, IsDueInput, IsReleased, IsTaken, Keeps};
+    ghost use Rattle.share_runs.specs.Hearing.{MayHold, early_of, is_due, text_of};
     ghost use Rattle.share_runs.specs.Saying.{IsSaid, said_of};
     ghost use Rattle.share_runs.specs.Steps.{step_of};
 
@@ -167,15 +189,16 @@ impl ViewerRun {
         }
     }
 
-    /// Holds an input.
+    /// Holds an input, unless memory is refused.
     fn hold(&mut self, from: u16, message: &Message2)
         ensures others { self.new ≡ record self.old { held = self.new.held } }
-        ensures held { Holds self.old.held.items (early_of from message.now) self.new.held.items }
+        ensures held { MayHold self.old.held.items (early_of from message.now)
+            self.new.held.items }
     {
         let Message2::Said(_, Body2::Input(input)) = message else {
             return;
         };
-        hold(
+        let _held = hold(
             &mut self.held,
             Early {
                 from,
@@ -216,8 +239,15 @@ impl ViewerRun {
         self.taken(from, message)
     }
 
-    /// Hands on the next input, if it is held. Returns who sent it, and its datagram of version 1.
-    pub fn due(&mut self) -> Option<(u16, Packet)>
+    /// Drops the held inputs that the viewer has.
+    fn release(&mut self)
+        ensures { IsReleased self.old self.new }
+    {
+        release(&self.known, &mut self.held);
+    }
+
+    /// Hands on the next input, if it is held. It stays held.
+    fn take_due(&mut self) -> Option<(u16, Packet)>
         ensures exact { IsDue (find (is_due self.old.known) self.old.held.items) self.old
             (option_map (λ h. (h.0, h.1.items)) result) self.new }
     {
@@ -229,6 +259,15 @@ impl ViewerRun {
             return None;
         };
         Some((early.from, packet))
+    }
+
+    /// Hands on the next input, if it is held. Returns who sent it, and its datagram of version 1.
+    /// Held inputs that the viewer has are dropped first.
+    pub fn due(&mut self) -> Option<(u16, Packet)>
+        ensures { IsDueInput self.old (option_map (λ h. (h.0, h.1.items)) result) self.new }
+    {
+        self.release();
+        self.take_due()
     }
 
     /// Takes what the viewer says, as a datagram of version 1. Returns the datagram of version 2,

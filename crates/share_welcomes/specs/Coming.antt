@@ -4,7 +4,9 @@ use Rattle.std.specs.Prelude.{ℕ, ◌&&◌, Bool, List, Option, None, Some, Res
 use Rattle.std.specs.Cmp.Lexicographic.{pointwise}
 use Rattle.share_wire.specs.Datagram.{datagram}
 use Rattle.share_wire.specs.declared.message.Message.{Message}
+use Rattle.share_entries.specs.declared.head.Head.{Head}
 use Rattle.share_session.specs.Names.{NameView}
+use Rattle.share_session.specs.Runs.{session_of}
 use Rattle.share_session.specs.Heard.{heard}
 use Rattle.share_session.specs.declared.fault.DatagramFault.{DatagramFault}
 use Rattle.share_session.specs.declared.fault.DatagramFault.TheVariants.{BadPacket, BadVersion, BadTag, BadBody}
@@ -15,6 +17,23 @@ use Rattle.share_session.specs.declared.message.Message2.TheVariants.{Said, Hell
 use Rattle.share_welcomes.specs.declared.host_run.HostRun.{HostRun}
 use Rattle.share_welcomes.specs.declared.host_run.Coming.{Coming}
 use Rattle.share_welcomes.specs.declared.host_run.Coming.TheVariants.{Plain, Heard, Greets, Strange}
+
+-- ---- the run of a log
+
+abbrev pub no_name : NameView
+no_name = record { len = 0; bytes = replicate 64 0 }
+
+-- the run of a host whose log has this head; its world has no name
+abbrev pub run_of_head : Head → HostRun
+run_of_head h = record {
+  mark = h.mark;
+  run = h.run;
+  session = session_of h.mark h.run;
+  name = no_name;
+  viewers = h.viewers;
+}
+
+-- ---- what came
 
 abbrev pub is_same : (bytes other : List ℕ) → Bool
 is_same bytes other = pointwise nat_eq bytes other

@@ -4,8 +4,10 @@ ghost use Rattle.std.specs.Prelude.{◌≡◌, take, IsTrue};
 ghost use Rattle.share_wire.specs.Datagram.{datagram};
 ghost use Rattle.share_session.specs.Runs.{session_of};
 ghost use Rattle.share_session.specs.Welcomes.{answers};
+ghost use Rattle.share_entries.specs.Head.{is_viewer_count};
 ghost use Rattle.share_welcomes.specs.Coming as spec;
 
+use share_entries::Head;
 use share_session::{
     DatagramFault, Hello, Message2, Run, Session, ViewerCount, Welcome, WorldName, decode, heard,
     session_of,
@@ -69,8 +71,19 @@ fn fault_as(fault: DatagramFault) -> Coming
     }
 }
 
+/// Returns the name of a world that has none.
+fn no_name() -> WorldName
+    ensures { result ≡ spec.no_name }
+{
+    let Some(name) = WorldName::new(b"") else {
+        unreachable!();
+    };
+    name
+}
+
 impl HostRun {
     ghost use Rattle.std.specs.Prelude.{◌≡◌, IsTrue, length};
+    ghost use Rattle.share_entries.specs.Head.{is_viewer_count};
     ghost use Rattle.share_session.specs.Runs.{session_of};
     ghost use Rattle.share_session.specs.Welcomes.{answers};
     ghost use Rattle.share_session.specs.Decoding.{decoded};
@@ -94,6 +107,19 @@ impl HostRun {
             name,
             viewers,
         }
+    }
+
+    /// Returns the run of a host whose log has this head. Its world has no name.
+    pub fn of_head(head: &Head) -> HostRun
+        requires { IsTrue (is_viewer_count head.now.viewers) }
+        ensures { result ≡ spec.run_of_head head.now }
+    {
+        HostRun::new(
+            head.mark,
+            head.run,
+            no_name(),
+            ViewerCount::new(head.viewers),
+        )
     }
 
     /// Reports whether a Hello is to this host: of its scene and of its world's name.

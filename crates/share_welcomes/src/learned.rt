@@ -56,7 +56,7 @@ fn note_boot(boots: &mut [u32; PLACES], entry: &Entry)
 }
 
 impl Learned {
-    ghost use Rattle.std.specs.Prelude.{◌≡◌, ◌++◌, ◌∷◌, [], IfSome, OnErr, OnOk, ℕ, take};
+    ghost use Rattle.std.specs.Prelude.{◌≡◌, ◌<◌, ◌++◌, ◌∷◌, [], IfSome, OnErr, OnOk, ℕ, length, take};
     ghost use Rattle.share_session.specs.Follows.{IsOfLog};
     ghost use Rattle.share_welcomes.specs.Learned as spec;
 
@@ -86,11 +86,19 @@ impl Learned {
         Ok(())
     }
 
-    /// Learns the next entries. Fails if memory is refused; then it has learned the first of them.
+    /// Returns the number of entries.
+    pub fn len(&self) -> usize
+        ensures { result ≡ length self.now.entries }
+    {
+        self.links.len()
+    }
+
+    /// Learns the next entries. Fails if memory is refused; then it has learned the first of them,
+    /// and not all.
     pub fn learn(&mut self, entries: &[Entry]) -> Result<(), AllocError>
         ensures run { self.new.run ≡ self.old.run }
         ensures ok { OnOk result (self.new.entries ≡ self.old.entries ++ entries.now) }
-        ensures err { OnErr result ((count : ℕ)
+        ensures err { OnErr result ((count : ℕ) × (count < length entries.now)
             × (self.new.entries ≡ self.old.entries ++ take count entries.now)) }
     {
         for entry in entries {

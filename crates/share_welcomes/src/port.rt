@@ -68,6 +68,13 @@ impl<P> HostPort<P> {
         &self.port
     }
 
+    /// Returns the entries that the port has learned.
+    pub fn learned(&self) -> &Learned
+        ensures { result.now ≡ self.now.learned }
+    {
+        &self.learned
+    }
+
     fn fail(&mut self) -> PortFault
         ensures { self.new ≡ record self.old { failed = one_more self.old.failed } }
     {
@@ -314,7 +321,7 @@ impl<P: Port> Port for HostPort<P> {
 }
 
 impl<P: Port> Learns for HostPort<P> {
-    ghost use Rattle.std.specs.Prelude.{◌≡◌, ◌++◌, OnOk};
+    ghost use Rattle.std.specs.Prelude.{◌≡◌, ◌<◌, ◌++◌, ℕ, OnErr, OnOk, length, take};
     ghost use Rattle.share_turns.specs.Told.{counted};
     ghost use Rattle.share_welcomes.specs.Passing.{told_in_one};
 
@@ -325,6 +332,10 @@ impl<P: Port> Learns for HostPort<P> {
         ensures time { P.rested self.new.port ≡ P.rested self.old.port }
         ensures learned { OnOk result (self.new.learned.entries
             ≡ self.old.learned.entries ++ entries.now) }
+        // It failed in the middle: it lacks at least the last one.
+        ensures refused { OnErr result ((count : ℕ) × (count < length entries.now)
+            × (self.new.learned.entries
+            ≡ self.old.learned.entries ++ take count entries.now)) }
         ensures in_run { self.new.learned.run ≡ self.old.learned.run }
         ensures run { self.new.run ≡ self.old.run }
         ensures versions { self.new.versions ≡ self.old.versions }

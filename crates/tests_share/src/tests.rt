@@ -23,6 +23,7 @@ mod attending;
 mod cable;
 mod given;
 mod loading;
+mod meeting;
 mod pacing;
 mod runs;
 mod stored;

@@ -111,6 +111,23 @@ pub fn tell_host_end<R: Eprint>(rt: &R, verbose: bool, clocks: usize, inputs: u6
     }
 }
 
+/// How many datagrams of other runs came, in words.
+#[derive(Drop)]
+struct OthersCame(u64);
+
+impl fmt::Display for OthersCame {
+    fn fmt<W: fmt::Write>(&self, f: &mut fmt::Formatter<W>) -> fmt::Result {
+        write!(f, "{} datagrams of other runs dropped", self.0)
+    }
+}
+
+/// Reports how many datagrams of other runs came to a viewer, if `verbose` is set and some did.
+pub fn tell_others<R: Eprint>(rt: &R, verbose: bool, others: u64) {
+    if verbose && others > 0 {
+        let _told = rt.eprintln(OthersCame(others));
+    }
+}
+
 /// Reports the result of a viewer's run, if `verbose` is set.
 pub fn tell_view_end<R: Eprint>(rt: &R, verbose: bool, inputs: u32, counts: Counts) {
     if verbose {

@@ -3,40 +3,20 @@
 
 use crate::defaults::VIEWERS;
 use crate::end::End;
-use crate::ends::{tell_host_end, tell_log, tell_port};
+use crate::ends::tell_log;
 use crate::files::{LogDisk, disk_at, drawn_run};
-use crate::peers::host_plan;
-use app_commands::{PatientPort, Peer, SharedJob, TellingPort, Watch, bound, shared_job};
+use crate::hosts::{Starting, plan_of, read_clocks, run_at};
+use app_commands::{SharedJob, bound};
 use app_logs::{
-    AppendFault, Beat, Begun, Expected, Head, Log, LogFault, LogPlan, LoggedFault,
-    RunFault as LogRunFault, append_fault_of, go_on, is_viewer_count, log_run, make_log, recalled,
+    Begun, Expected, Head, Log, LogFault, go_on, is_viewer_count, make_log, recalled,
     recalled_info, times_after,
 };
-use app_program::{RunFault, ShareFault, read_whole, write_whole};
+use app_program::{RunFault, read_whole, write_whole};
 use app_words::{HostOrder, LogUse, Order};
-use share_turns::{TurnFault, UdpPort};
+use share_turns::UdpPort;
 use sqlite_disk::Disk;
 use std::alloc::Global;
 use std::io;
-
-/// Returns why turns ended early.
-fn turn_end(fault: TurnFault) -> End {
-    match fault {
-        TurnFault::Port => End::from(ShareFault::Port),
-        TurnFault::Spoiled => End::from(ShareFault::Spoiled),
-        TurnFault::Memory => End::from(ShareFault::Memory),
-    }
-}
-
-/// Returns why the turns of a host over a log ended early.
-fn run_end(fault: LogRunFault) -> End {
-    match fault {
-        LogRunFault::TurnsUsedUp => End::from(ShareFault::TurnsUsedUp),
-        LogRunFault::Turn(LoggedFault::Turn(fault)) => turn_end(fault),
-        LogRunFault::Turn(LoggedFault::Log(AppendFault::InDoubt)) => End::InDoubt,
-        LogRunFault::Turn(LoggedFault::Log(fault)) => End::Log(append_fault_of(fault)),
-    }
-}
 
 /// Makes a log with a run drawn at random.
 fn made(
@@ -85,24 +65,16 @@ fn begun_in(
     }
 }
 
-/// Returns what a host over a log does, which goes on after an input at time `last`.
-fn log_plan(asked: &HostOrder, last: i64) -> LogPlan {
-    let turns = match asked.turns {
+/// Returns how many turns a host over a log takes.
+fn turns_over_log(asked: &HostOrder) -> u64 {
+    match asked.turns {
         Some(turns) => u64::from(turns),
         None => u64::MAX,
-    };
-    LogPlan {
-        host: host_plan(asked),
-        beat: Beat {
-            every: asked.every,
-            base: last,
-        },
-        turns,
     }
 }
 
 /// Runs a host over its log at a port.
-fn run_at(
+fn run_over_log(
     rt: &HostRuntime,
     job: &SharedJob,
     asked: &HostOrder,
@@ -117,32 +89,19 @@ fn run_at(
         last,
         entries,
     } = begun;
-    drop(entries);
     let Ok(clocks) = times_after(rt.alloc(), last, job.inputs.as_slice()) else {
         return Err(End::Log(LogFault::Memory));
     };
-    let before = log.len();
-    tell_log(rt, asked.verbose, before, cut, clocks.len());
-    tell_port(rt, asked.verbose, &bound);
-    let watch = Watch::new(job.mark, Peer::Host(head.viewers));
-    let mut port = PatientPort::new(TellingPort::new(bound, rt, asked.verbose, watch), rt);
-    if !log.takes_appends() {
-        return Err(End::InDoubt);
-    }
-    let plan = log_plan(asked, last);
-    let done = log_run(hosting, &clocks, &plan, &mut log, &mut port);
-    let numbered = log.len().saturating_sub(before);
-    tell_host_end(
-        rt,
-        asked.verbose,
-        clocks.len(),
-        numbered,
-        port.port().counts(),
-    );
-    match done {
-        Ok(()) => Ok(()),
-        Err(fault) => Err(run_end(fault)),
-    }
+    tell_log(rt, asked.verbose, log.len(), cut, clocks.len());
+    let plan = plan_of(asked, last, turns_over_log(asked));
+    let starting = Starting {
+        head,
+        hosting,
+        entries,
+        clocks,
+        plan,
+    };
+    run_at(rt, starting, asked.verbose, &mut log, bound)
 }
 
 /// Opens the file of a log, binds the port, and runs the host.
@@ -150,7 +109,7 @@ fn hosted(rt: &HostRuntime, job: &SharedJob, asked: &HostOrder, file: &str) -> R
     let disk = disk_at(rt, file, asked.log)?;
     let bound = bound(rt, asked.port)?;
     let begun = begun_in(rt, disk, job.mark, asked)?;
-    run_at(rt, job, asked, begun, bound)
+    run_over_log(rt, job, asked, begun, bound)
 }
 
 /// Reads a job of clocks, and runs its host over the log of a file.
@@ -160,10 +119,7 @@ pub fn host_over_log(
     asked: &HostOrder,
     file: &str,
 ) -> Result<(), End> {
-    let job = match read_whole(rt.alloc(), &mut rt.reader()) {
-        Ok(bytes) => shared_job(rt.alloc(), bytes.as_slice(), order)?,
-        Err(fault) => return Err(End::from(RunFault::from(fault))),
-    };
+    let job = read_clocks(rt, order)?;
     let done = hosted(rt, &job, asked, file);
     drop(job);
     done

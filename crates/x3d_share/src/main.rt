@@ -5,7 +5,9 @@ mod defaults;
 mod end;
 mod ends;
 mod files;
+mod hosts;
 mod logs;
+mod meets;
 mod parts;
 mod peers;
 mod refused;
@@ -14,9 +16,10 @@ mod stack;
 ghost use Rattle.app_words.specs.Words.{HostInRange, IsInRange};
 
 use crate::end::{End, refuse};
+use crate::hosts::host;
 use crate::logs::{host_over_log, recall};
 use crate::parts::part;
-use crate::peers::{agree, host, rehearse, view};
+use crate::peers::{agree, rehearse, view};
 use crate::refused::{refused_job, refused_scene};
 use crate::stack::has_room;
 use app_program::{
@@ -89,7 +92,7 @@ fn host_as(rt: &HostRuntime, words: &[&str], order: &Order, asked: &HostOrder) -
     requires { HostInRange asked.now }
 {
     if asked.log == LogUse::Without {
-        return Ok(host(rt, order, asked)?);
+        return host(rt, order, asked);
     }
     match log_file_of(rt.alloc(), words)? {
         Some(file) => host_over_log(rt, order, asked, file),

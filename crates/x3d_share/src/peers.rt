@@ -3,33 +3,28 @@
 
 ghost use Rattle.std.specs.Prelude.{◌≡◌, ◌≤◌, IfOk, length};
 ghost use Rattle.x3d_values.specs.Ranges.{max_viewers};
-ghost use Rattle.app_words.specs.Words.{HostInRange, ViewInRange};
+ghost use Rattle.app_words.specs.Words.{ViewInRange};
 
-use crate::defaults::{turns_of, viewers_of};
-use crate::ends::{tell_host_end, tell_port, tell_view_end};
+use crate::ends::{tell_others, tell_port, tell_view_end};
+use crate::meets::met_port;
 use app_commands::{
-    AskingPort, ExactPort, JointJob, PatientPort, Peer, Seat, SharedJob, TellingPort, Watch,
-    agree_job, bound, bound_free, first_boot, give_job, host_job, joint_job, number_of,
-    rehearse_job, seated_job, shared_job, view_job,
+    AskingPort, ExactPort, JointJob, PatientPort, Peer, Seat, TellingPort, TimedPort, ViewerPort,
+    Watch, agree_job, bound, bound_free, first_boot, give_job, joint_job, number_of, rehearse_job,
+    seated_job, view_job,
 };
 use app_jobs::JobFault;
 use app_program::{Failure, RunFault, ShareFault, read_whole, write_whole};
-use app_words::{HostOrder, Order, ViewEnd, ViewOrder};
-use share_turns::{HostPlan, Port, ViewPlan};
+use app_words::{Order, ViewEnd, ViewOrder};
+use share_turns::{Port, ViewPlan};
 use std::alloc::Global;
 use std::io::{self, Eprint};
 use std::net::Net;
+use std::random::RandomSource;
 use std::time::Clock;
 
 /// How often a viewer that is done repeats its last ask. With 30 % of the datagrams lost, all of
 /// them are lost once in 50,000 times.
 const LAST_ASKS: u32 = 8;
-
-/// Reads the job of a command in which several peers take part.
-fn read_shared<R: AllocGlobal + Input>(rt: &R, order: &Order) -> Result<SharedJob, JobFault> {
-    let bytes = read_whole(rt.alloc(), &mut rt.reader())?;
-    shared_job(rt.alloc(), bytes.as_slice(), order)
-}
 
 fn print<R: Print>(rt: &R, text: &[u8]) -> Result<(), RunFault> {
     Ok(write_whole(&mut io::writer(rt), text)?)
@@ -102,63 +97,6 @@ pub fn agree<R: AllocGlobal + Input + Print + Net>(
     Ok(())
 }
 
-/// Returns which inputs a host keeps, and when it is done.
-pub fn host_plan(asked: &HostOrder) -> HostPlan {
-    HostPlan {
-        keep: asked.keep,
-        until: asked.until,
-    }
-}
-
-/// Runs a host at a port: numbers the clocks of a job and the offers of viewers.
-fn hosted<R: AllocGlobal + Net + Eprint + Clock>(
-    rt: &R,
-    job: &SharedJob,
-    asked: &HostOrder,
-) -> Result<(), ShareFault>
-    requires { HostInRange asked.now }
-{
-    let bound = bound(rt, asked.port)?;
-    tell_port(rt, asked.verbose, &bound);
-    let viewers = viewers_of(asked);
-    let watch = Watch::new(job.mark, Peer::Host(viewers));
-    let mut port = PatientPort::new(TellingPort::new(bound, rt, asked.verbose, watch), rt);
-    let plan = host_plan(asked);
-    let mut count = 0;
-    let done = host_job(
-        rt.alloc(),
-        job,
-        viewers,
-        &plan,
-        turns_of(asked),
-        &mut port,
-        &mut count,
-    );
-    let clocks = job.inputs.as_slice().len();
-    tell_host_end(
-        rt,
-        asked.verbose,
-        clocks,
-        u64::from(count),
-        port.port().counts(),
-    );
-    done
-}
-
-/// Reads a job of clocks, and runs its host at a port.
-pub fn host<R: AllocGlobal + Input + Net + Eprint + Clock>(
-    rt: &R,
-    order: &Order,
-    asked: &HostOrder,
-) -> Result<(), Failure>
-    requires { HostInRange asked.now }
-{
-    let job = read_shared(rt, order)?;
-    let done = hosted(rt, &job, asked);
-    drop(job);
-    Ok(done?)
-}
-
 /// Reads a job of points, and makes its viewer.
 fn read_seated<R: AllocGlobal + Input>(
     rt: &R,
@@ -218,7 +156,7 @@ fn printed<R: Print, P: Port>(
     rt: &R,
     seat: &Seat,
     host: u16,
-    text: Result<Vec<u8>, ShareFault>,
+    text: Result<Vec<u8>, Failure>,
     port: &mut P,
 ) -> Result<(), Failure> {
     let text = text?;
@@ -233,43 +171,71 @@ fn given<P: Port>(
     seat: &Seat,
     asked: &ViewOrder,
     port: &mut P,
-) -> Result<(), Failure> {
+) -> Result<(), ShareFault> {
     if let Some(to) = asked.give {
         give_job(alloc, seat, to, asked.give_turns, port)?;
     }
     Ok(())
 }
 
-/// Runs a viewer, which offers its points to a host, and prints its trace and its scene. Then it
-/// gives its snapshot, if it is asked to.
-fn viewed<R: AllocGlobal + Print + Net + Eprint + Clock>(
+/// Returns the result of a viewer's turns over a port. If the viewer's run ended, that is why.
+fn ended<T: Drop, P>(done: Result<T, ShareFault>, port: &ViewerPort<P>) -> Result<T, Failure> {
+    match done {
+        Ok(done) => Ok(done),
+        Err(fault) => Err(Failure::Share(port.failed_with(fault))),
+    }
+}
+
+/// Runs a viewer at its port, which offers its points to a host, and prints its trace and its
+/// scene. Then it gives its snapshot, if it is asked to.
+fn viewed_at<R: AllocGlobal + Print + Eprint + Clock, P: Port + Drop>(
     rt: &R,
     seat: &mut Seat,
     asked: &ViewOrder,
+    own: ViewerPort<P>,
 ) -> Result<(), Failure> {
-    let bound = bound(rt, own_port(asked))?;
-    tell_port(rt, asked.verbose, &bound);
     let watch = Watch::new(seat.viewer.mark(), Peer::Viewer(asked.boot));
-    let telling = TellingPort::new(bound, rt, asked.verbose, watch);
+    let telling = TellingPort::new(own, rt, asked.verbose, watch);
     let mut port = PatientPort::new(ExactPort::new(telling, last_input(asked)), rt);
     let plan = view_plan(asked);
     let text = view_job(rt.alloc(), seat, asked.port, &plan, &mut port);
     let mut port = port.into_port();
+    let text = ended(text, port.port().port());
     let done = printed(rt, seat, asked.port, text, &mut port);
     let asking = AskingPort::new(port, rt, asked.port, seat.viewer.ask());
     let mut port = PatientPort::new(asking, rt);
     let done = match done {
-        Ok(()) => given(rt.alloc(), seat, asked, &mut port),
+        Ok(()) => {
+            let given = given(rt.alloc(), seat, asked, &mut port);
+            ended(given, port.port().port().port().port())
+        }
         Err(failure) => Err(failure),
     };
-    let counts = port.port().port().port().counts();
+    let telling = port.port().port().port();
+    let counts = telling.counts();
+    tell_others(rt, asked.verbose, telling.port().others());
     tell_view_end(rt, asked.verbose, seat.viewer.applied(), counts);
     done
 }
 
+/// Binds the port of a viewer, comes into the run of its host, and runs the viewer.
+fn viewed<R: AllocGlobal + Print + Net + Eprint + Clock + RandomSource>(
+    rt: &R,
+    seat: &mut Seat,
+    asked: &ViewOrder,
+) -> Result<(), Failure>
+    requires { ViewInRange asked.now }
+{
+    let bound = bound(rt, own_port(asked))?;
+    tell_port(rt, asked.verbose, &bound);
+    let timed = TimedPort::new(bound, rt);
+    let own = met_port(rt, seat.viewer.mark(), asked, timed)?;
+    viewed_at(rt, seat, asked, own)
+}
+
 /// Reads a job of points, runs its viewer, prints the trace and the scene, and then gives its
 /// snapshot, if it is asked to.
-pub fn view<R: AllocGlobal + Input + Print + Net + Eprint + Clock>(
+pub fn view<R: AllocGlobal + Input + Print + Net + Eprint + Clock + RandomSource>(
     rt: &R,
     order: &Order,
     asked: &ViewOrder,

@@ -23,7 +23,7 @@ impl Row for Told {
     }
 }
 
-static TOLD: [Told; 12] = [
+static TOLD: [Told; 15] = [
     Told(
         Failure::Order(OrderFault::Memory),
         5,
@@ -104,6 +104,24 @@ static TOLD: [Told; 12] = [
         3,
         "refused TurnsUsedUp",
         "all turns were used up",
+    ),
+    Told(
+        Failure::Share(ShareFault::OtherRun),
+        3,
+        "refused OtherRun",
+        "the host is of another run",
+    ),
+    Told(
+        Failure::Share(ShareFault::OtherList),
+        3,
+        "refused OtherList",
+        "an input is of another list",
+    ),
+    Told(
+        Failure::Share(ShareFault::NoWelcome),
+        3,
+        "refused NoWelcome",
+        "the host didn't welcome the viewer",
     ),
     Told(
         Failure::Share(ShareFault::Spoiled),

@@ -16,12 +16,12 @@ use std::alloc::AllocError;
 use std::test::Fail;
 use x3d_values::Stamped;
 
-const OWN: Run = [9; 16];
+pub(super) const OWN: Run = [9; 16];
 
-const OTHER: Run = [8; 16];
+pub(super) const OTHER: Run = [8; 16];
 
-/// A viewer that has applied an input of its run is told by another run's host that this one is
-/// over, 10 seconds after it last heard of its own.
+/// A viewer that has applied an input of its run ends 10 seconds after it last heard of that run, if
+/// another run's host answers it.
 #[test]
 fn a_run_is_over_where_another_one_answers(rt: HostRuntime) -> Result<(), Fail> {
     let Some(name) = WorldName::new(b"door") else {
@@ -58,12 +58,12 @@ fn a_run_is_over_where_another_one_answers(rt: HostRuntime) -> Result<(), Fail> 
     Ok(())
 }
 
-const MARK: [u8; 32] = [7; 32];
+pub(super) const MARK: [u8; 32] = [7; 32];
 
 /// The port of the host.
-const HOST: u16 = 4000;
+pub(super) const HOST: u16 = 4000;
 
-fn hello_of(name: WorldName) -> Hello {
+pub(super) fn hello_of(name: WorldName) -> Hello {
     Hello {
         mark: MARK,
         who: SeatNumber::new(3),
@@ -73,7 +73,7 @@ fn hello_of(name: WorldName) -> Hello {
     }
 }
 
-fn deliver(port: &mut FakePort, message: &Message2) -> Result<(), AllocError> {
+pub(super) fn deliver(port: &mut FakePort, message: &Message2) -> Result<(), AllocError> {
     port.deliver(Datagram {
         peer: HOST,
         bytes: Bytes::from_slice(encode(message).as_slice()),
@@ -81,7 +81,7 @@ fn deliver(port: &mut FakePort, message: &Message2) -> Result<(), AllocError> {
 }
 
 /// A clock after a list with this chain.
-fn clock(chain: Chain, number: u64, time: i64) -> Input2
+pub(super) fn clock(chain: Chain, number: u64, time: i64) -> Input2
     requires number { IsTrue (is_number number) }
     requires time { IsTrue (is_input_time time) }
 {

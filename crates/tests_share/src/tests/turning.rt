@@ -6,13 +6,14 @@ ghost use Rattle.std.specs.Prelude.{◌≤◌};
 use super::cable::{Cable, End, HOST, laid};
 use super::given::{Job, ONE_POINTER, ORDER, TEN_CLOCKS, TWO_CLOCKS, TWO_POINTERS, joined, run_of};
 use super::{Row, all_hold};
-use app_commands::{JointJob, host_job, joint_job, seated_job, shared_job, view_job};
+use app_commands::{JointJob, joint_job, seated_job, shared_job, view_job};
 use app_words::{HostOrder, LogUse, Order, ViewEnd, ViewOrder};
 use share_core::Host;
 use share_turns::{HostPlan, Port, PortFault, RECEIVED, ViewPlan, host_run, view_run};
 use std::alloc::{AllocError, Global};
 use std::cell::RefCell;
 use std::process::Abort;
+use x3d_values::Stamped;
 
 /// More turns than are needed.
 const TURNS: u32 = 100;
@@ -123,7 +124,11 @@ impl<'a> Port for Between<'a> {
     }
 }
 
-/// Reports whether the host completes its command, with a job's bytes.
+fn times_of(alloc: Global, inputs: &[Stamped]) -> Result<Vec<i64>, AllocError> {
+    inputs.iter().map(|input| input.time()).collect(alloc)
+}
+
+/// Reports whether a host takes all its turns, with the clocks of a job's bytes.
 fn hosts(alloc: Global, bytes: &[u8], port: &mut Between<'_>) -> bool {
     let order = Order::Host(HostOrder {
         port: HOST,
@@ -138,10 +143,12 @@ fn hosts(alloc: Global, bytes: &[u8], port: &mut Between<'_>) -> bool {
     let Ok(job) = shared_job(alloc, bytes, &order) else {
         return false;
     };
-    let mut count = 0;
-    let answer = host_job(alloc, &job, 2, &ALL, TURNS, port, &mut count);
+    let Ok(times) = times_of(alloc, job.inputs.as_slice()) else {
+        return false;
+    };
+    let mut host = Host::new(alloc, job.mark, 2);
     drop(job);
-    answer == Ok(())
+    host_run(&mut host, times.as_slice(), &ALL, TURNS, port).is_ok()
 }
 
 /// Reports whether a viewer completes its command, with a job's bytes.
@@ -158,6 +165,7 @@ fn views(alloc: Global, bytes: &[u8], who: u8, port: &mut Between<'_>) -> bool
         at: None,
         give: None,
         give_turns: 1,
+        wire: None,
         join: false,
         verbose: false,
     });

@@ -1,5 +1,5 @@
 use Rattle.std.proofs.Common.{◌∙◌, ap, length}
-use Rattle.app_commands.proofs.Meeting.{is_joint}
+use Rattle.app_commands.proofs.JointJobs.{is_joint}
 use Rattle.app_commands.proofs.Staging.{viewer_count}
 use Rattle.app_commands.proofs.joining.joint_job.Goals as goal
 

@@ -2,7 +2,7 @@ use Rattle.std.proofs.Common.{rules, ◌≡◌}
 use Rattle.std.specs.Prelude.{Ok}
 use Rattle.app_jobs.specs.Job.{Lined}
 use Rattle.app_commands.specs.Fits.{fits}
-use Rattle.app_commands.proofs.Meeting.{is_staged}
+use Rattle.app_commands.proofs.JointJobs.{is_staged}
 use Rattle.app_commands.proofs.Staging.{is_stage}
 use Rattle.app_commands.proofs.joining.staged_job.Goals as goal
 

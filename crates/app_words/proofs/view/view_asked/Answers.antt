@@ -23,3 +23,6 @@ returns-in_default-give_in-clause-none c = λ o h. c.in_default-give_in.ensures.
 
 pub returns-in_default-give_turns_in-clause-none : goal.returns-in_default-give_turns_in-clause-none
 returns-in_default-give_turns_in-clause-none c = λ o h. c.in_default-give_turns_in.ensures.none o.give_turns h.give_turns
+
+pub returns-in_default-wire_in-clause-none : goal.returns-in_default-wire_in-clause-none
+returns-in_default-wire_in-clause-none c = λ o h. c.in_default-wire_in.ensures.none o.wire h.wire

@@ -1,0 +1,174 @@
+//! How a host starts: the run of its log, its port, and its turns. A host without a log file has a
+//! log in memory, and a run of its own.
+
+ghost use Rattle.app_words.specs.Words.{HostInRange};
+
+use crate::defaults::{turns_of, viewers_of};
+use crate::end::End;
+use crate::ends::{tell_host_end, tell_port};
+use crate::files::drawn_run;
+use app_commands::{PatientPort, Peer, SharedJob, TellingPort, Watch, bound, shared_job};
+use app_logs::{
+    AppendFault, Beat, Entry, Head, Log, LogFault, LogPlan, LoggedFault, LoggedHost, MemoryLog,
+    RunFault as LogRunFault, append_fault_of, is_viewer_count, log_run, resume, times_after,
+};
+use app_program::{RunFault, ShareFault, read_whole};
+use app_words::{HostOrder, Order};
+use share_turns::{HostPlan, TurnFault, UdpPort};
+use share_welcomes::{HostPort, HostRun};
+use std::alloc::Global;
+
+/// What a host begins with.
+#[derive(Drop)]
+pub struct Starting {
+    /// That of its log.
+    pub head: Head,
+    pub hosting: LoggedHost,
+    /// Those of its log.
+    pub entries: Vec<Entry>,
+    /// The clocks of its job that are still to be numbered, in microseconds.
+    pub clocks: Vec<i64>,
+    pub plan: LogPlan,
+}
+
+/// Returns what a host does that goes on after an input at time `last`, in at most `turns` turns.
+pub fn plan_of(asked: &HostOrder, last: i64, turns: u64) -> LogPlan {
+    LogPlan {
+        host: HostPlan {
+            keep: asked.keep,
+            until: asked.until,
+        },
+        beat: Beat {
+            every: asked.every,
+            base: last,
+        },
+        turns,
+    }
+}
+
+/// Reads a job of clocks.
+pub fn read_clocks(rt: &HostRuntime, order: &Order) -> Result<SharedJob, End> {
+    match read_whole(rt.alloc(), &mut rt.reader()) {
+        Ok(bytes) => Ok(shared_job(rt.alloc(), bytes.as_slice(), order)?),
+        Err(fault) => Err(End::from(RunFault::from(fault))),
+    }
+}
+
+/// Returns why turns ended early.
+fn turn_end(fault: TurnFault) -> End {
+    match fault {
+        TurnFault::Port => End::from(ShareFault::Port),
+        TurnFault::Spoiled => End::from(ShareFault::Spoiled),
+        TurnFault::Memory => End::from(ShareFault::Memory),
+    }
+}
+
+/// Returns why the turns of a host ended early.
+fn run_end(fault: LogRunFault) -> End {
+    match fault {
+        LogRunFault::TurnsUsedUp => End::from(ShareFault::TurnsUsedUp),
+        LogRunFault::Turn(LoggedFault::Turn(fault)) => turn_end(fault),
+        LogRunFault::Turn(LoggedFault::Log(AppendFault::InDoubt)) => End::InDoubt,
+        LogRunFault::Turn(LoggedFault::Log(fault)) => End::Log(append_fault_of(fault)),
+    }
+}
+
+/// Returns the port of a host in the run of a log with this head and these entries.
+fn port_in_run(
+    alloc: Global,
+    bound: UdpPort,
+    head: &Head,
+    entries: &[Entry],
+) -> Result<HostPort<UdpPort>, End> {
+    if !is_viewer_count(head.viewers) {
+        return Err(End::Log(LogFault::BadHead));
+    }
+    match HostPort::begin(alloc, bound, HostRun::of_head(head), entries) {
+        Ok(port) => Ok(port),
+        Err(_refused) => Err(End::from(ShareFault::Memory)),
+    }
+}
+
+/// Runs a host over its log at a port, which answers each datagram in the version in which it came.
+pub fn run_at<L: Log>(
+    rt: &HostRuntime,
+    starting: Starting,
+    verbose: bool,
+    log: &mut L,
+    bound: UdpPort,
+) -> Result<(), End> {
+    let Starting {
+        head,
+        hosting,
+        entries,
+        clocks,
+        plan,
+    } = starting;
+    tell_port(rt, verbose, &bound);
+    let port = port_in_run(rt.alloc(), bound, &head, &entries)?;
+    drop(entries);
+    let watch = Watch::new(head.mark, Peer::Host(head.viewers));
+    let mut port = PatientPort::new(TellingPort::new(port, rt, verbose, watch), rt);
+    if !log.takes_appends() {
+        return Err(End::InDoubt);
+    }
+    let before = log.len();
+    let done = log_run(hosting, &clocks, &plan, log, &mut port);
+    let numbered = log.len().saturating_sub(before);
+    tell_host_end(rt, verbose, clocks.len(), numbered, port.port().counts());
+    match done {
+        Ok(()) => Ok(()),
+        Err(fault) => Err(run_end(fault)),
+    }
+}
+
+/// Returns what a host of a job begins with that has no log, in this run.
+fn without_log(
+    alloc: Global,
+    job: &SharedJob,
+    asked: &HostOrder,
+    run: [u8; 16],
+) -> Result<Starting, ShareFault>
+    requires { HostInRange asked.now }
+{
+    let viewers = viewers_of(asked);
+    let Ok(hosting) = resume(alloc, job.mark, viewers, &[]) else {
+        return Err(ShareFault::Memory);
+    };
+    let Ok(clocks) = times_after(alloc, 0, job.inputs.as_slice()) else {
+        return Err(ShareFault::Memory);
+    };
+    let mark = job.mark;
+    let head = Head { viewers, mark, run };
+    let plan = plan_of(asked, 0, u64::from(turns_of(asked)));
+    Ok(Starting {
+        head,
+        hosting,
+        entries: Vec::new(alloc),
+        clocks,
+        plan,
+    })
+}
+
+/// Runs the host of a job at a port, with a log in memory and a run drawn at random.
+fn hosted(rt: &HostRuntime, job: &SharedJob, asked: &HostOrder) -> Result<(), End>
+    requires { HostInRange asked.now }
+{
+    let bound = bound(rt, asked.port)?;
+    let run = drawn_run(rt)?;
+    let starting = without_log(rt.alloc(), job, asked, run)?;
+    let Ok(mut memory) = MemoryLog::new(rt.alloc(), 1, Vec::new(rt.alloc())) else {
+        return Err(End::from(ShareFault::Memory));
+    };
+    run_at(rt, starting, asked.verbose, &mut memory.handle(0), bound)
+}
+
+/// Reads a job of clocks, and runs its host without a log.
+pub fn host(rt: &HostRuntime, order: &Order, asked: &HostOrder) -> Result<(), End>
+    requires { HostInRange asked.now }
+{
+    let job = read_clocks(rt, order)?;
+    let done = hosted(rt, &job, asked);
+    drop(job);
+    done
+}

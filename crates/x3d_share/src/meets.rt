@@ -1,0 +1,117 @@
+//! How a viewer comes into the run of its host.
+
+ghost use Rattle.app_words.specs.Words.{ViewInRange};
+
+use app_commands::{Meeting, ViewerPort, meet};
+use app_program::{Failure, RunFault, ShareFault};
+use app_words::ViewOrder;
+use share_runs::{ViewPort, ViewerRun, met};
+use share_session::{Hello, SeatNumber, Welcome, WorldName};
+use share_turns::Port;
+use std::alloc::Global;
+use std::random::RandomSource;
+use std::time::Clock;
+
+/// For how long a viewer that may speak version 1 says Hello again, and for how long one that may
+/// not, in milliseconds. The last Hello has a second more to be answered.
+const MOST_MILLIS: u64 = 900;
+
+const MOST_MILLIS_IN_RUN: u64 = 9_500;
+
+/// What a viewer draws at random: the nonce of its first Hello, and the secret by which others are
+/// made.
+#[derive(Clone, Copy)]
+struct Drawn {
+    nonce: [u8; 16],
+    seed: [u8; 32],
+}
+
+/// Fails with `Device` if the system has no random bytes.
+fn draw<R: RandomSource>(rt: &R) -> Result<Drawn, Failure> {
+    let mut nonce = [0; 16];
+    let mut seed = [0; 32];
+    if rt.fill_bytes(&mut nonce).is_err() || rt.fill_bytes(&mut seed).is_err() {
+        return Err(Failure::Run(RunFault::Device));
+    }
+    Ok(Drawn { nonce, seed })
+}
+
+/// Returns how a viewer of the scene with this mark meets its host. A host that has one world
+/// answers to the empty name.
+fn meeting_of(mark: [u8; 32], asked: &ViewOrder, drawn: &Drawn) -> Option<Meeting>
+    requires { ViewInRange asked.now }
+{
+    let Some(name) = WorldName::new(b"") else {
+        return None;
+    };
+    let nonce = drawn.nonce;
+    let seed = drawn.seed;
+    let hello = Hello {
+        mark,
+        who: SeatNumber::new(asked.who),
+        cookie: [0; 8],
+        nonce,
+        name,
+    };
+    let most = match asked.wire {
+        Some(_) => MOST_MILLIS_IN_RUN,
+        None => MOST_MILLIS,
+    };
+    Some(Meeting {
+        host: asked.port,
+        hello,
+        seed,
+        most,
+    })
+}
+
+/// Returns the port of a viewer that was welcomed to a run.
+fn in_run<P: Drop>(
+    alloc: Global,
+    port: P,
+    meeting: &Meeting,
+    hello: &Hello,
+    welcome: &Welcome,
+) -> Result<ViewerPort<P>, Failure> {
+    let Ok(run) = ViewerRun::new(alloc, hello.mark, welcome.run) else {
+        return Err(Failure::Share(ShareFault::Memory));
+    };
+    let greetings = met(hello, &meeting.seed, welcome);
+    Ok(ViewerPort::InRun(ViewPort::new(port, meeting.host, run, greetings)))
+}
+
+/// Returns the port of a viewer that no host welcomed: by version 1, if the viewer may speak it.
+fn alone<P: Drop>(port: P, asked: &ViewOrder) -> Result<ViewerPort<P>, Failure> {
+    match asked.wire {
+        Some(_) => Err(Failure::Share(ShareFault::NoWelcome)),
+        None => Ok(ViewerPort::Plain(port)),
+    }
+}
+
+/// Returns the port of a viewer of the scene with this mark, over `port`: in the run that its host
+/// welcomes it to, or by version 1.
+///
+/// Fails with `NoWelcome` if the viewer demands a run and no host welcomes it, with `Port` if a
+/// send or a receive fails, with `Device` if the system has no random bytes, and with `Memory`.
+pub fn met_port<R: AllocGlobal + RandomSource + Clock, P: Port + Drop>(
+    rt: &R,
+    mark: [u8; 32],
+    asked: &ViewOrder,
+    port: P,
+) -> Result<ViewerPort<P>, Failure>
+    requires { ViewInRange asked.now }
+{
+    if asked.wire == Some(1) {
+        return Ok(ViewerPort::Plain(port));
+    }
+    let drawn = draw(rt)?;
+    let Some(meeting) = meeting_of(mark, asked, &drawn) else {
+        return alone(port, asked);
+    };
+    let mut port = port;
+    match meet(&mut port, rt, &meeting) {
+        Ok(Some(met)) => in_run(rt.alloc(), port, &meeting, &met.hello, &met.welcome),
+        Ok(None) => alone(port, asked),
+        Err(_) => Err(Failure::Share(ShareFault::Port)),
+    }
+}
