@@ -68,13 +68,6 @@ impl<P> HostPort<P> {
         &self.port
     }
 
-    /// Returns the entries that the port has learned.
-    pub fn learned(&self) -> &Learned
-        ensures { result.now ≡ self.now.learned }
-    {
-        &self.learned
-    }
-
     fn fail(&mut self) -> PortFault
         ensures { self.new ≡ record self.old { failed = one_more self.old.failed } }
     {
