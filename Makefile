@@ -140,11 +140,12 @@ test: definitions
 	scripts/soak 1 --seed 48; \
 	scripts/kill 1; \
 	scripts/logs --seed 67; \
-	if $(call fresh,out/libx3d.so); then scripts/abi out/libx3d.so; scripts/bindings --quick; \
+	if $(call fresh,out/libx3d.so); then scripts/abi out/libx3d.so; scripts/bindings --quick; scripts/log_calls; \
 	elif ! command -v "$${CC:-cc}" > /dev/null; then echo "bindings: skipped: no C compiler"; \
 	else $(call fresh,out/quick/libx3d.so) || scripts/unproved_library out/quick; \
 	  echo "bindings: by a library that is built without a proof of the sources that the gate has proved"; \
-	  scripts/abi out/quick/libx3d.so; scripts/bindings --quick out/quick; fi; \
+	  scripts/abi out/quick/libx3d.so; scripts/bindings --quick out/quick; \
+  scripts/log_calls out/quick; fi; \
 	mv "$$log" out/gate.log; tail -n 1 out/gate.log
 
 # Proves and builds the program, and runs it on the cases of cases/ and the examples.

@@ -4,11 +4,12 @@
  * Words:
  * - A world is a scene after some inputs. Inputs are numbered from 1; each is a clock, which moves
  *   time on, or a pointer: the ray of a viewer, and whether its button is down.
- * - An output is a field of a node that sends events. A script settles when it is called after the
+ * - An output is a field by which a node sends events. A script settles when it is called after the
  *   events of an input. The trace is the list of all events that were sent.
  * - A host numbers the inputs of a shared world. A viewer holds the world and applies the inputs in
  *   order. It offers what it points at, until an ack of the host says that the offer is an input.
- *   It asks for the inputs that it lacks. The floor is the lowest input that the host still has.
+ *   It asks for the inputs that it lacks. The floor is the lowest input that the host still has,
+ *   or the next one if it has dropped all.
  * - A datagram is one message of a host or a viewer. It has the mark of its scene: the SHA-256 of
  *   the scene's text.
  * - A snapshot is a world as bytes, and a piece is a part of it in a datagram of its own. A boot is
@@ -28,23 +29,27 @@ extern "C" {
 /* Rules that the caller must keep:
  * - A handle begins as null: `struct x3d_world world = X3D_NONE;`. Do not read or write its
  *   contents. Its bytes may be moved, if the old place is not used again.
- * - Make one call at a time on a handle. Calls whose handle is const only read: these may run
- *   beside each other. (Calls on different handles share nothing.)
+ * - Make one call at a time on a handle. A call that may change it returns X3D_MISUSE while another
+ *   call on it runs; a closing call does nothing then. A call that only reads (its handle is const)
+ *   waits for the other.
  * - Each pointer points to at least as much memory as its type, or the length argument after it,
  *   requires. Memory that a call writes overlaps nothing else that the call is given. A pointer may
  *   be null if the length or the room after it is 0.
  * - Close every handle that you open. You may close twice, close null, and open again. Every other
  *   call on a closed handle returns X3D_CLOSED, or X3D_RANGE if a number is out of its range and
  *   the call tests that first.
- * A call returns X3D_MISUSE, and changes nothing, for any other null pointer, a handle of another
- * kind, a second call on a handle at the same time, and a copy of a closed handle (until another
- * handle uses its place). The library cannot check the other rules. A thread that calls it needs a
- * stack of at least 512 KB. */
+ * A call returns X3D_MISUSE, and changes nothing, for: any other null pointer; a handle of another
+ * kind; a copy of a closed handle, until another handle uses its place (this is not noticed if
+ * 1,024 others were open when the handle was opened: closing it freed its memory); a second call at
+ * the same time that may change the handle. The library cannot check the other rules. A thread that
+ * calls it needs a stack of at least 512 KB. */
 
-/* Handles. Each holds a heap object (a world, a host, a viewer, the part of a text), or nothing. */
+/* Handles. Each holds a heap object (a world, a host, a viewer, a log, the part of a text), or
+ * nothing. */
 struct x3d_world { void *at; };
 struct x3d_host { void *at; };
 struct x3d_viewer { void *at; };
+struct x3d_log { void *at; };
 struct x3d_part { void *at; };
 #ifdef __cplusplus
 #define X3D_NONE {nullptr}
@@ -60,8 +65,8 @@ enum x3d_status {
   X3D_MEMORY = 5,          /* memory ran out; at an input or a load this spoils the world */
   X3D_CLOSED = 10,         /* the handle holds nothing */
   X3D_RANGE = 11,          /* a number that was passed is not one that the call allows */
-  X3D_ROOM = 12,           /* `room` is too small: nothing was copied, `wanted` is the room needed */
-  X3D_MISUSE = 13,         /* a null pointer, a wrong or closed handle, or two calls in one */
+  X3D_ROOM = 12,           /* `room` is too small: nothing is copied, `wanted` is the room needed */
+  X3D_MISUSE = 13,         /* a null pointer, a wrong handle, or a second call at the same time */
   X3D_SPOILED = 20,        /* memory ran out before: only a snapshot brings the world back */
   X3D_NOT_NEXT = 21,       /* the input's number is not the next one */
   X3D_TIME_NOT_LATER = 22, /* the input's time is not above that of the last one */
@@ -70,11 +75,11 @@ enum x3d_status {
   X3D_NO_PACKET = 25,      /* there is no such datagram: no such input, offer or piece */
   X3D_NO_SUCH_SCRIPT = 26, /* there is no script with that number */
   X3D_KIND_DIFFERS = 27,   /* x3d_world_replace_script: the script is of another kind */
-  X3D_NO_VALUE = 28,       /* the field holds no value: it only sends or takes events */
+  X3D_NO_VALUE = 28,       /* no value: the field only sends or takes events, or is a rotation */
   X3D_SHORT = 30,          /* the snapshot has fewer than 85 bytes */
   X3D_BAD_MAGIC = 31,      /* not a snapshot */
   X3D_BAD_VERSION = 32,    /* a snapshot's version is not 1 or 2; a datagram's version is not 1 */
-  X3D_WRONG_SCENE = 33,    /* the snapshot or the datagram is of another scene */
+  X3D_WRONG_SCENE = 33,    /* the snapshot, the datagram or the log is of another scene */
   X3D_BAD_DIGEST = 34,     /* the snapshot was altered */
   X3D_NOT_CANONICAL = 35,  /* the snapshot is not of a world of this scene */
   X3D_BOOT_NOT_NEW = 36,   /* the boot is not above the snapshot's, or the viewer's own */
@@ -95,10 +100,20 @@ enum x3d_status {
   X3D_NOT_PIECE = 54,      /* the datagram is not a piece of a snapshot */
   X3D_NOT_WHOLE = 55,      /* pieces of the snapshot are missing */
   X3D_TOO_LARGE = 56,      /* the snapshot is too large to be sent in pieces */
-  X3D_NOT_A_LOG = 60,      /* the bytes of an entry are none that a host of this scene wrote there */
-  X3D_LOG_GAP = 61,        /* an entry of the log is missing, or stands in the wrong place */
+  X3D_NOT_A_LOG = 60,      /* an entry has bytes that no host of this scene wrote there */
+  X3D_LOG_GAP = 61,        /* an entry of the log is missing, or is in the wrong place */
   X3D_NOT_LASTING = 62,    /* the host was opened, not resumed: it has no log */
-  X3D_NOT_AWAITED = 63     /* no append with this token is under way */
+  X3D_NOT_AWAITED = 63,    /* no append with this number (token) is under way */
+  X3D_NO_LOG = 70,         /* there is no file of this name, or no folder for one */
+  X3D_LOG_BUSY = 71,       /* another handle or program has the log open */
+  X3D_DEVICE = 72,         /* the system refused a call on the log's file, or on its folder */
+  X3D_NOT_EMPTY = 73,      /* a log is to be made in a file that has other bytes */
+  X3D_BAD_HEAD = 74,       /* the file does not begin as a log does, with its head */
+  X3D_WRONG_SEATS = 75,    /* the log is of another number of viewers */
+  X3D_LOG_DAMAGED = 76,    /* a frame of the log was altered, or stands in the wrong place */
+  X3D_NOT_ENTRIES = 77,    /* the bytes are not the next entries of this log */
+  X3D_LOG_FULL = 78,       /* the log would have more than 2^20 entries */
+  X3D_IN_DOUBT = 79        /* an append failed, and may be stored: close the log, open it again */
 };
 
 /* What an input led to: how many outputs sent, how many routes were followed, and how many scripts
@@ -150,7 +165,8 @@ enum x3d_type {
   X3D_SFROTATION = 18
 };
 
-/* How a field may be used. X3D_INPUT_ONLY and X3D_OUTPUT_ONLY fields hold no value. */
+/* How a field may be used. X3D_INPUT_ONLY fields, X3D_OUTPUT_ONLY fields and rotations hold no
+ * value. */
 enum x3d_access {
   X3D_INPUT_ONLY = 0,     /* takes events */
   X3D_OUTPUT_ONLY = 1,    /* sends events */
@@ -164,8 +180,8 @@ struct x3d_field {
   uint8_t access;
 };
 
-/* A field that was set. Its value is of type `value_type` (an x3d_type), and has `count` numbers:
- * those from place `first` on of what x3d_world_copy_numbers copies. */
+/* A field that was set. Its value is of type `value_type` (an x3d_type), and has `count` numbers.
+ * x3d_world_copy_numbers copies them; they begin at place `first`. */
 struct x3d_change {
   uint32_t node;
   uint16_t field;
@@ -180,7 +196,7 @@ struct x3d_saved {
   uint32_t applied;
 };
 
-/* The tag of a datagram: who sends it, and what `number` of x3d_datagram is then. */
+/* A tag says which of six kinds a datagram is. For each: who sends it, what `number` means. */
 enum x3d_tag {
   X3D_TAG_INPUT = 1, /* from the host: the input's number */
   X3D_TAG_OFFER = 2, /* from a viewer: the offer's number in that boot, from 1 */
@@ -203,7 +219,7 @@ enum x3d_button {
 /* What a datagram says. `who` is the viewer that offers, that asks, that an ack is for, or that
  * pointed in an input. It is X3D_NO_VIEWER for a clock, a floor or a piece. `boot` is that of an
  * offer, an ack or a piece, and `time` that of an input. `aim` is set if `point` (an x3d_button) is
- * not X3D_NO_POINT. All other fields are 0. */
+ * not X3D_NO_POINT. Any other field that the tag does not use is 0. */
 struct x3d_datagram {
   uint8_t tag;
   uint8_t who;
@@ -215,7 +231,9 @@ struct x3d_datagram {
 };
 
 /* What a host did with a datagram. On X3D_REPLY_ASKED, send the datagrams of the `count` inputs
- * from `number` on, at most 64. On X3D_REPLY_BELOW, send the datagram of the floor. */
+ * from `number` on, at most 64. On X3D_REPLY_BELOW, send the datagram of the floor. On any other,
+ * send no input and no floor. X3D_REPLY_NOTHING_TO_DO answers an ask for an input that is not
+ * numbered yet, and a datagram that is neither an offer nor an ask. */
 enum x3d_replied {
   X3D_REPLY_ASKED = 0,        /* a viewer asked for `count` inputs from `number` on */
   X3D_REPLY_NUMBERED = 1,     /* the offer is now input `number` */
@@ -235,7 +253,7 @@ struct x3d_reply {
 enum x3d_append {
   X3D_APPEND_STORED = 0, /* the log has the entries, for good */
   X3D_APPEND_TAKEN = 1,  /* the log has other entries there, of another host, and none of these */
-  X3D_APPEND_DOUBT = 2   /* the log has all of them or none: it must be read to know */
+  X3D_APPEND_DOUBT = 2   /* the log has none, the first few or all: read it */
 };
 
 /* What a viewer did with a datagram. */
@@ -275,17 +293,17 @@ enum x3d_kind {
 /* What a part leaves out of the text that it is made of. */
 enum x3d_left {
   X3D_LEFT_NODE = 0,        /* a node */
-  X3D_LEFT_GROUPED = 1,     /* only a type: the node became a Group or a Transform */
+  X3D_LEFT_GROUPED = 1,     /* the node's type: it became a Group or a Transform */
   X3D_LEFT_FIELD = 2,       /* a field */
   X3D_LEFT_TURNED = 3,      /* a rotation by an angle other than 0 */
-  X3D_LEFT_USE = 4,         /* a USE of a name that no node has */
-  X3D_LEFT_ROUTE = 5,       /* a ROUTE to or from no node */
+  X3D_LEFT_USE = 4,         /* a USE of a name that no node of the part has */
+  X3D_LEFT_ROUTE = 5,       /* a ROUTE with an end that no node of the part has */
   X3D_LEFT_PROTO = 6,       /* a PROTO without a node in its body */
   X3D_LEFT_REFUSED = 7,     /* what x3d_world_open refuses at this line */
-  X3D_LEFT_EXTERNPROTO = 8,
-  X3D_LEFT_IMPORT = 9,
-  X3D_LEFT_EXPORT = 10,
-  X3D_LEFT_UNIT = 11,
+  X3D_LEFT_EXTERNPROTO = 8, /* an EXTERNPROTO */
+  X3D_LEFT_IMPORT = 9,      /* an IMPORT */
+  X3D_LEFT_EXPORT = 10,     /* an EXPORT */
+  X3D_LEFT_UNIT = 11,       /* a UNIT */
   X3D_LEFT_DECLARATION = 12 /* the declaration of a field whose type is not read */
 };
 
@@ -373,13 +391,12 @@ uint8_t x3d_world_clock(struct x3d_world *world, uint32_t number, int64_t time,
  * microseconds, and writes what it led to. */
 uint8_t x3d_world_point(struct x3d_world *world, uint32_t number, int64_t time, uint8_t viewer,
                         bool down, const struct x3d_aim *aim, struct x3d_work *work);
-/* Writes where a ray would enter the Box that it hits first, and lists the sensors that the hit
- * concerns (x3d_world_copy_numbers copies their nodes): those that x3d_world_point with this ray
- * would reach. These are the enabled pointing sensors next to the Box's Shape, in the same
- * `children` field or among the roots. If there are none, they are those next to the node that
- * holds the Shape, and so on upwards. Sensors among the children of a Switch do not count. The
- * world is unchanged. May return, in this order: X3D_RANGE if the ray is out of its range,
- * X3D_SPOILED, or X3D_MEMORY. */
+/* Writes where a ray would enter the Box that it hits first, and lists the sensors that a pointer
+ * with this ray is inside of (x3d_world_copy_numbers copies their nodes). These are the enabled
+ * pointing sensors next to the Box's Shape, in the same `children` field or among the roots. If
+ * none is there, the sensors next to the node that holds the Shape are listed, and so on upwards.
+ * Sensors among the children of a Switch do not count. The world is unchanged. May return, in this
+ * order: X3D_RANGE if the ray is out of its range, X3D_SPOILED, or X3D_MEMORY. */
 uint8_t x3d_world_meet(struct x3d_world *world, const struct x3d_aim *aim, struct x3d_met *met);
 
 /* ---- texts: a call makes a text, then x3d_world_copy_text copies it
@@ -399,9 +416,8 @@ uint8_t x3d_world_make_changes(struct x3d_world *world, uint32_t first);
 uint8_t x3d_world_make_scene(struct x3d_world *world);
 /* Makes the word for a node's type, such as `Transform`. May return: X3D_NO_SUCH_NODE. */
 uint8_t x3d_world_make_type(struct x3d_world *world, uint32_t node);
-/* Makes the label of a node, which no other node has: its DEF name if no other node has it, or else
- * `N` and its number. A node whose DEF name is `N` and digits also has `N` and its number. May
- * return: X3D_NO_SUCH_NODE. */
+/* Makes a node's label: its DEF name, if no other node has it and it is not `N` and digits; else
+ * `N` and the node's number. No two labels are equal. May return: X3D_NO_SUCH_NODE. */
 uint8_t x3d_world_make_label(struct x3d_world *world, uint32_t node);
 /* Makes the name of a field of a node, such as `translation`. May return: X3D_NO_SUCH_FIELD if
  * there is no such node or field. */
@@ -435,7 +451,7 @@ uint8_t x3d_world_field_named(const struct x3d_world *world, uint32_t node, cons
  * such node or field. */
 uint8_t x3d_world_field_type(const struct x3d_world *world, uint32_t node, uint16_t field,
                              struct x3d_field *told);
-/* Writes the number of the node with this DEF name, if one node alone has it. May return:
+/* Writes the number of the node with this DEF name, if the name is the node's label. May return:
  * X3D_NO_SUCH_NODE if there is none. */
 uint8_t x3d_world_node_named(const struct x3d_world *world, const uint8_t *name, size_t length,
                              uint32_t *node);
@@ -463,7 +479,7 @@ uint8_t x3d_world_copy_numbers(const struct x3d_world *world, int64_t *out, size
 /* Lists the fields that inputs after number `since` set: each field once, with its current value,
  * in the order in which each was first set. `since` is 0, or the number of inputs that were applied
  * when the program drew the world last. A field is listed even if it was set to the value that it
- * had. A field that only sends holds no value and is not listed. The call also lists the numbers of
+ * had. A field that holds no value is not listed. The call also lists the numbers of
  * these values; a string has none. If the call fails, both lists are empty. May return:
  * X3D_SPOILED, or X3D_MEMORY (also for more than 2^32 - 1 numbers). */
 uint8_t x3d_world_list_changed(struct x3d_world *world, uint32_t since);
@@ -491,17 +507,18 @@ uint8_t x3d_world_list_scripts(struct x3d_world *world);
 /* Lists four numbers for each route, in the order of the text: the node and the field of its
  * source, and those of its target. A route that the text repeats is listed once. */
 uint8_t x3d_world_list_routes(struct x3d_world *world);
-/* Replaces the object that runs the k-th script by a new one of kind `kind` (an x3d_kind). It takes
- * over the script's state. The world is unchanged whatever is returned. May return: X3D_RANGE for
- * an unknown kind, X3D_SPOILED, X3D_NO_SUCH_SCRIPT, X3D_KIND_DIFFERS, or X3D_MEMORY. */
+/* Replaces the object that runs script number `k` (from 0). The new object has kind `kind` (an
+ * x3d_kind) and takes over the script's state. The world never changes. Only tests need this call.
+ * May return: X3D_RANGE for an unknown kind, X3D_SPOILED, X3D_NO_SUCH_SCRIPT, X3D_KIND_DIFFERS, or
+ * X3D_MEMORY. */
 uint8_t x3d_world_replace_script(struct x3d_world *world, size_t k, uint8_t kind);
 
 /* ---- the host of a shared world: it numbers what happens, and gives it to the viewers. A host and
  * its viewers exchange datagrams of at most X3D_PACKET bytes, which the program carries. Datagrams
- * may be lost, repeated and come in any order, but must arrive unaltered. None of another run may
- * arrive: of another host of this scene, or of this host before it was opened again. A call that
- * copies a datagram writes its length to `wanted`. It may return: X3D_NO_PACKET if there is no such
- * datagram, or X3D_ROOM if `room` bytes are not enough. */
+ * may be lost, repeated and come in any order, but must arrive unaltered. No datagram of another
+ * host of this scene may arrive, and none that was sent before this host was opened again. A call
+ * that copies a datagram writes its length to `wanted`. It may return: X3D_NO_PACKET if there is no
+ * such datagram, or X3D_ROOM if `room` bytes are not enough. */
 
 /* Opens the host of a scene's text for 1 to 64 viewers, numbered from 0. It replaces the one that
  * the handle had. The host keeps only the text's SHA-256 (its mark), and does not look at the
@@ -532,13 +549,12 @@ uint8_t x3d_host_packet(const struct x3d_host *host, uint32_t number, uint8_t *o
  * return: X3D_RANGE if there is no such viewer. */
 uint8_t x3d_host_ack(const struct x3d_host *host, uint8_t who, uint8_t *out, size_t room,
                      size_t *wanted);
-/* Writes the number of the first input that viewer `who` lacked when it asked (the highest of all
- * its asks), or 0 if it has not asked. The viewer has all inputs below that number. May return:
- * X3D_RANGE if there is no such viewer. */
+/* Writes the highest number that viewer `who` has asked from, or 0 if it has not asked. It had all
+ * inputs below that number then. After a restart from an older snapshot it may lack some. May
+ * return: X3D_RANGE if there is no such viewer. */
 uint8_t x3d_host_heard(const struct x3d_host *host, uint8_t who, uint32_t *asked);
-/* Drops the inputs that all viewers have, except the last `count` of these. A viewer that never
- * asked does not count. If no viewer has asked, or there is nothing to drop, the host stays as it
- * was. */
+/* Drops the inputs that all viewers have asked past, except the last `count` of these. A viewer
+ * that has not asked does not count. If none has asked, drops nothing. */
 uint8_t x3d_host_keep(struct x3d_host *host, uint32_t count);
 /* Writes the floor: inputs below it have no datagrams. It is 1 at first. */
 uint8_t x3d_host_floor(const struct x3d_host *host, uint32_t *number);
@@ -546,8 +562,9 @@ uint8_t x3d_host_floor(const struct x3d_host *host, uint32_t *number);
 uint8_t x3d_host_floor_packet(const struct x3d_host *host, uint8_t *out, size_t room,
                               size_t *wanted);
 /* Drops the inputs below `number`, which becomes the floor; their memory is used again or freed.
- * May return: X3D_FLOOR_BACK if `number` is below the floor, or X3D_FLOOR_AHEAD if it is above the
- * number of the next input (of a host that was resumed: of the first that is not stored). */
+ * May return: X3D_FLOOR_BACK if `number` is below the floor, or X3D_FLOOR_AHEAD if `number` is
+ * above that of the next input, or for a resumed host that of the first input that is not
+ * stored. */
 uint8_t x3d_host_drop_below(struct x3d_host *host, uint32_t number);
 /* Writes the number of inputs that are numbered. */
 uint8_t x3d_host_count(const struct x3d_host *host, uint32_t *count);
@@ -556,27 +573,30 @@ uint8_t x3d_host_viewers(const struct x3d_host *host, uint32_t *count);
 /* Writes the time of the last input that is numbered, in microseconds, or 0 before the first. */
 uint8_t x3d_host_time(const struct x3d_host *host, int64_t *time);
 
-/* ---- a host that goes on: the program stores what it numbers, in a log of its own
+/* ---- a host that can be resumed: the program stores what the host numbers, in the program's log
  *
- * A log is bytes that only grow at their end. Such a host is resumed from all bytes of its log, and
- * none at first. What it numbers then waits until the program has stored it. Only after that the
- * host shows it: x3d_host_packet, x3d_host_ack and x3d_host_take speak of stored inputs alone, and
- * x3d_host_drop_below and x3d_host_keep drop these alone. x3d_host_count and x3d_host_time speak of
- * all. So a host that is killed and resumed from its log is the host that its viewers know. */
+ * A log is bytes that only grow at their end. Resume such a host from all bytes of its log; at its
+ * first start, from none. What it numbers then waits until the program has stored it. Only then
+ * does the host show it: x3d_host_packet, x3d_host_ack and x3d_host_take speak only of stored
+ * inputs, and x3d_host_drop_below and x3d_host_keep drop only these. x3d_host_count and
+ * x3d_host_time speak of all. So a host that is killed and resumed from its log is the host that
+ * its viewers know. */
 
 /* Resumes the host of a scene's text, for 1 to 64 viewers, from the `log_length` bytes of its log.
  * It replaces the one that the handle had. The host has all inputs of the log, and its floor is 1.
  * May return, in this order: X3D_RANGE for another number of viewers; X3D_WRONG_SCENE if the bytes
  * do not begin with this scene's mark; X3D_LOG_GAP or X3D_NOT_A_LOG, by the first wrong entry,
- * whose number (from 1) is then written to `entry`; X3D_MEMORY at any time. Then the handle is
- * empty. */
+ * whose number (from 1) is then written to `entry`; X3D_MEMORY at any time. After any of these the
+ * handle is empty. */
 uint8_t x3d_host_resume(struct x3d_host *host, const uint8_t *text, size_t length, uint8_t viewers,
                         const uint8_t *log, size_t log_length, uint32_t *entry);
-/* Copies the bytes of the append that is under way, and writes its token and its number of bytes.
+/* Copies the bytes of the append that is under way, and writes its token (a number that names this
+ * append) and its number of bytes.
  * If none is under way, it first begins one of all entries that wait; if none wait, there are 0
  * bytes. Store the bytes at the log's end, durably, and then call x3d_host_stored. Until then each
  * call gives the same bytes and token, and what is numbered meanwhile waits for the next append.
- * May return: X3D_NOT_LASTING, X3D_ROOM if `room` bytes are not enough, or X3D_MEMORY. */
+ * May return: X3D_NOT_LASTING, X3D_ROOM if `room` bytes are not enough, or X3D_MEMORY. X3D_ROOM and
+ * X3D_MEMORY leave the append begun: call again. */
 uint8_t x3d_host_pending(struct x3d_host *host, uint32_t *token, uint8_t *out, size_t room,
                          size_t *wanted);
 /* Says what the log answered to the append with this token (an x3d_append). After
@@ -584,6 +604,64 @@ uint8_t x3d_host_pending(struct x3d_host *host, uint32_t *token, uint8_t *out, s
  * is ahead of its log: it is freed, and the handle is empty. Read the log again, and resume. May
  * return: X3D_RANGE if `answer` is no x3d_append, X3D_NOT_LASTING, or X3D_NOT_AWAITED. */
 uint8_t x3d_host_stored(struct x3d_host *host, uint32_t token, uint8_t answer);
+
+/* ---- a log in a file: the bytes of a host that goes on, stored
+ *
+ * The file has the form of that of `x3d_share host --log`: each can resume from the other's. Each
+ * handle locks its file, from x3d_log_make or x3d_log_open to x3d_log_close: a second one, of any
+ * program, is refused with X3D_LOG_BUSY. The lock ends with the process too, however it ends; a
+ * process that was forked off meanwhile shares it. Nothing else may write the file.
+ *
+ * An append is on the disk (fdatasync) when the call returns X3D_DONE. If the process is killed or
+ * the power is cut, all entries of earlier appends stay; of this append none, the first few or all
+ * stay. The next x3d_log_open cuts what was not finished. If the disk is full or fails, the append
+ * is in doubt: none of its entries, the first few or all are stored. Whoever alters the file's
+ * bytes is mostly noticed (X3D_BAD_HEAD, X3D_LOG_DAMAGED), but it is not protected against one who
+ * means to.
+ *
+ * A path has `path_length` bytes, at most 4,095 and none of them 0, and need not end with a 0. A
+ * link is followed. The calls write no memory beyond what they are given, and may take as long as
+ * the disk takes. */
+
+/* Makes a log of a scene's text for 1 to 64 viewers. It replaces the one that the handle had, which
+ * is closed first. A file that is missing is made, for its owner alone (mode 0600). The log gets a
+ * name at random, its run. May return, in this order: X3D_RANGE for another number of viewers,
+ * X3D_NO_LOG if there is no such folder, X3D_LOG_BUSY, or X3D_NOT_EMPTY unless the file is empty or
+ * the making of a log was cut off in it; X3D_DEVICE or X3D_MEMORY at any time. Then the handle is
+ * empty, and a file with bytes is what it was. */
+uint8_t x3d_log_make(struct x3d_log *log, const uint8_t *path, size_t path_length,
+                     const uint8_t *text, size_t length, uint8_t viewers);
+/* Opens the log of a scene's text, of this number of viewers, or of any if it is 0. It replaces the
+ * one that the handle had, which is closed first. Bytes after the last entry, of an append that was
+ * not finished, are cut; `place` becomes their number. May return, in this order: X3D_NO_LOG,
+ * X3D_LOG_BUSY, X3D_BAD_HEAD, X3D_WRONG_SCENE, X3D_WRONG_SEATS, X3D_LOG_DAMAGED (`place` becomes
+ * the number of the damaged frame; the head is 0), or X3D_LOG_FULL if it has more entries than a
+ * world; X3D_DEVICE or X3D_MEMORY at any time. Then the handle is empty, and of a file that is
+ * refused for its bytes nothing is cut. */
+uint8_t x3d_log_open(struct x3d_log *log, const uint8_t *path, size_t path_length,
+                     const uint8_t *text, size_t length, uint8_t viewers, uint64_t *place);
+/* Closes the log, and gives up its lock. Does nothing if the handle holds none. */
+void x3d_log_close(struct x3d_log *log);
+/* Appends the bytes of an append of a host (x3d_host_pending), durably; 0 bytes are no entries.
+ * Only the next entries of the log are taken; whether a host wrote them is not tested
+ * (x3d_host_resume does that). May return, in this order: X3D_IN_DOUBT if an earlier append was;
+ * X3D_NOT_ENTRIES if the bytes are others than entries with the next numbers, with the scene's mark
+ * before the first; X3D_LOG_FULL; X3D_MEMORY; or X3D_IN_DOUBT: the log has none of these
+ * entries, the first few or all. After that it takes no append: call x3d_host_stored with
+ * X3D_APPEND_DOUBT, close the log, open it again, and resume the host from it. */
+uint8_t x3d_log_append(struct x3d_log *log, const uint8_t *bytes, size_t length);
+/* Copies the bytes of all entries (as x3d_host_resume takes them: the scene's mark and then the
+ * entries, or nothing), and writes their number of bytes to `wanted`. After X3D_IN_DOUBT these are
+ * the entries that are known to be stored. May return: X3D_ROOM if `room` bytes are not enough, or
+ * X3D_MEMORY. */
+uint8_t x3d_log_read(const struct x3d_log *log, uint8_t *out, size_t room, size_t *wanted);
+/* Writes the number of entries: of the inputs that the log has. */
+uint8_t x3d_log_count(const struct x3d_log *log, uint32_t *count);
+/* Writes the number of viewers that the log was made for. */
+uint8_t x3d_log_viewers(const struct x3d_log *log, uint32_t *count);
+/* Copies the log's run, 16 bytes, which no other log has, and writes 16 to `wanted`. May return:
+ * X3D_ROOM. */
+uint8_t x3d_log_copy_run(const struct x3d_log *log, uint8_t *out, size_t room, size_t *wanted);
 
 /* ---- a viewer of a shared world: it holds the world, offers what it points at, and applies the
  * host's inputs in order. Calls that copy a datagram return the same statuses as a host's. */
@@ -614,7 +692,7 @@ uint8_t x3d_viewer_take(struct x3d_viewer *viewer, const uint8_t *bytes, size_t 
  * X3D_OFFER_FULL, or X3D_OFFERS_SPENT. */
 uint8_t x3d_viewer_offer(struct x3d_viewer *viewer, bool down, const struct x3d_aim *aim,
                          uint32_t *number);
-/* Copies the datagram of waiting offer number `place`, where 0 is the oldest. */
+/* Copies the datagram of the waiting offer at `place`; 0 is the oldest. */
 uint8_t x3d_viewer_resend(const struct x3d_viewer *viewer, uint32_t place, uint8_t *out,
                           size_t room, size_t *wanted);
 /* Copies the datagram that asks for inputs, beginning with the first that the viewer lacks. */
@@ -628,9 +706,9 @@ uint8_t x3d_viewer_make_snapshot(struct x3d_viewer *viewer);
  * or the statuses of x3d_world_load. X3D_MEMORY spoils the viewer. */
 uint8_t x3d_viewer_rewind(struct x3d_viewer *viewer, uint32_t boot, const uint8_t *bytes,
                           size_t length, uint32_t *applied);
-/* Writes how many pieces the bytes of a snapshot have, or 0 if they do not begin as a snapshot. Any
- * world or viewer of the scene may have made it. May return: X3D_TOO_LARGE for more than 2^26
- * bytes; `count` is then 0. */
+/* Writes how many pieces these bytes have, or 0 if they do not begin like a snapshot. The snapshot
+ * may be of any world or viewer of the scene. May return: X3D_TOO_LARGE for more than 2^26 bytes;
+ * `count` is then 0. */
 uint8_t x3d_viewer_piece_count(const struct x3d_viewer *viewer, const uint8_t *bytes, size_t length,
                                uint32_t *count);
 /* Copies the datagram of piece `index`, from 0, of these bytes, for other viewers of the same

@@ -52,6 +52,16 @@ const REASONS = {
   61: "LogGap",
   62: "NotLasting",
   63: "NotAwaited",
+  70: "NoLog",
+  71: "LogBusy",
+  72: "Device",
+  73: "NotEmpty",
+  74: "BadHead",
+  75: "WrongSeats",
+  76: "LogDamaged",
+  77: "NotEntries",
+  78: "LogFull",
+  79: "InDoubt",
 };
 
 export class Refusal extends Error {

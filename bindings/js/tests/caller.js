@@ -15,9 +15,10 @@ const NAMES = ["translation", "children", "set_fraction", "\u00e9", ""];
 const OF_SNAPSHOTS = /_(load|rewind|piece|piece_count)$/;
 const encoder = new TextEncoder();
 
-/** The functions of a header that return a status: the name, and the type and the name of each parameter. */
+/** The functions of a header that return a status, but for those of a log's file, which a page has not: the name, and the
+ *  type and the name of each parameter. */
 function declared(header) {
-  return Array.from(header.matchAll(/^\w+ (x3d_[a-z]+_\w+)\(([^)]*)\);/gm), ([, name, list]) => {
+  return Array.from(header.matchAll(/^\w+ (x3d_(?!log_)[a-z]+_\w+)\(([^)]*)\);/gm), ([, name, list]) => {
     const parameters = list.split(",").map((part) => /^\s*(.*?)(\w+)\s*$/s.exec(part).slice(1).map((word) => word.trim()));
     return { name, parameters };
   });

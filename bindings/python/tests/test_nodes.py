@@ -1,6 +1,8 @@
+import os
+import tempfile
 import unittest
 
-from x3d import Aim, Fault, Host, Refusal, Viewer, World, datagram
+from x3d import Aim, Fault, Host, Log, Refusal, Viewer, World, datagram
 
 DOOR = """#X3D V3.0 utf8
 DEF Motor TimeSensor { cycleInterval 2 }
@@ -260,6 +262,39 @@ class Nodes(unittest.TestCase):
         append = host.append()
         self.assertEqual(len(append.bytes), 32 + 17 * 1000)
         self.assertEqual(len(Host.resume(DOOR, 1, append.bytes)), 1000)
+
+    def test_a_log_in_a_file_goes_on(self):
+        with tempfile.TemporaryDirectory() as folder:
+            path = os.path.join(folder, "door.log")
+            self.refused("NoLog", Log, path, DOOR)
+            self.refused("Range", Log.make, path, DOOR, 0)
+            log = Log.make(path, DOOR, 1)
+            self.assertEqual((len(log), log.viewers(), log.read(), len(log.run()), log.cut), (0, 1, b"", 16, 0))
+            self.refused("LogBusy", Log, path, DOOR)
+            host = Host.resume(DOOR, 1, log.read())
+            host.clock(5)
+            append = host.append()
+            self.refused("NotEntries", log.append, append.bytes[32:])
+            log.append(append.bytes)
+            host.stored(append.token)
+            self.assertEqual((len(log), log.read()), (1, append.bytes))
+            self.refused("NotEntries", log.append, append.bytes)
+            run = log.run()
+            log.close()
+            self.refused("Closed", log.read)
+            self.refused("NotEmpty", Log.make, path, DOOR, 1)
+            self.refused("WrongScene", Log, path, DOOR + "\n")
+            self.refused("WrongSeats", Log, path, DOOR, 2)
+            with open(path, "ab") as file:
+                file.write(b"half")
+            with Log(path, DOOR, 1) as again:
+                self.assertEqual((again.read(), again.run(), again.cut), (append.bytes, run, 4))
+            with open(path, "r+b") as file:
+                file.seek(90)
+                file.write(b"?")
+            with self.assertRaises(Fault) as refused:
+                Log(path, DOOR)
+            self.assertEqual((refused.exception.name, refused.exception.frame), ("LogDamaged", 1))
 
     def test_routes_are_listed_by_numbers(self):
         with World(DOOR) as world, Viewer(DOOR, 0, 1) as viewer:

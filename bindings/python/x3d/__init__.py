@@ -23,6 +23,7 @@ system's libx3d.so.0.
 
 from ._faults import Fault, Refusal
 from ._library import version
+from ._log import Log
 from ._nodes import Append, Datagram, Host, Reply, Taken, Viewer, datagram
 from ._reading import Aim, Change, Changed, FieldType, Meeting, Route, Script
 from ._part import LeftOut, Part
@@ -38,6 +39,7 @@ __all__ = [
     "FieldType",
     "Host",
     "LeftOut",
+    "Log",
     "Meeting",
     "Part",
     "Refusal",

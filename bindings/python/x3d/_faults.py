@@ -19,7 +19,8 @@ class Refusal(Exception):
 class Fault(Exception):
     """Why a call on a world is refused: its `name` and its `status`. A status of a later library
     that this module has no name for is named `Status` and its number. `entry` is the number of the
-    first wrong entry of a log (`Host.resume`), or None.
+    first wrong entry of a log (`Host.resume`), or None; `frame` that of its damaged frame
+    (`Log`), or None.
 
     Nothing has then changed, but that after `Memory` at an input, or while a snapshot is loaded,
     the world is spoiled: only a snapshot brings one back."""
@@ -66,13 +67,25 @@ class Fault(Exception):
         61: "LogGap",
         62: "NotLasting",
         63: "NotAwaited",
+        70: "NoLog",
+        71: "LogBusy",
+        72: "Device",
+        73: "NotEmpty",
+        74: "BadHead",
+        75: "WrongSeats",
+        76: "LogDamaged",
+        77: "NotEntries",
+        78: "LogFull",
+        79: "InDoubt",
     }
 
-    def __init__(self, status: int, entry: int = 0) -> None:
+    def __init__(self, status: int, entry: int = 0, frame: Optional[int] = None) -> None:
         self.status = status
         self.name = self.NAMES.get(status, f"Status{status}")
         self.entry: Optional[int] = entry or None
-        super().__init__(f"{self.name}, entry {entry}" if entry else self.name)
+        self.frame = frame
+        place = f", entry {entry}" if entry else f", frame {frame}" if frame is not None else ""
+        super().__init__(self.name + place)
 
     @property
     def text(self) -> str:

@@ -64,6 +64,7 @@ class RawDatagram(Structure):
 _WORLD = POINTER(Handle)
 _HOST = POINTER(Handle)
 _VIEWER = POINTER(Handle)
+_LOG = POINTER(Handle)
 _PART = POINTER(Handle)
 _COUNT = POINTER(c_uint32)
 _SIZE = POINTER(c_size_t)
@@ -120,6 +121,14 @@ CALLS = {
     "x3d_host_resume": [_HOST, c_char_p, c_size_t, c_uint8, c_char_p, c_size_t, POINTER(c_uint32)],
     "x3d_host_pending": [_HOST, POINTER(c_uint32), c_char_p, c_size_t, _SIZE],
     "x3d_host_stored": [_HOST, c_uint32, c_uint8],
+    "x3d_log_make": [_LOG, c_char_p, c_size_t, c_char_p, c_size_t, c_uint8],
+    "x3d_log_open": [_LOG, c_char_p, c_size_t, c_char_p, c_size_t, c_uint8, POINTER(c_uint64)],
+    "x3d_log_close": [_LOG],
+    "x3d_log_append": [_LOG, c_char_p, c_size_t],
+    "x3d_log_read": [_LOG, c_char_p, c_size_t, _SIZE],
+    "x3d_log_count": [_LOG, _COUNT],
+    "x3d_log_viewers": [_LOG, _COUNT],
+    "x3d_log_copy_run": [_LOG, c_char_p, c_size_t, _SIZE],
     "x3d_viewer_open": [_VIEWER, c_char_p, c_size_t, c_uint8, c_uint32, c_char_p, c_size_t, _SIZE],
     "x3d_viewer_close": [_VIEWER],
     "x3d_viewer_applied": [_VIEWER, _COUNT],
@@ -217,6 +226,9 @@ _SHORT = {
     "x3d_host_count",
     "x3d_host_viewers",
     "x3d_host_time",
+    "x3d_log_count",
+    "x3d_log_viewers",
+    "x3d_log_copy_run",
     "x3d_viewer_applied",
     "x3d_viewer_boot",
     "x3d_viewer_waiting",
@@ -239,7 +251,7 @@ def _call(name: str) -> Callable[..., Any]:
 
 
 def calls_of(kind: str) -> Dict[str, Callable[..., Any]]:
-    """The calls on a world, a host, a viewer or a part, by what their names have behind `x3d_KIND_`."""
+    """The calls on a world, a host, a viewer, a log or a part, by what their names have behind `x3d_KIND_`."""
     before = f"x3d_{kind}_"
     return {name[len(before) :]: _call(name) for name in CALLS if name.startswith(before)}
 

@@ -85,7 +85,7 @@ pub enum Fault {
     NoSuchNode,
     /// The node has no field of that number or name.
     NoSuchField,
-    /// The field holds no value: it only sends or takes events.
+    /// The field holds no value: it only sends or takes events, or is a rotation.
     NoValue,
     /// A snapshot of fewer than 85 bytes.
     Short,
@@ -93,7 +93,7 @@ pub enum Fault {
     BadMagic,
     /// A snapshot, or a datagram, of another version.
     BadVersion,
-    /// A snapshot, or a datagram, of another scene.
+    /// A snapshot, a datagram, or a log, of another scene.
     WrongScene,
     /// A snapshot that was altered.
     BadDigest,
@@ -147,6 +147,26 @@ pub enum Fault {
     NotLasting,
     /// No append with this token is under way.
     NotAwaited,
+    /// There is no file of this name, or no folder for one.
+    NoLog,
+    /// Another handle or program has the log open.
+    LogBusy,
+    /// The system refused a call on the log's file, or on its folder.
+    Device,
+    /// A log is to be made in a file that has other bytes.
+    NotEmpty,
+    /// The file does not begin with the head of a log.
+    BadHead,
+    /// The log is of another number of viewers.
+    WrongSeats,
+    /// A frame of the log was altered, or stands in the wrong place.
+    LogDamaged,
+    /// The bytes are not the next entries of this log.
+    NotEntries,
+    /// The log would have more than 2^20 entries.
+    LogFull,
+    /// An append failed, and may be stored: drop the log, and open it again.
+    InDoubt,
     /// A status that this crate has no name for, such as one of a later library.
     Other(u8),
 }
@@ -195,6 +215,16 @@ impl Fault {
             61 => Fault::LogGap,
             62 => Fault::NotLasting,
             63 => Fault::NotAwaited,
+            70 => Fault::NoLog,
+            71 => Fault::LogBusy,
+            72 => Fault::Device,
+            73 => Fault::NotEmpty,
+            74 => Fault::BadHead,
+            75 => Fault::WrongSeats,
+            76 => Fault::LogDamaged,
+            77 => Fault::NotEntries,
+            78 => Fault::LogFull,
+            79 => Fault::InDoubt,
             other => Fault::Other(other),
         })
     }
@@ -243,6 +273,16 @@ impl fmt::Display for Fault {
             Fault::LogGap => "an entry of the log is missing",
             Fault::NotLasting => "the host was not resumed",
             Fault::NotAwaited => "no append with this token is under way",
+            Fault::NoLog => "there is no file of this name, or no folder for one",
+            Fault::LogBusy => "another handle or program has the log open",
+            Fault::Device => "the system refused a call on the log's file",
+            Fault::NotEmpty => "the file has other bytes than those of a log",
+            Fault::BadHead => "the file does not begin with the head of a log",
+            Fault::WrongSeats => "the log is of another number of viewers",
+            Fault::LogDamaged => "a frame of the log is damaged",
+            Fault::NotEntries => "the bytes are not the next entries of the log",
+            Fault::LogFull => "the log is full",
+            Fault::InDoubt => "an append failed, and may be stored",
         })
     }
 }

@@ -15,9 +15,9 @@ pub enum LeftKind {
     Field,
     /// A rotation that turns.
     Turned,
-    /// A USE of a name that no node has.
+    /// A USE of a name that no node of the part has.
     Use,
-    /// A ROUTE to no node.
+    /// A ROUTE with an end that no node of the part has.
     Route,
     /// A PROTO without a node in its body.
     Proto,

@@ -22,6 +22,11 @@ pub struct RawViewer {
 }
 
 #[repr(C)]
+pub struct RawLog {
+    pub at: *mut c_void,
+}
+
+#[repr(C)]
 pub struct RawPart {
     pub at: *mut c_void,
 }
@@ -285,6 +290,29 @@ unsafe extern "C" {
         wanted: *mut usize,
     ) -> u8;
     pub fn x3d_host_stored(host: *mut RawHost, token: u32, answer: u8) -> u8;
+    pub fn x3d_log_make(
+        log: *mut RawLog,
+        path: *const u8,
+        path_length: usize,
+        text: *const u8,
+        length: usize,
+        viewers: u8,
+    ) -> u8;
+    pub fn x3d_log_open(
+        log: *mut RawLog,
+        path: *const u8,
+        path_length: usize,
+        text: *const u8,
+        length: usize,
+        viewers: u8,
+        place: *mut u64,
+    ) -> u8;
+    pub fn x3d_log_close(log: *mut RawLog);
+    pub fn x3d_log_append(log: *mut RawLog, bytes: *const u8, length: usize) -> u8;
+    pub fn x3d_log_read(log: *mut RawLog, out: *mut u8, room: usize, wanted: *mut usize) -> u8;
+    pub fn x3d_log_count(log: *mut RawLog, count: *mut u32) -> u8;
+    pub fn x3d_log_viewers(log: *mut RawLog, count: *mut u32) -> u8;
+    pub fn x3d_log_copy_run(log: *mut RawLog, out: *mut u8, room: usize, wanted: *mut usize) -> u8;
     pub fn x3d_viewer_open(
         viewer: *mut RawViewer,
         text: *const u8,

@@ -1,4 +1,6 @@
-use x3d::{Aim, Datagram, Fault, Gathered, Host, Kind, Pointing, Reply, Taken, Viewer, World};
+use x3d::{
+    Aim, Datagram, Fault, Gathered, Host, Kind, Log, Pointing, Reply, Taken, Viewer, World,
+};
 
 const DOOR: &[u8] = b"#X3D V3.0 utf8
 DEF Motor TimeSensor { cycleInterval 2 }
@@ -228,4 +230,34 @@ fn routes_are_listed_by_numbers() {
     assert_eq!(routes[2].target, named("Door", "translation"));
     assert_eq!(viewer.routes().unwrap(), routes);
     assert_eq!(routes.len(), 3);
+}
+
+#[test]
+fn a_log_in_a_file_goes_on() {
+    let path = std::env::temp_dir().join(format!("x3d-log-{}", std::process::id()));
+    assert_eq!(Log::open(&path, DOOR, None).err().unwrap().fault, Fault::NoLog);
+    let mut log = Log::make(&path, DOOR, 1).unwrap();
+    assert_eq!((log.count(), log.viewers(), log.read()), (0, 1, Ok(vec![])));
+    let busy = Log::open(&path, DOOR, None).err().unwrap();
+    assert_eq!((busy.fault, busy.frame), (Fault::LogBusy, None));
+    let mut host = Host::resume(DOOR, 1, &log.read().unwrap()).unwrap();
+    host.clock(5).unwrap();
+    let append = host.append().unwrap();
+    assert_eq!(log.append(&append.bytes[32..]), Err(Fault::NotEntries));
+    log.append(&append.bytes).unwrap();
+    host.stored(append.token).unwrap();
+    let run = log.run();
+    drop(log);
+    assert_eq!(Log::make(&path, DOOR, 1).err(), Some(Fault::NotEmpty));
+    assert_eq!(Log::open(&path, DOOR, Some(2)).err().unwrap().fault, Fault::WrongSeats);
+    let mut opened = Log::open(&path, DOOR, Some(1)).unwrap();
+    assert_eq!((opened.cut, opened.log.run(), opened.log.count()), (0, run, 1));
+    assert_eq!(opened.log.read(), Ok(append.bytes));
+    drop(opened);
+    let mut bytes = std::fs::read(&path).unwrap();
+    bytes[90] ^= 1;
+    std::fs::write(&path, bytes).unwrap();
+    let damaged = Log::open(&path, DOOR, None).err().unwrap();
+    assert_eq!((damaged.fault, damaged.frame), (Fault::LogDamaged, Some(1)));
+    std::fs::remove_file(&path).unwrap();
 }

@@ -2,6 +2,7 @@
 //! and that of a host and viewers together, in memory or each at a port.
 #![tactic(auto)]
 
+mod addressed;
 mod asking;
 mod brief;
 mod exact;
@@ -9,6 +10,7 @@ mod fits;
 mod hosting;
 mod job;
 mod joining;
+mod note;
 mod pace;
 mod patient;
 mod rehearsing;
@@ -22,11 +24,13 @@ mod viewing;
 mod watch;
 mod welcomed;
 
+pub use addressed::AddressedPort;
 pub use asking::AskingPort;
 pub use exact::ExactPort;
 pub use fits::job_fits;
 pub use job::{SharedJob, shared_job};
 pub use joining::{JointJob, agree_job, joint_job};
+pub use note::{Note, PeerName, Refusal};
 pub use pace::Pace;
 pub use patient::PatientPort;
 pub use rehearsing::rehearse_job;
@@ -35,5 +39,5 @@ pub use telling::TellingPort;
 pub use timed::TimedPort;
 pub use viewer_port::ViewerPort;
 pub use viewing::{Seat, first_boot, give_job, seated_job, view_job};
-pub use watch::{Counts, Note, Peer, Refusal, Watch};
+pub use watch::{Counts, Peer, Watch};
 pub use welcomed::{Meeting, Met, meet};

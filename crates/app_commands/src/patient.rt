@@ -20,7 +20,7 @@ const LONGEST: u32 = 50;
 
 /// A port that rests between turns, and holds back asks and offers.
 ///
-/// If the turn brought something new, the rest is none if datagrams came in the turn, and a
+/// If the turn brought something new, there is no rest if datagrams came in the turn, and a
 /// millisecond if not. Otherwise the rest lasts until a datagram comes, at most twice as long as
 /// the last rest and at most 50 milliseconds.
 ///

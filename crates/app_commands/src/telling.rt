@@ -2,7 +2,8 @@
 
 ghost use Rattle.std.specs.Prelude.{◌≡◌};
 
-use crate::watch::{Counts, Note, Watch};
+use crate::note::Note;
+use crate::watch::{Counts, Watch};
 use share_entries::Entry;
 use share_logged::Learns;
 use share_turns::{Port, PortFault, RECEIVED};

@@ -2,6 +2,7 @@
 //! passes.
 
 use crate::brief::{Brief, Came, brief_of, how_came};
+use crate::note::{Note, PeerName, Refusal};
 use std::fmt;
 use x3d_values::MAX_VIEWERS;
 
@@ -32,64 +33,6 @@ impl fmt::Display for Counts {
     }
 }
 
-/// Why a datagram is dropped, in the order of the tests.
-#[derive(Clone, Copy, PartialEq, Eq)]
-pub enum Refusal {
-    Foreign,
-    WrongScene,
-    OtherRun,
-    BadViewer,
-    OldBoot,
-}
-
-impl Refusal {
-    fn place(self) -> usize {
-        match self {
-            Refusal::Foreign => 0,
-            Refusal::WrongScene => 1,
-            Refusal::OtherRun => 2,
-            Refusal::BadViewer => 3,
-            Refusal::OldBoot => 4,
-        }
-    }
-
-    fn words(self) -> &'static str {
-        match self {
-            Refusal::Foreign => "not a datagram of a shared world",
-            Refusal::WrongScene => "another scene",
-            Refusal::OtherRun => "another run",
-            Refusal::BadViewer => "no such viewer",
-            Refusal::OldBoot => "an old boot",
-        }
-    }
-}
-
-/// An event of a run. A peer is given by its port.
-#[derive(Clone, Copy, PartialEq, Eq)]
-pub enum Note {
-    /// A host first hears of this viewer.
-    Viewer(u8, u16),
-    /// A datagram of this peer is dropped, the first for this reason.
-    Dropped(Refusal, u16),
-    /// No host has answered a viewer yet.
-    NoAnswer,
-    /// The host dropped the inputs below this number, and a viewer lacks some of them.
-    Behind(u32),
-}
-
-impl fmt::Display for Note {
-    fn fmt<W: fmt::Write>(&self, f: &mut fmt::Formatter<W>) -> fmt::Result {
-        match self {
-            Note::Viewer(who, peer) => write!(f, "viewer {who} at port {peer}"),
-            Note::Dropped(why, peer) => write!(f, "dropped from port {peer}: {}", why.words()),
-            Note::NoAnswer => write!(f, "no answer yet"),
-            Note::Behind(floor) => {
-                write!(f, "the host dropped the inputs below {floor}: use --join")
-            }
-        }
-    }
-}
-
 /// The peer that has the port.
 #[derive(Clone, Copy)]
 pub enum Peer {
@@ -115,6 +58,7 @@ enum Wait {
 pub struct Watch {
     mark: [u8; 32],
     peer: Peer,
+    has_numbers: bool,
     heard: [bool; PLACES],
     /// The highest boot of each viewer's offers; and the boot and the count of the last ack that
     /// was sent to each viewer.
@@ -129,11 +73,13 @@ pub struct Watch {
 }
 
 impl Watch {
-    /// Returns a watch that has seen nothing, for a run of the scene with this mark.
-    pub fn new(mark: [u8; 32], peer: Peer) -> Watch {
+    /// Returns a watch that has seen nothing, for a run of the scene with this mark. Peers are
+    /// numbers of a table of addresses if `has_numbers` is set, and else ports.
+    pub fn new(mark: [u8; 32], peer: Peer, has_numbers: bool) -> Watch {
         Watch {
             mark,
             peer,
+            has_numbers,
             heard: [false; PLACES],
             boots: [0; PLACES],
             acked: [(0, 0); PLACES],
@@ -195,6 +141,14 @@ impl Watch {
         }
     }
 
+    fn name_of(&self, peer: u16) -> PeerName {
+        if self.has_numbers {
+            PeerName::Number(peer)
+        } else {
+            PeerName::Port(peer)
+        }
+    }
+
     /// Returns the note of a refusal, if it is the first for this reason.
     fn dropped(&mut self, why: Refusal, peer: u16) -> Option<Note> {
         let told = self.told.get_mut(why.place())?;
@@ -202,7 +156,7 @@ impl Watch {
             return None;
         }
         *told = true;
-        Some(Note::Dropped(why, peer))
+        Some(Note::Dropped(why, self.name_of(peer)))
     }
 
     /// Returns the note of the viewer that sent these bytes to a host, if the host first hears of
@@ -220,7 +174,7 @@ impl Watch {
             return None;
         }
         *heard = true;
-        Some(Note::Viewer(who, peer))
+        Some(Note::Viewer(who, self.name_of(peer)))
     }
 
     /// Returns the note of a floor that is above what a viewer asks from, if it is the first one.

@@ -234,8 +234,8 @@ fn draft(alloc: Global, text: &[u8]) -> Result<ScenePart, JobFault>
 /// scene is its own part.
 ///
 /// Fails with the first fault of the text if it is no document even without the statements that
-/// aren't read; with a limit that the part passes; with `TooLarge` on line 0 if the text of the part
-/// is read as another, which no text is known for; or with `Memory` if memory runs out.
+/// aren't read; with a limit that the part passes; with `TooLarge` on line 0 if the text of the
+/// part is read as another, which no text is known for; or with `Memory` if memory runs out.
 pub fn part_of_text(alloc: Global, text: &[u8]) -> Result<ScenePart, JobFault>
     ensures made { IfOk result (whole.IsPartOfText text.now) }
     ensures good { IfOk result (λ p. whole.IsScene p.text.items) }

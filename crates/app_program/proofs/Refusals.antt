@@ -13,6 +13,7 @@ use Rattle.script_host.specs.declared.fault.AttachFault.TheVariants.{UnknownScri
 use Rattle.app_program.specs.declared.run_fault.RunFault.{RunFault}
 use Rattle.app_program.specs.declared.run_fault.RunFault.TheVariants as run_fault
 use Rattle.app_program.specs.declared.open.Job.{Job}
+use Rattle.app_program.specs.declared.run_output.RunOutput.{RunOutput}
 use Rattle.app_program.specs.declared.refusal.Failure.{Failure}
 use Rattle.app_program.specs.declared.refusal.Failure.TheVariants as failure
 use Rattle.app_program.specs.Boxes.{RefusesBoxes}
@@ -59,35 +60,35 @@ unrun_if (Err fault) job boxes old new made h = unrun job boxes old new fault ma
 
 -- ---- bytes
 
-no_run : (old new kept left : Option (List ℕ)) (job : Job) (fault : Failure)
+no_run : (what : RunOutput) (old new kept left : Option (List ℕ)) (job : Job) (fault : Failure)
     → ((bytes : List ℕ) × Consumes old new bytes × IsAtEnd new × (opened_job bytes ≡ Ok job))
-    → IsFailed job kept left fault → IsNoRun old new kept left fault
-no_run old new kept left job (failure.Run (run_fault.Attach fault)) (bytes, consumed, ended, is) h = (
+    → IsFailed job kept left fault → IsNoRun what old new kept left fault
+no_run what old new kept left job (failure.Run (run_fault.Attach fault)) (bytes, consumed, ended, is) h = (
   record {
     bytes = bytes;
     consumed = consumed;
     ended = ended;
-    is = ap written is ∙ ap (unless_refused (run_text job)) h.0;
+    is = ap (written what) is ∙ ap (unless_refused (run_text what job)) h.0;
   },
   h.1,
 )
-no_run old new kept left job (failure.Run run_fault.Memory) read h = h
-no_run old new kept left job (failure.Run run_fault.Device) (bytes, consumed, ended, is) h = (
-  run_text job,
+no_run what old new kept left job (failure.Run run_fault.Memory) read h = h
+no_run what old new kept left job (failure.Run run_fault.Device) (bytes, consumed, ended, is) h = (
+  run_text what job,
   record {
     bytes = bytes;
     consumed = consumed;
     ended = ended;
-    is = ap written is ∙ ap (unless_refused (run_text job)) h;
+    is = ap (written what) is ∙ ap (unless_refused (run_text what job)) h;
   },
 )
-no_run old new kept left job (failure.Order fault) read h = absurd h
-no_run old new kept left job (failure.Job fault) read h = absurd h
-no_run old new kept left job (failure.Share fault) read h = absurd h
+no_run what old new kept left job (failure.Order fault) read h = absurd h
+no_run what old new kept left job (failure.Job fault) read h = absurd h
+no_run what old new kept left job (failure.Share fault) read h = absurd h
 
 -- why a run of the job that a reader had ended early
-pub no_run_if : {A : Type 0} (result : Result A Failure) (old new kept left : Option (List ℕ)) (job : Job)
+pub no_run_if : {A : Type 0} (what : RunOutput) (result : Result A Failure) (old new kept left : Option (List ℕ)) (job : Job)
     → ((bytes : List ℕ) × Consumes old new bytes × IsAtEnd new × (opened_job bytes ≡ Ok job))
-    → IfErr result (IsFailed job kept left) → IfErr result (IsNoRun old new kept left)
-no_run_if (Ok x) old new kept left job read h = tt
-no_run_if (Err fault) old new kept left job read h = no_run old new kept left job fault read h
+    → IfErr result (IsFailed job kept left) → IfErr result (IsNoRun what old new kept left)
+no_run_if what (Ok x) old new kept left job read h = tt
+no_run_if what (Err fault) old new kept left job read h = no_run what old new kept left job fault read h

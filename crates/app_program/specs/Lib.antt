@@ -2,6 +2,7 @@ pub mod Refusal
 pub mod Checking
 pub mod Formatting
 pub mod Opening
+pub mod RunOutputs
 pub mod Running
 pub mod Boxes
 pub mod Came

@@ -11,15 +11,16 @@ use Rattle.app_jobs.specs.declared.fault.JobFault.{JobFault}
 use Rattle.app_program.specs.declared.run_fault.RunFault.{RunFault}
 use Rattle.app_program.specs.declared.run_fault.RunFault.TheVariants as run_fault
 use Rattle.app_program.specs.Boxes.{RefusesBoxes}
-use Rattle.cascade_core.specs.Texts.{texts}
 use Rattle.app_program.specs.declared.open.Job.{Job}
+use Rattle.app_program.specs.declared.run_output.RunOutput.{RunOutput}
+use Rattle.app_program.specs.RunOutputs.{output_text}
 use Rattle.app_program.specs.declared.refusal.Failure.{Failure}
 use Rattle.app_program.specs.declared.refusal.Failure.TheVariants as failure
 use Rattle.app_program.specs.Opening.{opened_job, IsDeviceOrMemory, IsNoJob}
 
--- the trace and then the scene of the world of the job's scene after its inputs
-unfoldable pub run_text : Job → List ℕ
-run_text job = texts job.scene job.routes (world job.scene job.routes job.inputs)
+-- what is written of the world of the job's scene after its inputs
+unfoldable pub run_text : RunOutput → Job → List ℕ
+run_text what job = output_text what job.scene job.routes (world job.scene job.routes job.inputs)
 
 -- ---- boxes
 
@@ -60,37 +61,40 @@ unless_refused text None = Ok text
 unless_refused text (Some fault) = Err (failure.Run (run_fault.Attach fault))
 
 -- what the run of a job writes, if there is a job
-abbrev pub written : Result Job JobFault → Result (List ℕ) Failure
-written (Ok job) = unless_refused (run_text job) (job_scripts_fault job)
-written (Err fault) = Err (failure.Job fault)
+abbrev pub written : RunOutput → Result Job JobFault → Result (List ℕ) Failure
+written what (Ok job) = unless_refused (run_text what job) (job_scripts_fault job)
+written what (Err fault) = Err (failure.Job fault)
 
 -- what a run writes if its input is these bytes; or why the bytes are not a job, or why the scripts
 -- of its scene are refused
-abbrev pub output_of : List ℕ → Result (List ℕ) Failure
-output_of bytes = written (opened_job bytes)
+abbrev pub output_of : RunOutput → List ℕ → Result (List ℕ) Failure
+output_of what bytes = written what (opened_job bytes)
 
 -- the reader was read to its end, and its bytes give this output
-pub record Comes (old new : Option (List ℕ)) (output : Result (List ℕ) Failure) : Type 0 where
+pub record Comes (what : RunOutput) (old new : Option (List ℕ)) (output : Result (List ℕ) Failure)
+    : Type 0 where
   pub bytes : List ℕ
   pub consumed : Consumes old new bytes
   pub ended : IsAtEnd new
-  pub is : output_of bytes ≡ output
+  pub is : output_of what bytes ≡ output
 
 -- the reader's bytes give a text, and that text was appended to the writer
-pub record IsRun (reader_old reader_new writer_old writer_new : Option (List ℕ)) : Type 0 where
+pub record IsRun
+    (what : RunOutput) (reader_old reader_new writer_old writer_new : Option (List ℕ))
+    : Type 0 where
   pub text : List ℕ
-  pub comes : Comes reader_old reader_new (Ok text)
+  pub comes : Comes what reader_old reader_new (Ok text)
   pub appended : Appends writer_old writer_new text
 
 -- why a run from the reader's bytes ended early. If there is no job, its scripts are refused or
 -- memory is refused, nothing was written. If the writer's device failed, there was a text to write
 abbrev pub IsNoRun :
-    (reader_old reader_new writer_old writer_new : Option (List ℕ)) → Failure → Type 0
-IsNoRun old new kept left (failure.Job fault) =
+    RunOutput → (reader_old reader_new writer_old writer_new : Option (List ℕ)) → Failure → Type 0
+IsNoRun what old new kept left (failure.Job fault) =
     (IsDeviceOrMemory fault ⊎ IsNoJob old new fault) × Keeps kept left
-IsNoRun old new kept left (failure.Run (run_fault.Attach fault)) =
-    Comes old new (Err (failure.Run (run_fault.Attach fault))) × Keeps kept left
-IsNoRun old new kept left (failure.Run run_fault.Memory) = Keeps kept left
-IsNoRun old new kept left (failure.Run run_fault.Device) =
-    (text : List ℕ) × Comes old new (Ok text)
-IsNoRun old new kept left fault = ⊥
+IsNoRun what old new kept left (failure.Run (run_fault.Attach fault)) =
+    Comes what old new (Err (failure.Run (run_fault.Attach fault))) × Keeps kept left
+IsNoRun what old new kept left (failure.Run run_fault.Memory) = Keeps kept left
+IsNoRun what old new kept left (failure.Run run_fault.Device) =
+    (text : List ℕ) × Comes what old new (Ok text)
+IsNoRun what old new kept left fault = ⊥

@@ -4,7 +4,7 @@
 //! | Modules | Content |
 //! |---|---|
 //! | `open`, `stages`, `boxes` | from the bytes of a job to a stage with boxes for its scripts |
-//! | `runs`, `texts` | runs a job, and writes its texts |
+//! | `runs`, `run_output`, `texts` | runs a job, and writes its texts |
 //! | `check`, `format`, `laws` | checks a text, formats it, and a law of formatted texts |
 //! | `stream`, `counted` | reads an input whole, and writes an output whole |
 //! | `fault`, `run_fault`, `refusal` | faults, and what is printed of them |
@@ -19,6 +19,7 @@ mod laws;
 mod open;
 mod refusal;
 mod run_fault;
+mod run_output;
 mod runs;
 mod stages;
 mod stream;
@@ -35,6 +36,7 @@ pub use open::{
 };
 pub use refusal::{Failure, job_fault_name, refusal_line, status_of};
 pub use run_fault::RunFault;
+pub use run_output::RunOutput;
 pub use runs::{run, run_job, run_stock};
 pub use stages::{fresh_stage, stage_of};
 pub use stream::{MAX_READS, StreamFault, read_whole, write_whole};

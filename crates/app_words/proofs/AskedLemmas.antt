@@ -3,7 +3,7 @@ use Rattle.std.proofs.Common.{◌≡◌, ◌≤◌, ℕ, List, codes, Option, So
 use Rattle.clap.specs.Words.{Row, Text}
 use Rattle.app_words.specs.declared.order.HostOrder.{HostOrder}
 use Rattle.app_words.specs.declared.order.Order.{Order}
-use Rattle.app_words.specs.declared.order.Order.TheVariants.{Run, Format, Check, Rehearse, Agree, Host, View, Recall, Part}
+use Rattle.app_words.specs.declared.order.Order.TheVariants.{Run, Format, Check, Rehearse, Agree, Host, View, Recall, Part, Key}
 use Rattle.app_words.specs.declared.order.ViewEnd.{ViewEnd}
 use Rattle.app_words.specs.declared.order.ViewEnd.TheVariants.{Until, Exactly}
 use Rattle.app_words.specs.declared.order.ViewOrder.{ViewOrder}
@@ -14,8 +14,8 @@ use Rattle.app_words.proofs.OneNumber.{one_host, one_view, without}
 
 pub agree_needs : (rows : List Row) (o : Order) → Asks o (codes "agree", rows)
     → (viewers : ℕ) × (turns : ℕ) × IsViewers rows viewers × IsTurns rows turns
-agree_needs rows Run h =
-    let bad : 97 ≡ 114 = ap (λ t. slice_index t 0) h in absurd (omega (arith, bad))
+agree_needs rows (Run no_trace) h =
+    let bad : 97 ≡ 114 = ap (λ t. slice_index t 0) h.0 in absurd (omega (arith, bad))
 agree_needs rows Format h =
     let bad : 97 ≡ 102 = ap (λ t. slice_index t 0) h in absurd (omega (arith, bad))
 agree_needs rows Check h =
@@ -31,11 +31,13 @@ agree_needs rows (Recall until info) h =
     let bad : 97 ≡ 114 = ap (λ t. slice_index t 0) h.0 in absurd (omega (arith, bad))
 agree_needs rows (Part list) h =
     let bad : 97 ≡ 112 = ap (λ t. slice_index t 0) h.0 in absurd (omega (arith, bad))
+agree_needs rows (Key viewers) h =
+    let bad : 97 ≡ 107 = ap (λ t. slice_index t 0) h.0 in absurd (omega (arith, bad))
 
 pub host_needs : (rows : List Row) (o : Order) → Asks o (codes "host", rows)
     → (asked : HostOrder) × AsksHost rows asked × (host_misfit asked ≡ None)
-host_needs rows Run h =
-    let bad : 104 ≡ 114 = ap (λ t. slice_index t 0) h in absurd (omega (arith, bad))
+host_needs rows (Run no_trace) h =
+    let bad : 104 ≡ 114 = ap (λ t. slice_index t 0) h.0 in absurd (omega (arith, bad))
 host_needs rows Format h =
     let bad : 104 ≡ 102 = ap (λ t. slice_index t 0) h in absurd (omega (arith, bad))
 host_needs rows Check h =
@@ -51,11 +53,13 @@ host_needs rows (Recall until info) h =
     let bad : 104 ≡ 114 = ap (λ t. slice_index t 0) h.0 in absurd (omega (arith, bad))
 host_needs rows (Part list) h =
     let bad : 104 ≡ 112 = ap (λ t. slice_index t 0) h.0 in absurd (omega (arith, bad))
+host_needs rows (Key viewers) h =
+    let bad : 104 ≡ 107 = ap (λ t. slice_index t 0) h.0 in absurd (omega (arith, bad))
 
 pub view_needs : (rows : List Row) (o : Order) → Asks o (codes "view", rows)
     → (asked : ViewOrder) × AsksView rows asked × (misfit_of asked ≡ None)
-view_needs rows Run h =
-    let bad : 118 ≡ 114 = ap (λ t. slice_index t 0) h in absurd (omega (arith, bad))
+view_needs rows (Run no_trace) h =
+    let bad : 118 ≡ 114 = ap (λ t. slice_index t 0) h.0 in absurd (omega (arith, bad))
 view_needs rows Format h =
     let bad : 118 ≡ 102 = ap (λ t. slice_index t 0) h in absurd (omega (arith, bad))
 view_needs rows Check h =
@@ -71,6 +75,8 @@ view_needs rows (Recall until info) h =
     let bad : 118 ≡ 114 = ap (λ t. slice_index t 0) h.0 in absurd (omega (arith, bad))
 view_needs rows (Part list) h =
     let bad : 118 ≡ 112 = ap (λ t. slice_index t 0) h.0 in absurd (omega (arith, bad))
+view_needs rows (Key viewers) h =
+    let bad : 118 ≡ 107 = ap (λ t. slice_index t 0) h.0 in absurd (omega (arith, bad))
 
 -- options that don't go together ask for nothing
 pub no_view_of_misfit : (rows : List Row) (asked : ViewOrder) (why : Misfit) → AsksView rows asked → Some why ≡ misfit_of asked
@@ -137,13 +143,13 @@ end_range rows (Until n) h = h.0.high_end
 end_range rows (Exactly n) h = h.1.high_end
 
 asked_range : (o : Order) (p : Text × List Row) → Asks o p → IsInRange o
-asked_range Run p h = tt
+asked_range (Run no_trace) p h = tt
 asked_range Format p h = tt
 asked_range Check p h = tt
 asked_range (Rehearse viewers) p h = (h.1.low_end, h.1.high_end)
 asked_range (Agree viewers turns) p h = (h.1.low_end, h.1.high_end)
 asked_range (Host asked) p h = record {
-  port_low = h.1.port.low_end;
+  port_low = at_least (codes "port") p.1 1 65535 asked.port h.1.port;
   viewers_low = at_least (codes "viewers") p.1 1 64 asked.viewers h.1.viewers;
   viewers_high = at_most (codes "viewers") p.1 1 64 asked.viewers h.1.viewers;
   until_high = at_most (codes "until") p.1 0 1048576 asked.until h.1.until;
@@ -155,7 +161,7 @@ asked_range (Host asked) p h = record {
   together = h.2;
 }
 asked_range (View asked) p h = record {
-  port_low = h.1.port.low_end;
+  port_low = at_least (codes "port") p.1 1 65535 asked.port h.1.port;
   who_high = omega (arith, h.1.who.high_end);
   boot_low = h.1.boot.low_end;
   end_high = end_range p.1 asked.end h.1.end;
@@ -170,6 +176,7 @@ asked_range (View asked) p h = record {
 }
 asked_range (Recall until info) p h = at_most (codes "until") p.1 0 1048576 until h.1
 asked_range (Part list) p h = tt
+asked_range (Key viewers) p h = (h.1.low_end, h.1.high_end)
 
 pub some_range : (o : Order) (x : Option (Text × List Row)) → IsSomeAnd x (Asks o) → IsInRange o
 some_range o (Some p) h = asked_range o p h

@@ -38,9 +38,12 @@ one_end rows (Exactly n) (Exactly m) a b = ap (λ k. Exactly k) (one a.1 b.1)
 pub one_host : (rows : List Row) (x y : HostOrder) → AsksHost rows x → AsksHost rows y → x ≡ y
 one_host rows x y a b =
     let log : Some x.log ≡ Some y.log = sym a.log ∙ b.log in
-    ap (λ n. record x { port = n }) (one a.port b.port)
-    ∙ ap (λ u. record x { port = y.port; log = u }) (let same : x.log ≡ y.log = (cc) in same)
-    ∙ ap (λ n. record x { port = y.port; log = y.log; viewers = n }) (one_or_none _ rows _ _ x.viewers y.viewers a.viewers b.viewers)
+    ap (λ n. record x { port = n }) (one_or_none _ rows _ _ x.port y.port a.port b.port)
+    ∙ ap (λ v. record x { port = y.port; has_address = v }) (a.has_address ∙ sym b.has_address)
+    ∙ ap (λ v. record x { port = y.port; has_address = y.has_address; has_keys = v }) (a.has_keys ∙ sym b.has_keys)
+    ∙ ap (λ v. record x { port = y.port; has_address = y.has_address; has_keys = y.has_keys; is_open = v }) (a.is_open ∙ sym b.is_open)
+    ∙ ap (λ u. record y { log = u; viewers = x.viewers; turns = x.turns; keep = x.keep; every = x.every; until = x.until; verbose = x.verbose }) (let same : x.log ≡ y.log = (cc) in same)
+    ∙ ap (λ n. record y { viewers = n; turns = x.turns; keep = x.keep; every = x.every; until = x.until; verbose = x.verbose }) (one_or_none _ rows _ _ x.viewers y.viewers a.viewers b.viewers)
     ∙ ap (λ n. record y { turns = n; keep = x.keep; every = x.every; until = x.until; verbose = x.verbose }) (one_or_none _ rows _ _ x.turns y.turns a.turns b.turns)
     ∙ ap (λ o. record y { keep = o; every = x.every; until = x.until; verbose = x.verbose }) (one_or_none _ rows _ _ x.keep y.keep a.keep b.keep)
     ∙ ap (λ o. record y { every = o; until = x.until; verbose = x.verbose }) (one_or_none _ rows _ _ x.every y.every a.every b.every)
@@ -49,10 +52,13 @@ one_host rows x y a b =
 
 pub one_view : (rows : List Row) (x y : ViewOrder) → AsksView rows x → AsksView rows y → x ≡ y
 one_view rows x y a b =
-    ap (λ n. record x { port = n }) (one a.port b.port)
-    ∙ ap (λ n. record x { port = y.port; who = n }) (one a.who b.who)
-    ∙ ap (λ n. record x { port = y.port; who = y.who; boot = n }) (one a.boot b.boot)
-    ∙ ap (λ e. record x { port = y.port; who = y.who; boot = y.boot; end = e }) (one_end rows x.end y.end a.end b.end)
+    ap (λ n. record x { port = n }) (one_or_none _ rows _ _ x.port y.port a.port b.port)
+    ∙ ap (λ v. record x { port = y.port; has_address = v }) (a.has_address ∙ sym b.has_address)
+    ∙ ap (λ v. record x { port = y.port; has_address = y.has_address; has_key = v }) (a.has_key ∙ sym b.has_key)
+    ∙ ap (λ v. record x { port = y.port; has_address = y.has_address; has_key = y.has_key; is_open = v }) (a.is_open ∙ sym b.is_open)
+    ∙ ap (λ n. record y { who = n; boot = x.boot; end = x.end; turns = x.turns; at = x.at; give = x.give; give_turns = x.give_turns; wire = x.wire; join = x.join; verbose = x.verbose }) (one a.who b.who)
+    ∙ ap (λ n. record y { boot = n; end = x.end; turns = x.turns; at = x.at; give = x.give; give_turns = x.give_turns; wire = x.wire; join = x.join; verbose = x.verbose }) (one a.boot b.boot)
+    ∙ ap (λ e. record y { end = e; turns = x.turns; at = x.at; give = x.give; give_turns = x.give_turns; wire = x.wire; join = x.join; verbose = x.verbose }) (one_end rows x.end y.end a.end b.end)
     ∙ ap (λ n. record y { turns = n; at = x.at; give = x.give; give_turns = x.give_turns; wire = x.wire; join = x.join; verbose = x.verbose }) (one a.turns b.turns)
     ∙ ap (λ o. record y { at = o; give = x.give; give_turns = x.give_turns; wire = x.wire; join = x.join; verbose = x.verbose }) (one_or_none _ rows _ _ x.at y.at a.at b.at)
     ∙ ap (λ o. record y { give = o; give_turns = x.give_turns; wire = x.wire; join = x.join; verbose = x.verbose }) (one_or_none _ rows _ _ x.give y.give a.give b.give)

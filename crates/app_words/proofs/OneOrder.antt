@@ -5,190 +5,16 @@ use Rattle.clap.specs.Words.{Row, Text, subcommand_of}
 use Rattle.app_words.specs.Commands.{program}
 use Rattle.app_words.specs.declared.order.HostOrder.{HostOrder}
 use Rattle.app_words.specs.declared.order.Order.{Order}
-use Rattle.app_words.specs.declared.order.Order.TheVariants.{Run, Format, Check, Rehearse, Agree, Host, View, Recall, Part}
+use Rattle.app_words.specs.declared.order.Order.TheVariants.{Run, Format, Check, Rehearse, Agree, Host, View, Recall, Part, Key}
 use Rattle.app_words.specs.declared.order.ViewOrder.{ViewOrder}
 use Rattle.app_words.specs.Words.{Asks, Means}
 use Rattle.app_words.proofs.OneNumber.{one, one_or_none, one_host, one_view}
-
-run_alone : (o : Order) (p : Text × List Row) → Asks Run p → Asks o p → Run ≡ o
-run_alone Run p h g = refl
-run_alone Format p h g =
-    let x : slice_index p.0 0 ≡ 114 = ap (λ t. slice_index t 0) h in
-    let y : slice_index p.0 0 ≡ 102 = ap (λ t. slice_index t 0) g in
-    absurd (omega (arith, x, y))
-run_alone Check p h g =
-    let x : slice_index p.0 0 ≡ 114 = ap (λ t. slice_index t 0) h in
-    let y : slice_index p.0 0 ≡ 99 = ap (λ t. slice_index t 0) g in
-    absurd (omega (arith, x, y))
-run_alone (Rehearse viewers2) p h g =
-    let x : slice_index p.0 1 ≡ 117 = ap (λ t. slice_index t 1) h in
-    let y : slice_index p.0 1 ≡ 101 = ap (λ t. slice_index t 1) g.0 in
-    absurd (omega (arith, x, y))
-run_alone (Agree viewers2 turns2) p h g =
-    let x : slice_index p.0 0 ≡ 114 = ap (λ t. slice_index t 0) h in
-    let y : slice_index p.0 0 ≡ 97 = ap (λ t. slice_index t 0) g.0 in
-    absurd (omega (arith, x, y))
-run_alone (Host asked2) p h g =
-    let x : slice_index p.0 0 ≡ 114 = ap (λ t. slice_index t 0) h in
-    let y : slice_index p.0 0 ≡ 104 = ap (λ t. slice_index t 0) g.0 in
-    absurd (omega (arith, x, y))
-run_alone (View asked2) p h g =
-    let x : slice_index p.0 0 ≡ 114 = ap (λ t. slice_index t 0) h in
-    let y : slice_index p.0 0 ≡ 118 = ap (λ t. slice_index t 0) g.0 in
-    absurd (omega (arith, x, y))
-run_alone (Recall until2 info2) p h g =
-    let x : slice_index p.0 1 ≡ 117 = ap (λ t. slice_index t 1) h in
-    let y : slice_index p.0 1 ≡ 101 = ap (λ t. slice_index t 1) g.0 in
-    absurd (omega (arith, x, y))
-run_alone (Part list2) p h g =
-    let x : slice_index p.0 0 ≡ 114 = ap (λ t. slice_index t 0) h in
-    let y : slice_index p.0 0 ≡ 112 = ap (λ t. slice_index t 0) g.0 in
-    absurd (omega (arith, x, y))
-
-format_alone : (o : Order) (p : Text × List Row) → Asks Format p → Asks o p → Format ≡ o
-format_alone Run p h g =
-    let x : slice_index p.0 0 ≡ 102 = ap (λ t. slice_index t 0) h in
-    let y : slice_index p.0 0 ≡ 114 = ap (λ t. slice_index t 0) g in
-    absurd (omega (arith, x, y))
-format_alone Format p h g = refl
-format_alone Check p h g =
-    let x : slice_index p.0 0 ≡ 102 = ap (λ t. slice_index t 0) h in
-    let y : slice_index p.0 0 ≡ 99 = ap (λ t. slice_index t 0) g in
-    absurd (omega (arith, x, y))
-format_alone (Rehearse viewers2) p h g =
-    let x : slice_index p.0 0 ≡ 102 = ap (λ t. slice_index t 0) h in
-    let y : slice_index p.0 0 ≡ 114 = ap (λ t. slice_index t 0) g.0 in
-    absurd (omega (arith, x, y))
-format_alone (Agree viewers2 turns2) p h g =
-    let x : slice_index p.0 0 ≡ 102 = ap (λ t. slice_index t 0) h in
-    let y : slice_index p.0 0 ≡ 97 = ap (λ t. slice_index t 0) g.0 in
-    absurd (omega (arith, x, y))
-format_alone (Host asked2) p h g =
-    let x : slice_index p.0 0 ≡ 102 = ap (λ t. slice_index t 0) h in
-    let y : slice_index p.0 0 ≡ 104 = ap (λ t. slice_index t 0) g.0 in
-    absurd (omega (arith, x, y))
-format_alone (View asked2) p h g =
-    let x : slice_index p.0 0 ≡ 102 = ap (λ t. slice_index t 0) h in
-    let y : slice_index p.0 0 ≡ 118 = ap (λ t. slice_index t 0) g.0 in
-    absurd (omega (arith, x, y))
-format_alone (Recall until2 info2) p h g =
-    let x : slice_index p.0 0 ≡ 102 = ap (λ t. slice_index t 0) h in
-    let y : slice_index p.0 0 ≡ 114 = ap (λ t. slice_index t 0) g.0 in
-    absurd (omega (arith, x, y))
-format_alone (Part list2) p h g =
-    let x : slice_index p.0 0 ≡ 102 = ap (λ t. slice_index t 0) h in
-    let y : slice_index p.0 0 ≡ 112 = ap (λ t. slice_index t 0) g.0 in
-    absurd (omega (arith, x, y))
-
-check_alone : (o : Order) (p : Text × List Row) → Asks Check p → Asks o p → Check ≡ o
-check_alone Run p h g =
-    let x : slice_index p.0 0 ≡ 99 = ap (λ t. slice_index t 0) h in
-    let y : slice_index p.0 0 ≡ 114 = ap (λ t. slice_index t 0) g in
-    absurd (omega (arith, x, y))
-check_alone Format p h g =
-    let x : slice_index p.0 0 ≡ 99 = ap (λ t. slice_index t 0) h in
-    let y : slice_index p.0 0 ≡ 102 = ap (λ t. slice_index t 0) g in
-    absurd (omega (arith, x, y))
-check_alone Check p h g = refl
-check_alone (Rehearse viewers2) p h g =
-    let x : slice_index p.0 0 ≡ 99 = ap (λ t. slice_index t 0) h in
-    let y : slice_index p.0 0 ≡ 114 = ap (λ t. slice_index t 0) g.0 in
-    absurd (omega (arith, x, y))
-check_alone (Agree viewers2 turns2) p h g =
-    let x : slice_index p.0 0 ≡ 99 = ap (λ t. slice_index t 0) h in
-    let y : slice_index p.0 0 ≡ 97 = ap (λ t. slice_index t 0) g.0 in
-    absurd (omega (arith, x, y))
-check_alone (Host asked2) p h g =
-    let x : slice_index p.0 0 ≡ 99 = ap (λ t. slice_index t 0) h in
-    let y : slice_index p.0 0 ≡ 104 = ap (λ t. slice_index t 0) g.0 in
-    absurd (omega (arith, x, y))
-check_alone (View asked2) p h g =
-    let x : slice_index p.0 0 ≡ 99 = ap (λ t. slice_index t 0) h in
-    let y : slice_index p.0 0 ≡ 118 = ap (λ t. slice_index t 0) g.0 in
-    absurd (omega (arith, x, y))
-check_alone (Recall until2 info2) p h g =
-    let x : slice_index p.0 0 ≡ 99 = ap (λ t. slice_index t 0) h in
-    let y : slice_index p.0 0 ≡ 114 = ap (λ t. slice_index t 0) g.0 in
-    absurd (omega (arith, x, y))
-check_alone (Part list2) p h g =
-    let x : slice_index p.0 0 ≡ 99 = ap (λ t. slice_index t 0) h in
-    let y : slice_index p.0 0 ≡ 112 = ap (λ t. slice_index t 0) g.0 in
-    absurd (omega (arith, x, y))
-
-rehearse_alone : (viewers : ℕ) (o : Order) (p : Text × List Row) → Asks (Rehearse viewers) p → Asks o p → Rehearse viewers ≡ o
-rehearse_alone viewers Run p h g =
-    let x : slice_index p.0 1 ≡ 101 = ap (λ t. slice_index t 1) h.0 in
-    let y : slice_index p.0 1 ≡ 117 = ap (λ t. slice_index t 1) g in
-    absurd (omega (arith, x, y))
-rehearse_alone viewers Format p h g =
-    let x : slice_index p.0 0 ≡ 114 = ap (λ t. slice_index t 0) h.0 in
-    let y : slice_index p.0 0 ≡ 102 = ap (λ t. slice_index t 0) g in
-    absurd (omega (arith, x, y))
-rehearse_alone viewers Check p h g =
-    let x : slice_index p.0 0 ≡ 114 = ap (λ t. slice_index t 0) h.0 in
-    let y : slice_index p.0 0 ≡ 99 = ap (λ t. slice_index t 0) g in
-    absurd (omega (arith, x, y))
-rehearse_alone viewers (Rehearse viewers2) p h g = ap (λ n. Rehearse n) (one h.1 g.1)
-rehearse_alone viewers (Agree viewers2 turns2) p h g =
-    let x : slice_index p.0 0 ≡ 114 = ap (λ t. slice_index t 0) h.0 in
-    let y : slice_index p.0 0 ≡ 97 = ap (λ t. slice_index t 0) g.0 in
-    absurd (omega (arith, x, y))
-rehearse_alone viewers (Host asked2) p h g =
-    let x : slice_index p.0 0 ≡ 114 = ap (λ t. slice_index t 0) h.0 in
-    let y : slice_index p.0 0 ≡ 104 = ap (λ t. slice_index t 0) g.0 in
-    absurd (omega (arith, x, y))
-rehearse_alone viewers (View asked2) p h g =
-    let x : slice_index p.0 0 ≡ 114 = ap (λ t. slice_index t 0) h.0 in
-    let y : slice_index p.0 0 ≡ 118 = ap (λ t. slice_index t 0) g.0 in
-    absurd (omega (arith, x, y))
-rehearse_alone viewers (Recall until2 info2) p h g =
-    let x : slice_index p.0 2 ≡ 104 = ap (λ t. slice_index t 2) h.0 in
-    let y : slice_index p.0 2 ≡ 99 = ap (λ t. slice_index t 2) g.0 in
-    absurd (omega (arith, x, y))
-rehearse_alone viewers (Part list2) p h g =
-    let x : slice_index p.0 0 ≡ 114 = ap (λ t. slice_index t 0) h.0 in
-    let y : slice_index p.0 0 ≡ 112 = ap (λ t. slice_index t 0) g.0 in
-    absurd (omega (arith, x, y))
-
-agree_alone : (viewers : ℕ) (turns : ℕ) (o : Order) (p : Text × List Row) → Asks (Agree viewers turns) p → Asks o p → Agree viewers turns ≡ o
-agree_alone viewers turns Run p h g =
-    let x : slice_index p.0 0 ≡ 97 = ap (λ t. slice_index t 0) h.0 in
-    let y : slice_index p.0 0 ≡ 114 = ap (λ t. slice_index t 0) g in
-    absurd (omega (arith, x, y))
-agree_alone viewers turns Format p h g =
-    let x : slice_index p.0 0 ≡ 97 = ap (λ t. slice_index t 0) h.0 in
-    let y : slice_index p.0 0 ≡ 102 = ap (λ t. slice_index t 0) g in
-    absurd (omega (arith, x, y))
-agree_alone viewers turns Check p h g =
-    let x : slice_index p.0 0 ≡ 97 = ap (λ t. slice_index t 0) h.0 in
-    let y : slice_index p.0 0 ≡ 99 = ap (λ t. slice_index t 0) g in
-    absurd (omega (arith, x, y))
-agree_alone viewers turns (Rehearse viewers2) p h g =
-    let x : slice_index p.0 0 ≡ 97 = ap (λ t. slice_index t 0) h.0 in
-    let y : slice_index p.0 0 ≡ 114 = ap (λ t. slice_index t 0) g.0 in
-    absurd (omega (arith, x, y))
-agree_alone viewers turns (Agree viewers2 turns2) p h g = ap (λ n. Agree n turns) (one h.1 g.1) ∙ ap (λ n. Agree viewers2 n) (one h.2 g.2)
-agree_alone viewers turns (Host asked2) p h g =
-    let x : slice_index p.0 0 ≡ 97 = ap (λ t. slice_index t 0) h.0 in
-    let y : slice_index p.0 0 ≡ 104 = ap (λ t. slice_index t 0) g.0 in
-    absurd (omega (arith, x, y))
-agree_alone viewers turns (View asked2) p h g =
-    let x : slice_index p.0 0 ≡ 97 = ap (λ t. slice_index t 0) h.0 in
-    let y : slice_index p.0 0 ≡ 118 = ap (λ t. slice_index t 0) g.0 in
-    absurd (omega (arith, x, y))
-agree_alone viewers turns (Recall until2 info2) p h g =
-    let x : slice_index p.0 0 ≡ 97 = ap (λ t. slice_index t 0) h.0 in
-    let y : slice_index p.0 0 ≡ 114 = ap (λ t. slice_index t 0) g.0 in
-    absurd (omega (arith, x, y))
-agree_alone viewers turns (Part list2) p h g =
-    let x : slice_index p.0 0 ≡ 97 = ap (λ t. slice_index t 0) h.0 in
-    let y : slice_index p.0 0 ≡ 112 = ap (λ t. slice_index t 0) g.0 in
-    absurd (omega (arith, x, y))
+use Rattle.app_words.proofs.OneLocal.{run_alone, format_alone, check_alone, rehearse_alone, agree_alone}
 
 host_alone : (asked : HostOrder) (o : Order) (p : Text × List Row) → Asks (Host asked) p → Asks o p → Host asked ≡ o
-host_alone asked Run p h g =
+host_alone asked (Run no_trace2) p h g =
     let x : slice_index p.0 0 ≡ 104 = ap (λ t. slice_index t 0) h.0 in
-    let y : slice_index p.0 0 ≡ 114 = ap (λ t. slice_index t 0) g in
+    let y : slice_index p.0 0 ≡ 114 = ap (λ t. slice_index t 0) g.0 in
     absurd (omega (arith, x, y))
 host_alone asked Format p h g =
     let x : slice_index p.0 0 ≡ 104 = ap (λ t. slice_index t 0) h.0 in
@@ -219,11 +45,15 @@ host_alone asked (Part list2) p h g =
     let x : slice_index p.0 0 ≡ 104 = ap (λ t. slice_index t 0) h.0 in
     let y : slice_index p.0 0 ≡ 112 = ap (λ t. slice_index t 0) g.0 in
     absurd (omega (arith, x, y))
+host_alone asked (Key viewers2) p h g =
+    let x : slice_index p.0 0 ≡ 104 = ap (λ t. slice_index t 0) h.0 in
+    let y : slice_index p.0 0 ≡ 107 = ap (λ t. slice_index t 0) g.0 in
+    absurd (omega (arith, x, y))
 
 view_alone : (asked : ViewOrder) (o : Order) (p : Text × List Row) → Asks (View asked) p → Asks o p → View asked ≡ o
-view_alone asked Run p h g =
+view_alone asked (Run no_trace2) p h g =
     let x : slice_index p.0 0 ≡ 118 = ap (λ t. slice_index t 0) h.0 in
-    let y : slice_index p.0 0 ≡ 114 = ap (λ t. slice_index t 0) g in
+    let y : slice_index p.0 0 ≡ 114 = ap (λ t. slice_index t 0) g.0 in
     absurd (omega (arith, x, y))
 view_alone asked Format p h g =
     let x : slice_index p.0 0 ≡ 118 = ap (λ t. slice_index t 0) h.0 in
@@ -254,11 +84,15 @@ view_alone asked (Part list2) p h g =
     let x : slice_index p.0 0 ≡ 118 = ap (λ t. slice_index t 0) h.0 in
     let y : slice_index p.0 0 ≡ 112 = ap (λ t. slice_index t 0) g.0 in
     absurd (omega (arith, x, y))
+view_alone asked (Key viewers2) p h g =
+    let x : slice_index p.0 0 ≡ 118 = ap (λ t. slice_index t 0) h.0 in
+    let y : slice_index p.0 0 ≡ 107 = ap (λ t. slice_index t 0) g.0 in
+    absurd (omega (arith, x, y))
 
 recall_alone : (until : Option ℕ) (info : Bool) (o : Order) (p : Text × List Row) → Asks (Recall until info) p → Asks o p → Recall until info ≡ o
-recall_alone until info Run p h g =
+recall_alone until info (Run no_trace2) p h g =
     let x : slice_index p.0 1 ≡ 101 = ap (λ t. slice_index t 1) h.0 in
-    let y : slice_index p.0 1 ≡ 117 = ap (λ t. slice_index t 1) g in
+    let y : slice_index p.0 1 ≡ 117 = ap (λ t. slice_index t 1) g.0 in
     absurd (omega (arith, x, y))
 recall_alone until info Format p h g =
     let x : slice_index p.0 0 ≡ 114 = ap (λ t. slice_index t 0) h.0 in
@@ -289,11 +123,15 @@ recall_alone until info (Part list2) p h g =
     let x : slice_index p.0 0 ≡ 114 = ap (λ t. slice_index t 0) h.0 in
     let y : slice_index p.0 0 ≡ 112 = ap (λ t. slice_index t 0) g.0 in
     absurd (omega (arith, x, y))
+recall_alone until info (Key viewers2) p h g =
+    let x : slice_index p.0 0 ≡ 114 = ap (λ t. slice_index t 0) h.0 in
+    let y : slice_index p.0 0 ≡ 107 = ap (λ t. slice_index t 0) g.0 in
+    absurd (omega (arith, x, y))
 
 part_alone : (list : Bool) (o : Order) (p : Text × List Row) → Asks (Part list) p → Asks o p → Part list ≡ o
-part_alone list Run p h g =
+part_alone list (Run no_trace2) p h g =
     let x : slice_index p.0 0 ≡ 112 = ap (λ t. slice_index t 0) h.0 in
-    let y : slice_index p.0 0 ≡ 114 = ap (λ t. slice_index t 0) g in
+    let y : slice_index p.0 0 ≡ 114 = ap (λ t. slice_index t 0) g.0 in
     absurd (omega (arith, x, y))
 part_alone list Format p h g =
     let x : slice_index p.0 0 ≡ 112 = ap (λ t. slice_index t 0) h.0 in
@@ -324,9 +162,52 @@ part_alone list (Recall until2 info2) p h g =
     let y : slice_index p.0 0 ≡ 114 = ap (λ t. slice_index t 0) g.0 in
     absurd (omega (arith, x, y))
 part_alone list (Part list2) p h g = ap (λ b. Part b) (h.1 ∙ sym g.1)
+part_alone list (Key viewers2) p h g =
+    let x : slice_index p.0 0 ≡ 112 = ap (λ t. slice_index t 0) h.0 in
+    let y : slice_index p.0 0 ≡ 107 = ap (λ t. slice_index t 0) g.0 in
+    absurd (omega (arith, x, y))
+
+key_alone : (viewers : ℕ) (o : Order) (p : Text × List Row) → Asks (Key viewers) p → Asks o p → Key viewers ≡ o
+key_alone viewers (Run no_trace2) p h g =
+    let x : slice_index p.0 0 ≡ 107 = ap (λ t. slice_index t 0) h.0 in
+    let y : slice_index p.0 0 ≡ 114 = ap (λ t. slice_index t 0) g.0 in
+    absurd (omega (arith, x, y))
+key_alone viewers Format p h g =
+    let x : slice_index p.0 0 ≡ 107 = ap (λ t. slice_index t 0) h.0 in
+    let y : slice_index p.0 0 ≡ 102 = ap (λ t. slice_index t 0) g in
+    absurd (omega (arith, x, y))
+key_alone viewers Check p h g =
+    let x : slice_index p.0 0 ≡ 107 = ap (λ t. slice_index t 0) h.0 in
+    let y : slice_index p.0 0 ≡ 99 = ap (λ t. slice_index t 0) g in
+    absurd (omega (arith, x, y))
+key_alone viewers (Rehearse viewers2) p h g =
+    let x : slice_index p.0 0 ≡ 107 = ap (λ t. slice_index t 0) h.0 in
+    let y : slice_index p.0 0 ≡ 114 = ap (λ t. slice_index t 0) g.0 in
+    absurd (omega (arith, x, y))
+key_alone viewers (Agree viewers2 turns2) p h g =
+    let x : slice_index p.0 0 ≡ 107 = ap (λ t. slice_index t 0) h.0 in
+    let y : slice_index p.0 0 ≡ 97 = ap (λ t. slice_index t 0) g.0 in
+    absurd (omega (arith, x, y))
+key_alone viewers (Host asked2) p h g =
+    let x : slice_index p.0 0 ≡ 107 = ap (λ t. slice_index t 0) h.0 in
+    let y : slice_index p.0 0 ≡ 104 = ap (λ t. slice_index t 0) g.0 in
+    absurd (omega (arith, x, y))
+key_alone viewers (View asked2) p h g =
+    let x : slice_index p.0 0 ≡ 107 = ap (λ t. slice_index t 0) h.0 in
+    let y : slice_index p.0 0 ≡ 118 = ap (λ t. slice_index t 0) g.0 in
+    absurd (omega (arith, x, y))
+key_alone viewers (Recall until2 info2) p h g =
+    let x : slice_index p.0 0 ≡ 107 = ap (λ t. slice_index t 0) h.0 in
+    let y : slice_index p.0 0 ≡ 114 = ap (λ t. slice_index t 0) g.0 in
+    absurd (omega (arith, x, y))
+key_alone viewers (Part list2) p h g =
+    let x : slice_index p.0 0 ≡ 107 = ap (λ t. slice_index t 0) h.0 in
+    let y : slice_index p.0 0 ≡ 112 = ap (λ t. slice_index t 0) g.0 in
+    absurd (omega (arith, x, y))
+key_alone viewers (Key viewers2) p h g = ap (λ n. Key n) (one h.1 g.1)
 
 asks_one : (a b : Order) (p : Text × List Row) → Asks a p → Asks b p → a ≡ b
-asks_one Run b p h g = run_alone b p h g
+asks_one (Run no_trace) b p h g = run_alone no_trace b p h g
 asks_one Format b p h g = format_alone b p h g
 asks_one Check b p h g = check_alone b p h g
 asks_one (Rehearse viewers) b p h g = rehearse_alone viewers b p h g
@@ -335,6 +216,7 @@ asks_one (Host asked) b p h g = host_alone asked b p h g
 asks_one (View asked) b p h g = view_alone asked b p h g
 asks_one (Recall until info) b p h g = recall_alone until info b p h g
 asks_one (Part list) b p h g = part_alone list b p h g
+asks_one (Key viewers) b p h g = key_alone viewers b p h g
 
 some_one : (x : Option (Text × List Row)) (a b : Order) → IsSomeAnd x (Asks a) → IsSomeAnd x (Asks b) → a ≡ b
 some_one (Some p) a b h g = asks_one a b p h g

@@ -7,18 +7,18 @@ use Rattle.clap.specs.declared.error.ErrorKind.TheVariants as kind
 use Rattle.app_words.specs.declared.order.Order.{Order}
 use Rattle.app_words.specs.declared.order.OrderFault.{OrderFault}
 use Rattle.app_words.specs.declared.order.OrderFault.TheVariants as fault
-use Rattle.app_words.specs.Commands.{program, logged_program, shared_program, local_program, single_program, bare_program}
+use Rattle.app_words.specs.Commands.{program, parted_program, logged_program, shared_program, local_program, single_program, bare_program}
 use Rattle.app_words.specs.Commands.{run_app, format_app, check_app, rehearse_app, agree_app, host_app}
-use Rattle.app_words.specs.Commands.{view_app, recall_app, part_app}
+use Rattle.app_words.specs.Commands.{view_app, recall_app, part_app, key_app}
 use Rattle.app_words.specs.Request.{RequestsNothing}
-use Rattle.app_words.specs.Words.{Asks, Means, IsText, IsRefusal, AsksForText, AsksOnlyForText, log_file_named, names_file_named}
+use Rattle.app_words.specs.Words.{Asks, Means, IsText, IsRefusal, AsksForText, AsksOnlyForText, text_named}
 
 program_is_simple : is_simple_and_free program ≡ true
-unfolding program logged_program shared_program local_program single_program bare_program run_app format_app check_app rehearse_app agree_app host_app view_app recall_app part_app
+unfolding program parted_program logged_program shared_program local_program single_program bare_program run_app format_app check_app rehearse_app agree_app host_app view_app recall_app part_app key_app
 program_is_simple = refl
 
 program_is_plain : is_simple program ≡ true
-unfolding program logged_program shared_program local_program single_program bare_program run_app format_app check_app rehearse_app agree_app host_app view_app recall_app part_app
+unfolding program parted_program logged_program shared_program local_program single_program bare_program run_app format_app check_app rehearse_app agree_app host_app view_app recall_app part_app key_app
 program_is_plain = refl
 
 -- words that are taken mean what their command asks for
@@ -91,27 +91,20 @@ pub refused_by : (a : App) (words : List Text) (k : ErrorKind) (f : OrderFault) 
 refused_by a words k f e h (inl memory) = inl memory
 refused_by a words k f e h (inr refused) = inr (refused.0, nothing_by a words k e h refused.1)
 
--- ---- the log's file
+-- ---- the text of an option
 
-pub file_named : (a : App) (words : List Text) (rows : Option (Text × List Row)) (file : Option Text) → a ≡ program
-    → (is_simple a ≡ true → rows ≡ subcommand_of a words) → file ≡ log_file_named rows
-    → file ≡ log_file_named (subcommand_of program words)
-file_named a words rows file e found named =
+pub text_found : (a : App) (words : List Text) (id : Text) (rows : Option (Text × List Row)) (text : Option Text) → a ≡ program
+    → (is_simple a ≡ true → rows ≡ subcommand_of a words) → text ≡ text_named id rows
+    → text ≡ text_named id (subcommand_of program words)
+text_found a words id rows text e found named =
     let same : rows ≡ subcommand_of program words = rw e at (found (rw e program_is_plain)) in
-    named ∙ ap log_file_named same
+    named ∙ ap (text_named id) same
 
-pub names_named : (a : App) (words : List Text) (rows : Option (Text × List Row)) (file : Option Text) → a ≡ program
-    → (is_simple a ≡ true → rows ≡ subcommand_of a words) → file ≡ names_file_named rows
-    → file ≡ names_file_named (subcommand_of program words)
-names_named a words rows file e found named =
-    let same : rows ≡ subcommand_of program words = rw e at (found (rw e program_is_plain)) in
-    named ∙ ap names_file_named same
-
-pub file_refused : (a : App) (words : List Text) (k said : ErrorKind) (f : OrderFault) → a ≡ program → IsAnswered a words k → said ≡ k
+pub text_refused : (a : App) (words : List Text) (k said : ErrorKind) (f : OrderFault) → a ≡ program → IsAnswered a words k → said ≡ k
     → (f ≡ fault.Memory) ⊎ ((f ≡ fault.Words) × (said ≢ kind.OutOfMemory))
     → (f ≡ fault.Memory) ⊎ ((f ≡ fault.Words) × (fault_of program words ≢ []))
-file_refused a words k said f e h is (inl memory) = inl memory
-file_refused a words k said f e h is (inr refused) = inr (
+text_refused a words k said f e h is (inl memory) = inl memory
+text_refused a words k said f e h is (inr refused) = inr (
   refused.0,
   λ none.
       let faults : fault_of a words ≡ [] = rw e none in

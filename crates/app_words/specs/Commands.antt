@@ -8,7 +8,8 @@ use Rattle.app_words.specs.Options.{until_rule}
 use Rattle.app_words.specs.Options.{who_rule, boot_rule, exactly_rule, at_rule, give_rule}
 use Rattle.app_words.specs.Options.{give_turns_rule, wire_rule, host_viewers_rule, host_turns_rule}
 use Rattle.app_words.specs.Options.{log_rule, new_log_rule, keep_names_rule, text_rule}
-use Rattle.app_words.specs.Options.{join_rule, info_rule, list_rule, verbose_rule, number_rule, flag_rule}
+use Rattle.app_words.specs.Options.{listen_rule, host_rule, keys_rule, key_rule, folder_rule, open_rule}
+use Rattle.app_words.specs.Options.{join_rule, no_trace_rule, info_rule, list_rule, verbose_rule, number_rule, flag_rule}
 use Rattle.app_words.specs.declared.commands.CommandWords.{CommandWords}
 use Rattle.app_words.specs.declared.options.FlagOption.{FlagOption}
 use Rattle.app_words.specs.declared.options.NumberOption.{NumberOption}
@@ -29,10 +30,11 @@ bare_program =
 abbrev pub taking : Text → List Rule → App
 taking name rules = fold with_rule (new_app name) rules
 
--- `run`, `format` and `check`, without options
+-- `run --no-trace`
 unfoldable pub run_app : App
-run_app = new_app (codes "run")
+run_app = taking (codes "run") (no_trace_rule ∷ [])
 
+-- `format` and `check`, without options
 unfoldable pub format_app : App
 format_app = new_app (codes "format")
 
@@ -47,18 +49,20 @@ rehearse_app = taking (codes "rehearse") (viewers_rule ∷ [])
 unfoldable pub agree_app : App
 agree_app = taking (codes "agree") (viewers_rule ∷ turns_rule ∷ [])
 
--- `host --port P --viewers K --until N --keep N --every MS --turns T --log FILE --new-log FILE -v`
+-- `host --port P --viewers K --until N --keep N --every MS --turns T --listen ADDRESS:PORT
+-- --log FILE --new-log FILE --keys FILE --open -v`
 unfoldable pub host_app : App
 host_app = taking (codes "host")
     (port_rule ∷ host_viewers_rule ∷ until_rule ∷ keep_rule ∷ every_rule ∷ host_turns_rule
-    ∷ log_rule ∷ new_log_rule ∷ verbose_rule ∷ [])
+    ∷ listen_rule ∷ log_rule ∷ new_log_rule ∷ keys_rule ∷ open_rule ∷ verbose_rule ∷ [])
 
 -- `view --port P --who V --boot B --until N --exactly N --turns T --at Q --give Q --give-turns T
--- --wire VERSION --join -v`
+-- --wire VERSION --host ADDRESS:PORT --key FILE --open --join -v`
 unfoldable pub view_app : App
 view_app = taking (codes "view")
     (port_rule ∷ who_rule ∷ boot_rule ∷ until_rule ∷ exactly_rule ∷ turns_rule ∷ at_rule
-    ∷ give_rule ∷ give_turns_rule ∷ wire_rule ∷ join_rule ∷ verbose_rule ∷ [])
+    ∷ give_rule ∷ give_turns_rule ∷ wire_rule ∷ host_rule ∷ key_rule ∷ open_rule ∷ join_rule
+    ∷ verbose_rule ∷ [])
 
 -- `recall --until N --info`
 unfoldable pub recall_app : App
@@ -68,8 +72,12 @@ recall_app = taking (codes "recall") (until_rule ∷ info_rule ∷ [])
 unfoldable pub part_app : App
 part_app = taking (codes "part") (keep_names_rule ∷ list_rule ∷ [])
 
--- the program with the commands that take no options; then with `rehearse` and `agree`; then with
--- `host` and `view`; with `recall`; then with all
+-- `key --viewers K FOLDER`
+unfoldable pub key_app : App
+key_app = taking (codes "key") (viewers_rule ∷ folder_rule ∷ [])
+
+-- the program with `run`, `format` and `check`; then with `rehearse` and `agree`; then with
+-- `host` and `view`; with `recall`; with `part`; then with all
 unfoldable pub single_program : App
 single_program =
     with_subcommand (with_subcommand (with_subcommand bare_program run_app.top) format_app.top)
@@ -84,8 +92,11 @@ shared_program = with_subcommand (with_subcommand local_program host_app.top) vi
 unfoldable pub logged_program : App
 logged_program = with_subcommand shared_program recall_app.top
 
+unfoldable pub parted_program : App
+parted_program = with_subcommand logged_program part_app.top
+
 unfoldable pub program : App
-program = with_subcommand logged_program part_app.top
+program = with_subcommand parted_program key_app.top
 
 -- ---- the program's table
 

@@ -1,11 +1,22 @@
 -- Options of `view` and of `host` that don't go together, though each has its range (our choice).
-use Rattle.std.specs.Prelude.{ℕ, Bool, true, false, ◌==◌, ◌&&◌, nat_lt, not, is_none, is_some, Option, None, Some, if◌then◌else◌}
+use Rattle.std.specs.Prelude.{ℕ, Bool, true, false, ◌==◌, ◌&&◌, ◌||◌, nat_lt, not, is_none, is_some, Option, None, Some, if◌then◌else◌}
 use Rattle.app_words.specs.declared.misfit.Misfit.{Misfit}
 use Rattle.app_words.specs.declared.misfit.Misfit.TheVariants as misfit
 use Rattle.app_words.specs.declared.order.HostOrder.{HostOrder}
 use Rattle.app_words.specs.declared.order.LogUse.{LogUse}
 use Rattle.app_words.specs.declared.order.LogUse.TheVariants.{Without, GoesOn, Makes}
 use Rattle.app_words.specs.declared.order.ViewOrder.{ViewOrder}
+
+-- the first of two reasons
+abbrev pub or_else : Option Misfit → Option Misfit → Option Misfit
+or_else None later = later
+or_else (Some first) later = Some first
+
+-- a host is at a port of this machine or at an address, and not at both
+abbrev pub place_misfit : (why : Misfit) → (port : Option ℕ) → (has_address : Bool) → Option Misfit
+place_misfit why (Some port) true = Some why
+place_misfit why None false = Some why
+place_misfit why port has_address = None
 
 -- a viewer joins in a boot above that of a snapshot, which is at least 1, and at a port that the
 -- other viewer was told
@@ -16,29 +27,52 @@ join_misfit o =
     else if is_none o.at then Some misfit.NoOwnPort
     else None
 
--- its own port is not the host's
-abbrev pub at_misfit : (port : ℕ) → (at : Option ℕ) → Option Misfit
-at_misfit port None = None
-at_misfit port (Some own) = if own == port then Some (misfit.AtHost own) else None
+-- its own port is not the host's, where that is one of this machine
+abbrev pub at_misfit : (port at : Option ℕ) → Option Misfit
+at_misfit (Some port) (Some own) = if own == port then Some (misfit.AtHost own) else None
+at_misfit port at = None
 
 -- it gives neither to its own port nor to the host's
 abbrev pub own_misfit : (at : Option ℕ) → (to : ℕ) → Option Misfit
 own_misfit None to = None
 own_misfit (Some own) to = if own == to then Some (misfit.GivesToItself to) else None
 
-abbrev pub give_misfit : (port : ℕ) → (at give : Option ℕ) → Option Misfit
-give_misfit port at None = None
-give_misfit port at (Some to) =
-    if to == port then Some (misfit.GivesToHost to) else own_misfit at to
+abbrev pub given_misfit : (port at : Option ℕ) → (to : ℕ) → Option Misfit
+given_misfit None at to = own_misfit at to
+given_misfit (Some port) at to =
+    if port == to then Some (misfit.GivesToHost to) else own_misfit at to
 
-abbrev pub or_else : Option Misfit → Option Misfit → Option Misfit
-or_else None later = later
-or_else (Some first) later = Some first
+abbrev pub give_misfit : (port at give : Option ℕ) → Option Misfit
+give_misfit port at None = None
+give_misfit port at (Some to) = given_misfit port at to
+
+-- ---- viewers with a key
+
+-- a host or a viewer with keys isn't open to whoever comes
+abbrev pub open_misfit : (why : Misfit) → (has_keys is_open : Bool) → Option Misfit
+open_misfit why has_keys is_open = if has_keys && is_open then Some why else None
+
+-- version 1 is spoken on one machine alone, without keys
+abbrev pub first_misfit : (wire : Option ℕ) → Option Misfit
+first_misfit None = None
+first_misfit (Some n) = if n == 1 then Some misfit.FirstWire else None
+
+abbrev pub wire_misfit : ViewOrder → Option Misfit
+wire_misfit o = if o.has_key || o.has_address then first_misfit o.wire else None
+
+-- snapshots come from the host alone: another viewer has no key for them
+abbrev pub sealed_misfit : ViewOrder → Option Misfit
+sealed_misfit o =
+    if o.has_key && (o.join || is_some o.give) then Some misfit.SealedGiving else None
 
 -- the first reason why the options don't go together, if there is one
 abbrev pub misfit_of : ViewOrder → Option Misfit
 misfit_of o =
-    or_else (join_misfit o) (or_else (at_misfit o.port o.at) (give_misfit o.port o.at o.give))
+    or_else (place_misfit misfit.TwoHosts o.port o.has_address)
+    (or_else (join_misfit o) (or_else (at_misfit o.port o.at)
+    (or_else (give_misfit o.port o.at o.give)
+    (or_else (open_misfit misfit.OpenWithKey o.has_key o.is_open)
+    (or_else (sealed_misfit o) (wire_misfit o))))))
 
 -- ---- hosts
 
@@ -48,6 +82,12 @@ has_log GoesOn = true
 has_log Makes = true
 
 -- only a host with a log makes clocks
+abbrev pub every_misfit : HostOrder → Option Misfit
+every_misfit o =
+    if not (has_log o.log) && is_some o.every then Some misfit.EveryWithoutLog else None
+
+-- the first reason why the options don't go together, if there is one
 abbrev pub host_misfit : HostOrder → Option Misfit
 host_misfit o =
-    if not (has_log o.log) && is_some o.every then Some misfit.EveryWithoutLog else None
+    or_else (place_misfit misfit.TwoPlaces o.port o.has_address)
+    (or_else (every_misfit o) (open_misfit misfit.OpenWithKeys o.has_keys o.is_open))

@@ -1,7 +1,7 @@
 -- The options of the commands as `clap` options. An option of a number has a name and a range; it
--- has a default, is required, or may be left out. One of a text may be left out. A flag has no
--- value.
-use Rattle.std.specs.Prelude.{ℕ, ◌-◌, [], ◌∷◌, Some, codes, pos, true}
+-- has a default, is required, or may be left out. One of a text may be left out, and a word is
+-- required. A flag has no value.
+use Rattle.std.specs.Prelude.{ℕ, ◌-◌, [], ◌∷◌, Some, codes, pos, true, if◌then◌else◌}
 use Rattle.clap.specs.Words.{Rule, Text, new_rule}
 use Rattle.clap.specs.declared.builder.action.ArgAction.TheVariants.{SetTrue}
 use Rattle.clap.specs.declared.builder.value_parser.ValueParser.TheVariants.{Signed}
@@ -50,9 +50,31 @@ new_log_rule = option (codes "new-log")
 abbrev pub keep_names_rule : Rule
 keep_names_rule = option (codes "keep-names")
 
--- `--port P`, from 1 to 65535, required
+-- `--port P`, from 1 to 65535
 abbrev pub port_rule : Rule
-port_rule = record (ranged (codes "port") 1 65535) { required = true }
+port_rule = ranged (codes "port") 1 65535
+
+-- `--listen ADDRESS:PORT` of `host`, and `--host ADDRESS:PORT` of `view`
+abbrev pub listen_rule : Rule
+listen_rule = option (codes "listen")
+
+abbrev pub host_rule : Rule
+host_rule = option (codes "host")
+
+-- `--keys FILE` of `host`, and `--key FILE` of `view`
+abbrev pub keys_rule : Rule
+keys_rule = option (codes "keys")
+
+abbrev pub key_rule : Rule
+key_rule = option (codes "key")
+
+-- VALUE, a word of its own, required
+abbrev pub word : Text → Rule
+word name = record (new_rule name) { value_names = 1; required = true }
+
+-- `key FOLDER`
+abbrev pub folder_rule : Rule
+folder_rule = word (codes "folder")
 
 -- `--who V`, the number of a viewer, required
 abbrev pub who_rule : Rule
@@ -96,9 +118,17 @@ wire_rule = ranged (codes "wire") 1 2
 abbrev pub flag : Text → Rule
 flag name = record (new_rule name) { long = Some name; action = Some SetTrue }
 
+-- `--open`
+abbrev pub open_rule : Rule
+open_rule = flag (codes "open")
+
 -- `--join`
 abbrev pub join_rule : Rule
 join_rule = flag (codes "join")
+
+-- `--no-trace`
+abbrev pub no_trace_rule : Rule
+no_trace_rule = flag (codes "no-trace")
 
 -- `--info`
 abbrev pub info_rule : Rule
@@ -127,7 +157,7 @@ abbrev pub number_rule : NumberOption → Rule
 number_rule o = with_unless o.unless (ranged_rule o)
 
 abbrev pub text_rule : TextOption → Rule
-text_rule o = option o.name.now
+text_rule o = if o.is_word then word o.name.now else option o.name.now
 
 abbrev pub flag_rule : FlagOption → Rule
 flag_rule o = record (flag o.name.now) { short = o.letter }

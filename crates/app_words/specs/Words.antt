@@ -15,7 +15,7 @@ use Rattle.app_words.specs.declared.order.HostOrder.{HostOrder}
 use Rattle.app_words.specs.declared.order.LogUse.{LogUse}
 use Rattle.app_words.specs.declared.order.LogUse.TheVariants.{Without, GoesOn, Makes}
 use Rattle.app_words.specs.declared.order.Order.{Order}
-use Rattle.app_words.specs.declared.order.Order.TheVariants.{Run, Format, Check, Rehearse, Agree, Host, View, Recall, Part}
+use Rattle.app_words.specs.declared.order.Order.TheVariants.{Run, Format, Check, Rehearse, Agree, Host, View, Recall, Part, Key}
 use Rattle.app_words.specs.declared.order.OrderFault.{OrderFault}
 use Rattle.app_words.specs.declared.order.OrderFault.TheVariants.{Words, Memory}
 use Rattle.app_words.specs.declared.order.ViewEnd.{ViewEnd}
@@ -60,9 +60,6 @@ IsTurns rows turns = HasNumberIn (codes "turns") rows 1 10000000 turns
 abbrev pub IsGiveTurns : List Row → ℕ → Type 0
 IsGiveTurns rows turns = HasNumberIn (codes "give-turns") rows 1 4294967295 turns
 
-abbrev pub IsPort : List Row → ℕ → Type 0
-IsPort rows port = HasNumberIn (codes "port") rows 1 65535 port
-
 abbrev pub IsWho : List Row → ℕ → Type 0
 IsWho rows who = HasNumberIn (codes "who") rows 0 max_who who
 
@@ -75,6 +72,9 @@ MayHaveViewers rows viewers = MayHaveNumberIn (codes "viewers") rows 1 max_viewe
 
 abbrev pub MayHaveTurns : List Row → Option ℕ → Type 0
 MayHaveTurns rows turns = MayHaveNumberIn (codes "turns") rows 1 10000000 turns
+
+abbrev pub MayHavePort : List Row → Option ℕ → Type 0
+MayHavePort rows port = MayHaveNumberIn (codes "port") rows 1 65535 port
 
 abbrev pub MayHaveKeep : List Row → Option ℕ → Type 0
 MayHaveKeep rows keep = MayHaveNumberIn (codes "keep") rows 0 max_inputs keep
@@ -108,11 +108,16 @@ end_of (Some n) None = Some (Until n)
 end_of None (Some n) = Some (Exactly n)
 end_of _ _ = None
 
--- ---- the log of a host
+-- ---- texts, and the log of a host
 
--- the text that an option has, if it was given
+-- reports whether an option that takes a text was given
 abbrev pub is_text_given : Text → List Row → Bool
 is_text_given id rows = is_some (first_of id rows)
+
+-- the text of the option of this name, among those of the command that words name
+abbrev pub text_named : Text → Option (Text × List Row) → Option Text
+text_named id None = None
+text_named id (Some p) = first_of id p.1
 
 -- what is done with a log, by which of `--log` and `--new-log` was given. Both don't go together
 abbrev pub log_use_of : (goes_on makes : Bool) → Option LogUse
@@ -126,31 +131,14 @@ abbrev pub log_use_in : List Row → Option LogUse
 log_use_in rows =
     log_use_of (is_text_given (codes "log") rows) (is_text_given (codes "new-log") rows)
 
-abbrev pub first_some : Option Text → Option Text → Option Text
-first_some (Some one) other = Some one
-first_some None other = other
-
--- the name of the log's file
-abbrev pub log_file_in : List Row → Option Text
-log_file_in rows = first_some (first_of (codes "log") rows) (first_of (codes "new-log") rows)
-
--- the name of the log's file, among the options of the command that words name
-abbrev pub log_file_named : Option (Text × List Row) → Option Text
-log_file_named None = None
-log_file_named (Some p) = log_file_in p.1
-
--- ---- the names that have to stay in a part
-
--- the name of the file of `--keep-names`, among the options of the command that words name
-abbrev pub names_file_named : Option (Text × List Row) → Option Text
-names_file_named None = None
-names_file_named (Some p) = first_of (codes "keep-names") p.1
-
 -- ---- orders
 
 -- the matches of `host` ask for this
 pub record AsksHost (rows : List Row) (o : HostOrder) : Type 0 where
-  pub port : IsPort rows o.port
+  pub port : MayHavePort rows o.port
+  pub has_address : o.has_address ≡ is_text_given (codes "listen") rows
+  pub has_keys : o.has_keys ≡ is_text_given (codes "keys") rows
+  pub is_open : o.is_open ≡ is_given (codes "open") rows
   pub log : log_use_in rows ≡ Some o.log
   pub viewers : MayHaveViewers rows o.viewers
   pub until : MayHaveUntil rows o.until
@@ -161,7 +149,10 @@ pub record AsksHost (rows : List Row) (o : HostOrder) : Type 0 where
 
 -- the matches of `view` have these options; what they ask for also goes together
 pub record AsksView (rows : List Row) (o : ViewOrder) : Type 0 where
-  pub port : IsPort rows o.port
+  pub port : MayHavePort rows o.port
+  pub has_address : o.has_address ≡ is_text_given (codes "host") rows
+  pub has_key : o.has_key ≡ is_text_given (codes "key") rows
+  pub is_open : o.is_open ≡ is_given (codes "open") rows
   pub who : IsWho rows o.who
   pub boot : IsBoot rows o.boot
   pub end : IsEnd rows o.end
@@ -175,7 +166,7 @@ pub record AsksView (rows : List Row) (o : ViewOrder) : Type 0 where
 
 -- the command of this name with these matches asks for this
 abbrev pub Asks : Order → Text × List Row → Type 0
-Asks Run p = p.0 ≡ codes "run"
+Asks (Run no_trace) p = (p.0 ≡ codes "run") × (no_trace ≡ is_given (codes "no-trace") p.1)
 Asks Format p = p.0 ≡ codes "format"
 Asks Check p = p.0 ≡ codes "check"
 Asks (Rehearse viewers) p = (p.0 ≡ codes "rehearse") × IsViewers p.1 viewers
@@ -186,6 +177,7 @@ Asks (View o) p = (p.0 ≡ codes "view") × AsksView p.1 o × (misfit_of o ≡ N
 Asks (Recall until info) p =
     (p.0 ≡ codes "recall") × MayHaveUntil p.1 until × (info ≡ is_given (codes "info") p.1)
 Asks (Part list) p = (p.0 ≡ codes "part") × (list ≡ is_given (codes "list") p.1)
+Asks (Key viewers) p = (p.0 ≡ codes "key") × IsViewers p.1 viewers
 
 -- `clap` takes the words, and the command that they name asks for this
 pub record Means (words : List Text) (order : Order) : Type 0 where
@@ -201,7 +193,7 @@ end_count (Exactly n) = n
 
 -- the numbers of a host's order are in their ranges
 pub record HostInRange (o : HostOrder) : Type 0 where
-  pub port_low : 1 ≤ o.port
+  pub port_low : IfSome o.port (λ n. 1 ≤ n)
   pub viewers_low : IfSome o.viewers (λ n. 1 ≤ n)
   pub viewers_high : IfSome o.viewers (λ n. n ≤ max_viewers)
   pub until_high : IfSome o.until (λ n. n ≤ max_inputs)
@@ -214,7 +206,7 @@ pub record HostInRange (o : HostOrder) : Type 0 where
 
 -- the numbers of a viewer's order are in their ranges, and go together
 pub record ViewInRange (o : ViewOrder) : Type 0 where
-  pub port_low : 1 ≤ o.port
+  pub port_low : IfSome o.port (λ n. 1 ≤ n)
   pub who_high : o.who < max_viewers
   pub boot_low : 1 ≤ o.boot
   pub end_high : end_count o.end ≤ max_inputs
@@ -234,6 +226,7 @@ IsInRange (Agree viewers turns) = (1 ≤ viewers) × (viewers ≤ max_viewers)
 IsInRange (Host o) = HostInRange o
 IsInRange (View o) = ViewInRange o
 IsInRange (Recall until info) = IfSome until (λ n. n ≤ max_inputs)
+IsInRange (Key viewers) = (1 ≤ viewers) × (viewers ≤ max_viewers)
 IsInRange _ = ⊤
 
 -- why the process's own words can't be read: memory was refused, or one of them is not a text

@@ -2,7 +2,7 @@
 
 ghost use Rattle.std.specs.Prelude.{◌≡◌, IfSome, IfNone, IsSomeAnd, codes, option_map};
 ghost use Rattle.clap.specs.Words.{rows_of, found_of, subcommand_rows_of};
-ghost use Rattle.app_words.specs.Words.{Asks, log_file_in, log_file_named, names_file_named};
+ghost use Rattle.app_words.specs.Words.{Asks, text_named};
 ghost use Rattle.app_words.specs.declared.order.Order.{Order as OrderOf};
 
 use crate::host::host_asked;
@@ -79,6 +79,16 @@ fn recall_in(found: &ArgMatches<'_>) -> Option<Order>
     })
 }
 
+fn run_in(found: &ArgMatches<'_>) -> Option<Order>
+    ensures some { IfSome result (λ o. Asks o (codes "run", rows_of (found_of found.now))) }
+    ensures none { IfNone result
+        ((o : OrderOf) → ¬ Asks o (codes "run", rows_of (found_of found.now))) }
+{
+    Some(Order::Run {
+        no_trace: is_named(found, "no-trace"),
+    })
+}
+
 fn part_in(found: &ArgMatches<'_>) -> Option<Order>
     ensures some { IfSome result (λ o. Asks o (codes "part", rows_of (found_of found.now))) }
     ensures none { IfNone result
@@ -87,6 +97,17 @@ fn part_in(found: &ArgMatches<'_>) -> Option<Order>
     Some(Order::Part {
         list: is_named(found, "list"),
     })
+}
+
+fn key_in(found: &ArgMatches<'_>) -> Option<Order>
+    ensures some { IfSome result (λ o. Asks o (codes "key", rows_of (found_of found.now))) }
+    ensures none { IfNone result
+        ((o : OrderOf) → ¬ Asks o (codes "key", rows_of (found_of found.now))) }
+{
+    let Some(viewers) = viewers_in(found) else {
+        return None;
+    };
+    Some(Order::Key { viewers })
 }
 
 /// Returns why the options of `view` or of `host` don't go together, if the matches are of one of
@@ -112,7 +133,7 @@ fn order_of(name: &str, found: &ArgMatches<'_>) -> Option<Order>
         ((o : OrderOf) → ¬ Asks o (name.now, rows_of (found_of found.now))) }
 {
     match name {
-        "run" => Some(Order::Run),
+        "run" => run_in(found),
         "format" => Some(Order::Format),
         "check" => Some(Order::Check),
         "rehearse" => rehearse_in(found),
@@ -121,6 +142,7 @@ fn order_of(name: &str, found: &ArgMatches<'_>) -> Option<Order>
         "view" => view_in(found),
         "recall" => recall_in(found),
         "part" => part_in(found),
+        "key" => key_in(found),
         _ => None,
     }
 }
@@ -135,32 +157,12 @@ pub fn order_in(matches: &ArgMatches<'_>) -> Option<Order>
     order_of(name, found)
 }
 
-/// Returns the file of the log that the options of a command name, if they do.
-fn log_file_of<'a>(found: &ArgMatches<'a>) -> Option<&'a str>
-    ensures { option_map (λ s. s.now) result ≡ log_file_in (rows_of (found_of found.now)) }
-{
-    match text_in(found, "log") {
-        Some(file) => Some(file),
-        None => text_in(found, "new-log"),
-    }
-}
-
-/// Returns the file of the log that the options of the subcommand name, if they do.
-pub fn log_file_in<'a>(matches: &ArgMatches<'a>) -> Option<&'a str>
-    ensures { option_map (λ s. s.now) result ≡ log_file_named (subcommand_rows_of matches.now) }
+/// Returns the text that the option of this name has in the subcommand, if it was given.
+pub fn text_of<'a>(matches: &ArgMatches<'a>, id: &str) -> Option<&'a str>
+    ensures { option_map (λ s. s.now) result ≡ text_named id.now (subcommand_rows_of matches.now) }
 {
     match matches.subcommand() {
-        Some((_name, found)) => log_file_of(found),
-        None => None,
-    }
-}
-
-/// Returns the file of names that the options of the subcommand name, if they do.
-pub fn names_file_in<'a>(matches: &ArgMatches<'a>) -> Option<&'a str>
-    ensures { option_map (λ s. s.now) result ≡ names_file_named (subcommand_rows_of matches.now) }
-{
-    match matches.subcommand() {
-        Some((_name, found)) => text_in(found, "keep-names"),
+        Some((_name, found)) => text_in(found, id),
         None => None,
     }
 }

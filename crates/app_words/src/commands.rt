@@ -7,16 +7,18 @@ ghost use Rattle.clap.specs.declared.builder.command.Command.TheViews.{out-Comma
 ghost use Rattle.app_words.specs.Commands.{bare_program, program, app_with, with_command};
 ghost use Rattle.app_words.specs.Commands.{run_app, format_app, check_app};
 ghost use Rattle.app_words.specs.Commands.{rehearse_app, agree_app, host_app, view_app, recall_app};
-ghost use Rattle.app_words.specs.Commands.{part_app};
+ghost use Rattle.app_words.specs.Commands.{part_app, key_app};
 
+use crate::arguments::{flag_arg, number_arg, text_arg};
 use crate::help::{
-    AGREE_HELP, CHECK_HELP, FORMAT_HELP, HOST_HELP, PART_HELP, PROGRAM_HELP, RECALL_HELP,
+    AGREE_HELP, CHECK_HELP, FORMAT_HELP, HOST_HELP, KEY_HELP, PART_HELP, PROGRAM_HELP, RECALL_HELP,
     REHEARSE_HELP, RUN_HELP, VIEW_HELP,
 };
 use crate::options::{
-    AT, BOOT, EVERY, EXACTLY, FlagOption, GIVE, GIVE_TURNS, HOST_TURNS, HOST_UNTIL, HOST_VIEWERS,
-    INFO, JOIN, KEEP, KEEP_NAMES, LIST, LOG, NEW_LOG, NumberOption, PORT, RECALL_UNTIL, TURNS,
-    TextOption, VERBOSE, VIEW_UNTIL, VIEWERS, WHO, WIRE, flag_arg, number_arg, text_arg,
+    AT, BOOT, EVERY, EXACTLY, FOLDER, FlagOption, GIVE, GIVE_TURNS, HOST, HOST_TURNS, HOST_UNTIL,
+    HOST_VIEWERS, INFO, JOIN, KEEP, KEEP_NAMES, KEY, KEYS, LIST, LISTEN, LOG, NEW_LOG, NO_TRACE,
+    NumberOption, OPEN, PORT, RECALL_UNTIL, TURNS, TextOption, VERBOSE, VIEW_UNTIL, VIEWERS, WHO,
+    WIRE,
 };
 use clap::Command;
 use std::alloc::{AllocError, Global};
@@ -39,7 +41,7 @@ static LOCAL_COMMANDS: [CommandWords; 5] = [
         after_help: RUN_HELP,
         options: &[],
         texts: &[],
-        flags: &[],
+        flags: &[NO_TRACE],
     },
     CommandWords {
         name: "format",
@@ -75,15 +77,15 @@ static LOCAL_COMMANDS: [CommandWords; 5] = [
     },
 ];
 
-/// The other commands, in the order of help.
-static OTHER_COMMANDS: [CommandWords; 4] = [
+/// The commands of several processes, in the order of help.
+static SHARED_COMMANDS: [CommandWords; 2] = [
     CommandWords {
         name: "host",
         about: "Number the inputs of viewers, and send them to each, over UDP",
         after_help: HOST_HELP,
         options: &[PORT, HOST_VIEWERS, HOST_UNTIL, KEEP, EVERY, HOST_TURNS],
-        texts: &[LOG, NEW_LOG],
-        flags: &[VERBOSE],
+        texts: &[LISTEN, LOG, NEW_LOG, KEYS],
+        flags: &[OPEN, VERBOSE],
     },
     CommandWords {
         name: "view",
@@ -92,9 +94,13 @@ static OTHER_COMMANDS: [CommandWords; 4] = [
         options: &[
             PORT, WHO, BOOT, VIEW_UNTIL, EXACTLY, TURNS, AT, GIVE, GIVE_TURNS, WIRE,
         ],
-        texts: &[],
-        flags: &[JOIN, VERBOSE],
+        texts: &[HOST, KEY],
+        flags: &[OPEN, JOIN, VERBOSE],
     },
+];
+
+/// The commands of files, in the order of help.
+static FILE_COMMANDS: [CommandWords; 3] = [
     CommandWords {
         name: "recall",
         about: "Print the inputs of a host's log as the steps of a job",
@@ -111,6 +117,14 @@ static OTHER_COMMANDS: [CommandWords; 4] = [
         texts: &[KEEP_NAMES],
         flags: &[LIST],
     },
+    CommandWords {
+        name: "key",
+        about: "Make the keys of a host and of its viewers",
+        after_help: KEY_HELP,
+        options: &[VIEWERS],
+        texts: &[FOLDER],
+        flags: &[],
+    },
 ];
 
 /// Returns the first commands.
@@ -122,10 +136,17 @@ fn local_commands() -> &'static [CommandWords]
 }
 
 /// Returns the commands after these.
-fn other_commands() -> &'static [CommandWords]
-    ensures { map app_with result.now ≡ host_app ∷ view_app ∷ recall_app ∷ part_app ∷ [] }
+fn shared_commands() -> &'static [CommandWords]
+    ensures { map app_with result.now ≡ host_app ∷ view_app ∷ [] }
 {
-    &OTHER_COMMANDS
+    &SHARED_COMMANDS
+}
+
+/// Returns the last commands.
+fn file_commands() -> &'static [CommandWords]
+    ensures { map app_with result.now ≡ recall_app ∷ part_app ∷ key_app ∷ [] }
+{
+    &FILE_COMMANDS
 }
 
 /// Builds a command with its options.
@@ -199,5 +220,6 @@ pub fn program_command<'a>(alloc: Global) -> Result<Command<'a>, AllocError>
 {
     let bare = bare_command(alloc)?;
     let local = with_commands(bare, alloc, local_commands())?;
-    with_commands(local, alloc, other_commands())
+    let shared = with_commands(local, alloc, shared_commands())?;
+    with_commands(shared, alloc, file_commands())
 }

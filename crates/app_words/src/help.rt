@@ -26,7 +26,7 @@ Example:
   x3d_share run < examples/two-clocks.job
 
 Status:
-  0  the trace and the scene are printed
+  0  the trace and the scene are printed, or with --no-trace the scene
   1  the scene is refused
   2  the words or the job are refused
   4  a device failed
@@ -98,6 +98,12 @@ snapshot of another viewer (`view --join`), or never catches up. A viewer that h
 seconds doesn't count until it asks again.
 A turn takes up to 64 datagrams. If nothing comes, the host rests between turns for 1 to 50
 milliseconds, so 1000000 turns last up to 14 hours.
+With --listen ADDRESS:PORT the host is on a network. A name is looked up once, as the host starts.
+Beyond the loopback addresses that takes --keys, or the word --open. `key` makes the keys. With them
+the host drops what isn't sealed by a viewer's key, and answers nothing else; nothing is encrypted.
+Without them whoever has the scene may take part. With either it speaks version 2 of datagrams.
+With --listen it knows 512 addresses. The 128 that it answered last stay; of the others the one that
+came first gives way.
 With --new-log FILE the host makes a log, and stores each input in it before it sends it. After the
 host has ended, even if it was killed, `host --log FILE` goes on with the same world: it skips the
 clocks that the log already has. With a log the turns have no end. With --every MS the host makes a
@@ -108,11 +114,12 @@ Examples:
   x3d_share host --port 4000 --until 2 < examples/two-clocks.job
   x3d_share host --port 4000 --new-log w.x3dlog < examples/two-clocks.job
   x3d_share host --port 4000 --log w.x3dlog < examples/two-clocks.job
+  x3d_share host --listen 192.0.2.7:4000 --keys keys/host.keys < examples/two-clocks.job
 
 Status:
   0  all turns were taken, or with --until N, the inputs were numbered and asked for
   1  the scene or the log is refused
-  2  the words or the job are refused, or the log's file doesn't fit them
+  2  the words, the job, the address or the keys are refused, or the log's file doesn't fit them
   3  with --until N, all turns were used up
   4  a device failed, or another host has the log
   5  memory ran out";
@@ -152,15 +159,20 @@ A viewer that is stopped by a signal before its inputs are applied prints nothin
 It asks the host for its run, for a second, and then stays in it: datagrams of other runs are
 dropped. If the host doesn't answer, it speaks version 1 of datagrams, in which a run has no name.
 With --wire 2 it asks for 10 seconds and then ends, with --wire 1 it doesn't ask.
+With --host ADDRESS:PORT the host is on another machine. A name is looked up once, as the viewer
+starts. Beyond the loopback addresses that takes --key, or the word --open. With --key FILE it seals
+what it sends, and drops what isn't sealed by the host with its key; its host has to have --keys.
+With either it speaks version 2, as with --wire 2. The ports of --at and --give are of this machine.
 
-Example:
+Examples:
   x3d_share view --port 4000 --who 0 --boot 1 --until 2 < examples/view.job
+  x3d_share view --host 192.0.2.7:4000 --key viewer-0.key --who 0 --boot 1 --until 2 < view.job
 
 Status:
   0  the trace and the scene are printed
   1  the scene is refused, or with --join, what was gathered is not a snapshot of it
-  2  the words or the job are refused, or with --join, the boot is
-  3  all turns were used up, the run is over, or with --wire 2, the host didn't answer
+  2  the words, the job, the address or the key are refused, or with --join, the boot is
+  3  all turns were used up, the run is over, or with --wire 2, --host or --key, no host answered
   4  a device failed
   5  memory ran out";
 
@@ -181,5 +193,23 @@ Status:
   0  the part is printed
   1  the text is refused, or its part passes a limit or lacks a name
   2  the words are refused, or the file of names can't be read
+  4  a device failed
+  5  memory ran out";
+
+pub(crate) const KEY_HELP: &str = "Nothing is read from standard input, and nothing is printed.
+
+In FOLDER, which has to be there, the files host.keys and viewer-0.key to viewer-(K-1).key are made,
+with keys that the system draws at random. Only their owner may read them. Nothing is made if one of
+them is there.
+The host takes host.keys (`host --keys`), and viewer V takes viewer-V.key (`view --key`) and no
+other. Whoever has viewer-V.key can take part as viewer V. Send it on a channel that no one else can
+read.
+
+Example:
+  x3d_share key --viewers 2 keys
+
+Status:
+  0  the files are made
+  2  the words are refused, or one of the files is there
   4  a device failed
   5  memory ran out";

@@ -98,6 +98,9 @@ pub(crate) fn host_asked(found: &ArgMatches<'_>) -> Option<HostOrder>
     };
     Some(HostOrder {
         port,
+        has_address: is_text_given(found, "listen"),
+        has_keys: is_text_given(found, "keys"),
+        is_open: is_named(found, "open"),
         log,
         viewers,
         turns,

@@ -1,6 +1,7 @@
 //! The words of the command line: what they ask for, and the text of help.
 #![tactic(auto)]
 
+mod arguments;
 mod asked;
 mod commands;
 mod help;
@@ -17,4 +18,4 @@ mod words;
 pub use hint::hint_of;
 pub use laws::{help_and_version_are_asked_for, words_mean_one_order};
 pub use order::{HostOrder, LogUse, Order, OrderFault, Request, ViewEnd, ViewOrder};
-pub use words::{log_file_of, names_file_of, request_of};
+pub use words::{request_of, text_of};

@@ -1,8 +1,10 @@
 //! Options of `view` and of `host` that don't go together.
 
 ghost use Rattle.std.specs.Prelude.{◌≡◌};
-ghost use Rattle.app_words.specs.Misfits.{at_misfit, give_misfit, has_log, host_misfit};
-ghost use Rattle.app_words.specs.Misfits.{join_misfit, misfit_of};
+ghost use Rattle.app_words.specs.Misfits.{at_misfit, every_misfit, give_misfit, given_misfit};
+ghost use Rattle.app_words.specs.Misfits.{first_misfit, has_log, host_misfit, join_misfit};
+ghost use Rattle.app_words.specs.Misfits.{misfit_of, open_misfit};
+ghost use Rattle.app_words.specs.Misfits.{own_misfit, place_misfit, sealed_misfit, wire_misfit};
 
 use crate::order::{HostOrder, LogUse, ViewOrder};
 use thiserror::Error;
@@ -28,12 +30,45 @@ pub enum Misfit {
     /// A viewer gives to itself.
     #[error("--give {0}: a port other than this viewer's own")]
     GivesToItself(u16),
+    /// `--port` and `--host` were both given, or neither.
+    #[error("one of --port and --host is required, and not both")]
+    TwoHosts,
+    /// A viewer has a key, and goes to a host of whoever comes.
+    #[error("one of --key and --open, and not both")]
+    OpenWithKey,
+    /// A viewer with a key is to give to another viewer, or to join by what another one gives.
+    #[error("--key: neither with --give nor with --join, since another viewer has another key")]
+    SealedGiving,
+    /// A viewer with a key, or of a host at an address, is to speak version 1.
+    #[error("--wire 1: neither with --key nor with --host")]
+    FirstWire,
+    /// `--port` and `--listen` were both given, or neither.
+    #[error("one of --port and --listen is required, and not both")]
+    TwoPlaces,
     /// `--log` and `--new-log` were both given.
     #[error("one of --log and --new-log, and not both")]
     TwoLogs,
     /// A host without a log is to make clocks.
     #[error("--every: only with --log or --new-log")]
     EveryWithoutLog,
+    /// A host has keys, and serves whoever comes.
+    #[error("one of --keys and --open, and not both")]
+    OpenWithKeys,
+}
+
+fn place_misfit(why: Misfit, port: Option<u16>, has_address: bool) -> Option<Misfit>
+    ensures { result ≡ place_misfit why port has_address }
+{
+    match (port, has_address) {
+        (Some(_), true) | (None, false) => Some(why),
+        (Some(_), false) | (None, true) => None,
+    }
+}
+
+fn open_misfit(why: Misfit, has_keys: bool, is_open: bool) -> Option<Misfit>
+    ensures { result ≡ open_misfit why has_keys is_open }
+{
+    if has_keys && is_open { Some(why) } else { None }
 }
 
 fn join_misfit(asked: &ViewOrder) -> Option<Misfit>
@@ -53,9 +88,27 @@ fn join_misfit(asked: &ViewOrder) -> Option<Misfit>
 fn at_misfit(asked: &ViewOrder) -> Option<Misfit>
     ensures { result ≡ at_misfit asked.now.port asked.now.at }
 {
-    match asked.at {
-        Some(at) if at == asked.port => Some(Misfit::AtHost(at)),
+    match (asked.port, asked.at) {
+        (Some(port), Some(at)) if at == port => Some(Misfit::AtHost(at)),
         _ => None,
+    }
+}
+
+fn own_misfit(at: Option<u16>, give: u16) -> Option<Misfit>
+    ensures { result ≡ own_misfit at give }
+{
+    match at {
+        Some(at) if at == give => Some(Misfit::GivesToItself(give)),
+        _ => None,
+    }
+}
+
+fn given_misfit(port: Option<u16>, at: Option<u16>, give: u16) -> Option<Misfit>
+    ensures { result ≡ given_misfit port at give }
+{
+    match port {
+        Some(port) if port == give => Some(Misfit::GivesToHost(give)),
+        _ => own_misfit(at, give),
     }
 }
 
@@ -63,9 +116,37 @@ fn give_misfit(asked: &ViewOrder) -> Option<Misfit>
     ensures { result ≡ give_misfit asked.now.port asked.now.at asked.now.give }
 {
     match asked.give {
-        Some(give) if give == asked.port => Some(Misfit::GivesToHost(give)),
-        Some(give) if asked.at == Some(give) => Some(Misfit::GivesToItself(give)),
+        Some(give) => given_misfit(asked.port, asked.at, give),
+        None => None,
+    }
+}
+
+fn first_misfit(wire: Option<u8>) -> Option<Misfit>
+    ensures { result ≡ first_misfit wire }
+{
+    match wire {
+        Some(version) if version == 1 => Some(Misfit::FirstWire),
         _ => None,
+    }
+}
+
+fn wire_misfit(asked: &ViewOrder) -> Option<Misfit>
+    ensures { result ≡ wire_misfit asked.now }
+{
+    if asked.has_key || asked.has_address {
+        first_misfit(asked.wire)
+    } else {
+        None
+    }
+}
+
+fn sealed_misfit(asked: &ViewOrder) -> Option<Misfit>
+    ensures { result ≡ sealed_misfit asked.now }
+{
+    if asked.has_key && (asked.join || asked.give.is_some()) {
+        Some(Misfit::SealedGiving)
+    } else {
+        None
     }
 }
 
@@ -74,13 +155,25 @@ fn give_misfit(asked: &ViewOrder) -> Option<Misfit>
 pub(crate) fn misfit_of(asked: &ViewOrder) -> Option<Misfit>
     ensures { result ≡ misfit_of asked.now }
 {
+    if let Some(misfit) = place_misfit(Misfit::TwoHosts, asked.port, asked.has_address) {
+        return Some(misfit);
+    }
     if let Some(misfit) = join_misfit(asked) {
         return Some(misfit);
     }
     if let Some(misfit) = at_misfit(asked) {
         return Some(misfit);
     }
-    give_misfit(asked)
+    if let Some(misfit) = give_misfit(asked) {
+        return Some(misfit);
+    }
+    if let Some(misfit) = open_misfit(Misfit::OpenWithKey, asked.has_key, asked.is_open) {
+        return Some(misfit);
+    }
+    if let Some(misfit) = sealed_misfit(asked) {
+        return Some(misfit);
+    }
+    wire_misfit(asked)
 }
 
 fn has_log(log: LogUse) -> bool
@@ -93,13 +186,26 @@ fn has_log(log: LogUse) -> bool
     }
 }
 
-/// Returns why the options of `host` don't go together, if they don't. Each has its range already.
-pub(crate) fn host_misfit(asked: &HostOrder) -> Option<Misfit>
-    ensures { result ≡ host_misfit asked.now }
+fn every_misfit(asked: &HostOrder) -> Option<Misfit>
+    ensures { result ≡ every_misfit asked.now }
 {
     if !has_log(asked.log) && asked.every.is_some() {
         Some(Misfit::EveryWithoutLog)
     } else {
         None
     }
+}
+
+/// Returns the first reason why the options of `host` don't go together, if there is one. Each has
+/// its range already.
+pub(crate) fn host_misfit(asked: &HostOrder) -> Option<Misfit>
+    ensures { result ≡ host_misfit asked.now }
+{
+    if let Some(misfit) = place_misfit(Misfit::TwoPlaces, asked.port, asked.has_address) {
+        return Some(misfit);
+    }
+    if let Some(misfit) = every_misfit(asked) {
+        return Some(misfit);
+    }
+    open_misfit(Misfit::OpenWithKeys, asked.has_keys, asked.is_open)
 }

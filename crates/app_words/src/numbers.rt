@@ -5,7 +5,7 @@ ghost use Rattle.std.specs.Prelude.{option_map};
 ghost use Rattle.clap.specs.Words.{first_of, rows_of, found_of};
 ghost use Rattle.app_words.specs.Words.{HasNumber, HasNumberIn, IsLeftOut, MayHaveNumberIn};
 ghost use Rattle.app_words.specs.Words.{is_given, is_text_given};
-ghost use Rattle.app_words.specs.Words.{IsPort, IsTurns, IsViewers, MayHaveUntil};
+ghost use Rattle.app_words.specs.Words.{IsTurns, IsViewers, MayHavePort, MayHaveUntil};
 
 use clap::ArgMatches;
 use x3d_values::{MAX_INPUTS, MAX_VIEWERS};
@@ -96,13 +96,28 @@ pub fn turns_in(found: &ArgMatches<'_>) -> Option<u32>
     number_in(found, "turns", 1, 10_000_000)
 }
 
-/// Returns the port of 127.0.0.1 of a host.
-pub fn port_in(found: &ArgMatches<'_>) -> Option<u16>
-    ensures some { IfSome result (λ n. IsPort (rows_of (found_of found.now)) n) }
-    ensures none { IfNone result ((n : ℕ) → ¬ IsPort (rows_of (found_of found.now)) n) }
+/// Returns the UDP port, 1 to 65,535, that an option names, or `Some(None)` if the option was left
+/// out.
+pub fn port_or_none(found: &ArgMatches<'_>, id: &str) -> Option<Option<u16>>
+    ensures some { IfSome result
+        (λ o. MayHaveNumberIn id.now (rows_of (found_of found.now)) 1 65535 o) }
+    ensures none { IfNone result ((o : Option ℕ)
+        → ¬ MayHaveNumberIn id.now (rows_of (found_of found.now)) 1 65535 o) }
 {
-    let port = number_in(found, "port", 1, 65535)?;
-    Some(port as u16)
+    match optional_in(found, id, 1, 65535) {
+        Some(Some(port)) => Some(Some(port as u16)),
+        Some(None) => Some(None),
+        None => None,
+    }
+}
+
+/// Returns the port of 127.0.0.1 of a host, or `Some(None)` if it was left out.
+pub fn port_in(found: &ArgMatches<'_>) -> Option<Option<u16>>
+    ensures some { IfSome result (λ o. MayHavePort (rows_of (found_of found.now)) o) }
+    ensures none { IfNone result
+        ((o : Option ℕ) → ¬ MayHavePort (rows_of (found_of found.now)) o) }
+{
+    port_or_none(found, "port")
 }
 
 /// Returns the number of `--until`, or `Some(None)` if it was left out.

@@ -1,13 +1,5 @@
 //! The options of the commands, with their ranges and defaults.
 
-ghost use Rattle.std.specs.Prelude.{◌≡◌, false, pos};
-ghost use Rattle.clap.specs.Words.{rule_of};
-ghost use Rattle.clap.specs.declared.builder.value_parser.ValueParser.TheVariants.{Signed};
-ghost use Rattle.app_words.specs.Options.{flag_rule, number_rule, ranged_rule, text_rule};
-
-use clap::builder::ValueParser;
-use clap::{Arg, ArgAction};
-use std::alloc::Global;
 use x3d_values::{MAX_INPUTS, MAX_VIEWERS};
 
 /// What the value of an option is if the option is not given.
@@ -33,10 +25,12 @@ pub struct NumberOption {
     pub help: &'static str,
 }
 
-/// An option that takes a text and may be left out.
+/// An option that takes a text and may be left out, or a word that is required.
 #[derive(Clone, Copy)]
 pub struct TextOption {
     pub name: &'static str,
+    /// It is a word of its own, without the option's name.
+    pub is_word: bool,
     /// The name of the text in help.
     pub value: &'static str,
     pub help: &'static str,
@@ -79,9 +73,53 @@ pub const PORT: NumberOption = NumberOption {
     name: "port",
     low: 1,
     high: 65535,
-    unless: Unless::Refused,
+    unless: Unless::Nothing,
     value: "P",
     help: "The host's UDP port on 127.0.0.1, 1 to 65535",
+};
+
+pub const LISTEN: TextOption = TextOption {
+    name: "listen",
+    is_word: false,
+    value: "ADDRESS:PORT",
+    help: "Binds this address and UDP port instead, as 192.0.2.7:4000 or [2001:db8::7]:4000",
+};
+
+/// The option `--host` of `view`.
+pub const HOST: TextOption = TextOption {
+    name: "host",
+    is_word: false,
+    value: "ADDRESS:PORT",
+    help: "The host's address and UDP port instead, as 192.0.2.7:4000 or [2001:db8::7]:4000",
+};
+
+pub const KEYS: TextOption = TextOption {
+    name: "keys",
+    is_word: false,
+    value: "FILE",
+    help: "Serves the viewers that have a key of FILE, and no others",
+};
+
+/// The option `--key` of `view`.
+pub const KEY: TextOption = TextOption {
+    name: "key",
+    is_word: false,
+    value: "FILE",
+    help: "Has the key of FILE, and takes what a host with this key sends",
+};
+
+/// The folder of `key`.
+pub const FOLDER: TextOption = TextOption {
+    name: "folder",
+    is_word: true,
+    value: "FOLDER",
+    help: "Where the files of keys are made",
+};
+
+pub const OPEN: FlagOption = FlagOption {
+    name: "open",
+    letter: None,
+    help: "Goes beyond this machine without keys: whoever has the scene may take part",
 };
 
 /// The option `--viewers` of `host`.
@@ -106,18 +144,21 @@ pub const HOST_TURNS: NumberOption = NumberOption {
 
 pub const LOG: TextOption = TextOption {
     name: "log",
+    is_word: false,
     value: "FILE",
     help: "Goes on with the log of FILE",
 };
 
 pub const NEW_LOG: TextOption = TextOption {
     name: "new-log",
+    is_word: false,
     value: "FILE",
     help: "Makes a log in FILE, which is missing or empty",
 };
 
 pub const KEEP_NAMES: TextOption = TextOption {
     name: "keep-names",
+    is_word: false,
     value: "FILE",
     help: "Refuses a part that lacks a node with a name of FILE, one a line",
 };
@@ -239,6 +280,12 @@ pub const JOIN: FlagOption = FlagOption {
     help: "Starts from the snapshot that another viewer sends to its port",
 };
 
+pub const NO_TRACE: FlagOption = FlagOption {
+    name: "no-trace",
+    letter: None,
+    help: "Prints the scene alone",
+};
+
 pub const INFO: FlagOption = FlagOption {
     name: "info",
     letter: None,
@@ -256,61 +303,3 @@ pub const VERBOSE: FlagOption = FlagOption {
     letter: Some('v'),
     help: "Reports events on standard error",
 };
-
-/// Returns the parser for the range of the option.
-fn range_of<'a>(option: &NumberOption) -> ValueParser<'a>
-    ensures { result ≡ Signed (pos option.now.low) (pos option.now.high) }
-{
-    ValueParser::signed(option.low as i64, option.high as i64)
-}
-
-/// Builds an option of `clap` with the name, the range and the help of `option`.
-fn ranged_arg<'a>(alloc: Global, option: &NumberOption) -> Arg<'a>
-    ensures rule { rule_of result ≡ ranged_rule option.now }
-    ensures local { result.global ≡ false }
-{
-    Arg::new(alloc, option.name)
-        .long(option.name)
-        .value_parser(range_of(option))
-        .value_name(option.value)
-        .help(option.help)
-}
-
-/// Builds the option of `clap`, which is required or has a default where `option` says so.
-pub fn number_arg<'a>(alloc: Global, option: &NumberOption) -> Arg<'a>
-    ensures rule { rule_of result ≡ number_rule option.now }
-    ensures local { result.global ≡ false }
-{
-    let arg = ranged_arg(alloc, option);
-    match option.unless {
-        Unless::Refused => arg.required(true),
-        Unless::Has(text) => arg.default_value(text),
-        Unless::Nothing => arg,
-    }
-}
-
-/// Builds the option of `clap`, which takes a text.
-pub fn text_arg<'a>(alloc: Global, option: &TextOption) -> Arg<'a>
-    ensures rule { rule_of result ≡ text_rule option.now }
-    ensures local { result.global ≡ false }
-{
-    Arg::new(alloc, option.name)
-        .long(option.name)
-        .value_name(option.value)
-        .help(option.help)
-}
-
-/// Builds the option of `clap`, a flag that is set if it is given.
-pub fn flag_arg<'a>(alloc: Global, option: &FlagOption) -> Arg<'a>
-    ensures rule { rule_of result ≡ flag_rule option.now }
-    ensures local { result.global ≡ false }
-{
-    let arg = Arg::new(alloc, option.name)
-        .long(option.name)
-        .action(ArgAction::SetTrue)
-        .help(option.help);
-    match option.letter {
-        Some(letter) => arg.short(letter),
-        None => arg,
-    }
-}

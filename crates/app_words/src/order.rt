@@ -9,7 +9,7 @@ use std::alloc::AllocError;
 use std::io;
 use thiserror::Error;
 
-/// Whether a host has a log, and whether its file is there. `log_file_of` returns the file's name.
+/// Whether a host has a log, and whether its file is there. `text_of` returns the file's name.
 #[derive(Clone, Copy, PartialEq, Eq)]
 pub enum LogUse {
     /// The host has no log.
@@ -23,8 +23,14 @@ pub enum LogUse {
 /// What `host` does; its input is a job of clocks.
 #[derive(Clone, Copy, PartialEq, Eq)]
 pub struct HostOrder {
-    /// The UDP port of 127.0.0.1 to bind, 1 to 65,535.
-    pub port: u16,
+    /// The UDP port of 127.0.0.1 to bind, 1 to 65,535; `None` if `--listen` names an address.
+    pub port: Option<u16>,
+    /// `--listen`: it binds the address that the option names.
+    pub has_address: bool,
+    /// `--keys`: it serves viewers that have a key of the file that the option names.
+    pub has_keys: bool,
+    /// `--open`: it serves whoever has the scene, on any machine.
+    pub is_open: bool,
     pub log: LogUse,
     /// How many viewers there can be, 1 to `MAX_VIEWERS` of x3d_values, if that is given.
     pub viewers: Option<u8>,
@@ -54,8 +60,14 @@ pub enum ViewEnd {
 /// What `view` does; its input is a job of this viewer's points.
 #[derive(Clone, Copy, PartialEq, Eq)]
 pub struct ViewOrder {
-    /// The host's UDP port on 127.0.0.1, 1 to 65,535.
-    pub port: u16,
+    /// The host's UDP port on 127.0.0.1, 1 to 65,535; `None` if `--host` names an address.
+    pub port: Option<u16>,
+    /// `--host`: the host is at the address that the option names.
+    pub has_address: bool,
+    /// `--key`: it has the key of the file that the option names.
+    pub has_key: bool,
+    /// `--open`: it goes to a host on any machine without a key.
+    pub is_open: bool,
     /// The number of the viewer, below `MAX_VIEWERS` of x3d_values.
     pub who: u8,
     /// How often the viewer has been started, counting this time, 1 to 2^32 - 1.
@@ -80,8 +92,8 @@ pub struct ViewOrder {
 /// A command with its options.
 #[derive(Clone, Copy, PartialEq, Eq)]
 pub enum Order {
-    /// `run`: the input is a job.
-    Run,
+    /// `run`: the input is a job; `no_trace` prints the scene alone.
+    Run { no_trace: bool },
     /// `format`: the input is a scene.
     Format,
     /// `check`: the input is a scene.
@@ -97,6 +109,8 @@ pub enum Order {
     Recall { until: Option<u32>, info: bool },
     /// `part`: the input is a text; `list` prints only what goes.
     Part { list: bool },
+    /// `key`: makes the keys of a host and of 1 to `MAX_VIEWERS` viewers.
+    Key { viewers: u8 },
 }
 
 /// What words ask for: the text of `--help` or `--version`, or a command.

@@ -4,12 +4,14 @@ ghost use Rattle.std.specs.Prelude.{◌≡◌, ℕ, Option, IfSome, IfNone};
 ghost use Rattle.clap.specs.Words.{rows_of, found_of};
 ghost use Rattle.app_words.specs.Words.{AsksView, IsEnd, end_of};
 ghost use Rattle.app_words.specs.Words.{IsGiveTurns, IsWho, IsBoot};
-ghost use Rattle.app_words.specs.Words.{MayHaveAt, MayHaveExactly, MayHaveGive, MayHaveNumberIn};
+ghost use Rattle.app_words.specs.Words.{MayHaveAt, MayHaveExactly, MayHaveGive};
 ghost use Rattle.app_words.specs.Words.{MayHaveWire};
 ghost use Rattle.app_words.specs.declared.order.ViewEnd.{ViewEnd as EndOf};
 ghost use Rattle.app_words.specs.declared.order.ViewOrder.{ViewOrder as ViewOf};
 
-use crate::numbers::{is_named, number_in, optional_in, port_in, turns_in, until_in};
+use crate::numbers::{
+    is_named, is_text_given, number_in, optional_in, port_in, port_or_none, turns_in, until_in,
+};
 use crate::options::MAX_WHO;
 use crate::order::{ViewEnd, ViewOrder};
 use clap::ArgMatches;
@@ -36,21 +38,6 @@ fn exactly_in(found: &ArgMatches<'_>) -> Option<Option<u32>>
         ((o : Option ℕ) → ¬ MayHaveExactly (rows_of (found_of found.now)) o) }
 {
     optional_in(found, "exactly", 0, MAX_INPUTS)
-}
-
-/// Returns the port of 127.0.0.1, 1 to 65,535, that an option names, or `Some(None)` if the option
-/// was left out.
-fn port_or_none(found: &ArgMatches<'_>, id: &str) -> Option<Option<u16>>
-    ensures some { IfSome result
-        (λ o. MayHaveNumberIn id.now (rows_of (found_of found.now)) 1 65535 o) }
-    ensures none { IfNone result ((o : Option ℕ)
-        → ¬ MayHaveNumberIn id.now (rows_of (found_of found.now)) 1 65535 o) }
-{
-    match optional_in(found, id, 1, 65535) {
-        Some(Some(port)) => Some(Some(port as u16)),
-        Some(None) => Some(None),
-        None => None,
-    }
 }
 
 fn at_in(found: &ArgMatches<'_>) -> Option<Option<u16>>
@@ -151,6 +138,9 @@ pub(crate) fn view_asked(found: &ArgMatches<'_>) -> Option<ViewOrder>
     };
     Some(ViewOrder {
         port,
+        has_address: is_text_given(found, "host"),
+        has_key: is_text_given(found, "key"),
+        is_open: is_named(found, "open"),
         who,
         boot,
         end,

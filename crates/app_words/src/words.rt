@@ -4,12 +4,12 @@ ghost use Rattle.std.specs.Prelude.{◌≡◌, ◌≢◌, ◌⊎◌, [], map, op
 ghost use Rattle.std.specs.Prelude.{IfOk, IfErr};
 ghost use Rattle.clap.specs.Words.{fault_of, kind_of, subcommand_of};
 ghost use Rattle.app_words.specs.Commands.{program};
-ghost use Rattle.app_words.specs.Words.{IsText, IsRefusal, log_file_named, names_file_named};
+ghost use Rattle.app_words.specs.Words.{IsText, IsRefusal, text_named};
 ghost use Rattle.app_words.specs.Request.{IsRequest, RequestsNothing};
 ghost use Rattle.app_words.specs.declared.order.OrderFault.TheVariants as fault;
 ghost use Rattle.clap.specs.declared.error.kind.ErrorKind.TheVariants as error_kind;
 
-use crate::asked::{log_file_in, names_file_in, order_in};
+use crate::asked::{self, order_in};
 use crate::commands::program_command;
 use crate::order::{OrderFault, Request};
 use clap::Error;
@@ -59,34 +59,22 @@ fn refusal_of(kind: ErrorKind) -> OrderFault
     }
 }
 
-/// Returns the name of the log's file that words name with `--log` or `--new-log`, if they do.
+/// Returns the text that words give to the option of this name, if they do.
 ///
 /// Fails with `Words` if they are not a command, and with `Memory` if memory is refused.
-pub fn log_file_of<'a>(alloc: Global, words: &'a [&'a str]) -> Result<Option<&'a str>, OrderFault>
+pub fn text_of<'a>(
+    alloc: Global,
+    words: &'a [&'a str],
+    id: &str,
+) -> Result<Option<&'a str>, OrderFault>
     ensures named { IfOk result (λ o. option_map (λ s. s.now) o
-        ≡ log_file_named (subcommand_of program (map (λ w. w.now) words.entry.now))) }
+        ≡ text_named id.now (subcommand_of program (map (λ w. w.now) words.entry.now))) }
     ensures refused { IfErr result (λ f. (f ≡ fault.Memory)
         ⊎ ((f ≡ fault.Words) × (fault_of program (map (λ w. w.now) words.entry.now) ≢ []))) }
 {
     let command = program_command(alloc)?;
     match command.try_get_matches_from(words) {
-        Ok(matches) => Ok(log_file_in(&matches)),
-        Err(error) => Err(refusal_of(error.kind())),
-    }
-}
-
-/// Returns the name of the file that words name with `--keep-names`, if they do.
-///
-/// Fails with `Words` if they are not a command, and with `Memory` if memory is refused.
-pub fn names_file_of<'a>(alloc: Global, words: &'a [&'a str]) -> Result<Option<&'a str>, OrderFault>
-    ensures named { IfOk result (λ o. option_map (λ s. s.now) o
-        ≡ names_file_named (subcommand_of program (map (λ w. w.now) words.entry.now))) }
-    ensures refused { IfErr result (λ f. (f ≡ fault.Memory)
-        ⊎ ((f ≡ fault.Words) × (fault_of program (map (λ w. w.now) words.entry.now) ≢ []))) }
-{
-    let command = program_command(alloc)?;
-    match command.try_get_matches_from(words) {
-        Ok(matches) => Ok(names_file_in(&matches)),
+        Ok(matches) => Ok(asked::text_of(&matches, id)),
         Err(error) => Err(refusal_of(error.kind())),
     }
 }

@@ -3,7 +3,7 @@
 //!
 //! | Modules | Content |
 //! |---|---|
-//! | `stage`, `texts`, `series` | a scene with its world, what is written of it, and inputs applied |
+//! | `stage`, `texts`, `series` | a scene with its world, what is written of it, inputs applied |
 //! | `input`, `clock`, `pointer`, `pressed`, `walk` | what an input does, node by node |
 //! | `course`, `stack`, `tasks`, `sending`, `boxes` | a cascade, as a stack of tasks |
 //! | `settle`, `opening` | scripts after the events of a timestamp, and before all inputs |

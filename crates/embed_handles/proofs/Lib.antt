@@ -1,4 +1,5 @@
 pub mod HostHandles
+pub mod LogHandles
 pub mod PartHandles
 pub mod ViewerHandles
 pub mod WorldHandles

@@ -1,4 +1,2 @@
 mod Held
-mod LineTexts
-mod Fronts
 mod AheadLaws

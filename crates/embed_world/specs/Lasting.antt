@@ -19,7 +19,7 @@ use Rattle.share_turns.specs.HostTurn.{datagram_of}
 use Rattle.share_turns.specs.Runs.{kept_by}
 use Rattle.share_wire.specs.declared.fault.WireFault.{WireFault}
 use Rattle.share_wire.specs.declared.message.Message.{Message}
-use Rattle.embed_world.specs.Appends.{append_text}
+use Rattle.embed_entries.specs.Appends.{append_text}
 use Rattle.embed_world.specs.declared.host.EmbeddedHost.{EmbeddedHost}
 use Rattle.embed_world.specs.declared.lasting.Append.{Append}
 use Rattle.embed_world.specs.declared.lasting.AppendFault.{AppendFault}

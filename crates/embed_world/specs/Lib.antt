@@ -7,7 +7,6 @@ pub mod Meeting
 pub mod Names
 pub mod Hosts
 pub mod Lasting
-pub mod Appends
 pub mod Logs
 pub mod WriteAhead
 pub mod LogStatus

@@ -1,54 +1,35 @@
 -- The host that the bytes of a log make, or why there is none.
-use Rattle.std.specs.Prelude.{◌≡◌, ◌≢◌, ◌⊎◌, ℕ, ◌+◌, ◌<◌, ◌≤◌, List, [], ◌++◌, Bool, true, false, length, take, nat_eq, Option, None, Some, Result, IfOk, IfErr, ⊤}
-use Rattle.std.specs.Cmp.Lexicographic.{pointwise}
-use Rattle.std.specs.Int.{w64}
-use Rattle.byte_codec.specs.Codec.{number_text}
+use Rattle.std.specs.Prelude.{◌≡◌, ◌≢◌, ◌⊎◌, ℕ, ◌<◌, List, [], ◌++◌, false, length, Some, Result, IfOk, IfErr, ⊤}
 use Rattle.sha2.specs.Sha256.{sha256}
-use Rattle.x3d_values.specs.Ranges.{max_inputs, max_viewers}
+use Rattle.x3d_values.specs.Ranges.{max_viewers}
 use Rattle.laws_hosts.specs.Log.{host_of}
-use Rattle.share_entries.specs.Entry.{EntryView, entry_codec}
+use Rattle.share_entries.specs.Entry.{EntryView}
 use Rattle.share_law.specs.Parts.{part_of}
 use Rattle.share_logged.specs.Logged.{logged}
 use Rattle.share_logged.specs.Resuming.{BreaksAt}
 use Rattle.share_core.specs.Host.{HostView}
 use Rattle.share_pending.specs.Waiting.{WaitingView, waiting_after}
 use Rattle.share_turns.specs.Heard.{nobody}
-use Rattle.embed_world.specs.Appends.{lines_from}
+use Rattle.embed_entries.specs.Appends.{IsLogText}
+use Rattle.embed_entries.specs.Reading.{WhyNoEntries, begins_with}
+use Rattle.embed_entries.specs.declared.reading.EntriesFault.{EntriesFault}
+use Rattle.embed_entries.specs.declared.reading.EntriesFault.TheVariants as read
 use Rattle.embed_world.specs.Lasting.{IsHostAhead}
 use Rattle.embed_world.specs.declared.host.EmbeddedHost.{EmbeddedHost}
 use Rattle.embed_world.specs.declared.log_fault.LogFault.{LogFault}
 use Rattle.embed_world.specs.declared.log_fault.LogFault.TheVariants.{Gap, Memory, NotALog, Viewers, WrongScene}
 
-abbrev pub begins_with : (front bytes : List ℕ) → Bool
-begins_with front bytes = pointwise nat_eq (take (length front) bytes) front
-
 -- ---- reading lines
 
--- after these lines other bytes follow, where entry n should be
-pub record StopsAt (bytes : List ℕ) (n : ℕ) (Wrong : List EntryView → List ℕ → Type 0) :
-    Type 0 where
-  pub entries : List EntryView
-  pub rest : List ℕ
-  pub text : bytes ≡ lines_from 1 entries ++ rest
-  pub some : rest ≢ []
-  pub number : n ≡ length entries + 1
-  pub wrong : Wrong entries rest
-
--- the bytes don't begin with the number of the next entry
-abbrev pub HasAnother : List EntryView → List ℕ → Type 0
-HasAnother entries rest = begins_with (number_text w64 (length entries + 1)) rest ≡ false
-
--- no entry follows its number, or it is one more than a world has
-abbrev pub HasNone : List EntryView → List ℕ → Type 0
-HasNone entries rest =
-    (max_inputs ≤ length entries)
-    ⊎ ((line : List ℕ) × (rest ≡ number_text w64 (length entries + 1) ++ line)
-    × (entry_codec.read line ≡ None))
+abbrev pub fault_of_entries : EntriesFault → LogFault
+fault_of_entries (read.Gap n) = Gap n
+fault_of_entries (read.NotAnEntry n) = NotALog n
+fault_of_entries read.Memory = Memory
 
 -- why the bytes after the mark aren't lines
 abbrev pub WhyNoLines : List ℕ → LogFault → Type 0
-WhyNoLines bytes (Gap n) = StopsAt bytes n HasAnother
-WhyNoLines bytes (NotALog n) = StopsAt bytes n HasNone
+WhyNoLines bytes (Gap n) = WhyNoEntries 1 bytes (read.Gap n)
+WhyNoLines bytes (NotALog n) = WhyNoEntries 1 bytes (read.NotAnEntry n)
 WhyNoLines bytes Memory = ⊤
 WhyNoLines bytes Viewers = ⊥
 WhyNoLines bytes WrongScene = ⊥
@@ -58,11 +39,6 @@ WhyNoLines bytes WrongScene = ⊥
 -- the bytes after the mark aren't lines
 abbrev pub IsNoLine : (mark bytes : List ℕ) → LogFault → Type 0
 IsNoLine mark bytes fault = (lines : List ℕ) × (bytes ≡ mark ++ lines) × WhyNoLines lines fault
-
--- the bytes of a log: nothing or the mark, if it has no entries; else the mark and their lines
-abbrev pub IsLogText : (mark bytes : List ℕ) → List EntryView → Type 0
-IsLogText mark bytes entries =
-    ((bytes ≡ []) × (entries ≡ [])) ⊎ (bytes ≡ mark ++ lines_from 1 entries)
 
 -- the bytes are those of entries, of which entry n isn't one that a host wrote there
 abbrev pub IsBroken : (mark : List ℕ) → (viewers : ℕ) → (bytes : List ℕ) → (n : ℕ) → Type 0

@@ -6,10 +6,9 @@ use Rattle.share_law.specs.declared.fault.HostFault.{HostFault}
 use Rattle.share_law.specs.declared.fault.NumberFault.{NumberFault}
 use Rattle.share_law.specs.declared.reply.HostReply.{HostReply}
 use Rattle.share_pending.specs.declared.answer.AppendAnswer.{AppendAnswer}
-use Rattle.embed_world.specs.Appends.{append_text, log_text}
+use Rattle.embed_entries.specs.Appends.{IsLogText, append_text, log_text}
 use Rattle.embed_world.specs.Hosts.{Clocks, Drops, HostTakes, HostTakesFrom, ack_bytes, floor_bytes, input_bytes, keeping}
 use Rattle.embed_world.specs.Lasting.{Answers, Begins, GrowsLog, KeepsLog, Shows}
-use Rattle.embed_world.specs.Logs.{IsLogText}
 use Rattle.embed_world.specs.declared.host.EmbeddedHost.{EmbeddedHost}
 use Rattle.embed_world.specs.declared.lasting.Append.{Append}
 use Rattle.embed_world.specs.declared.lasting.AppendFault.{AppendFault}

@@ -7,8 +7,8 @@ ghost use Rattle.share_pending.specs.Waiting.{begun};
 ghost use Rattle.embed_world.specs.Lasting as spec;
 ghost use Rattle.embed_world.specs.declared.lasting.AppendFault.TheVariants as append;
 
-use crate::appends::append_bytes;
 use crate::host::EmbeddedHost;
+use embed_entries::append_bytes;
 use share_core::Host;
 use share_law::{FloorFault, HostFault, HostReply, NumberFault};
 use share_pending::{AppendAnswer, Waiting, goes_on};

@@ -4,7 +4,7 @@
 //! |---|---|
 //! | `world`, `opening`, `input`, `scripts`, `shots` | a world: made, moved on, saved, loaded |
 //! | `host`, `viewer`, `pieces`, `datagram` | a host and a viewer, and what they send |
-//! | `lasting`, `appends`, `logs`, `log_fault`, `log_status` | a host whose program has its log |
+//! | `lasting`, `logs`, `log_fault`, `log_status` | a host whose program has its log |
 //! | `law` | what such a host keeps |
 //! | `texts`, `lists`, `viewer_texts`, `viewer_lists`, `routes`, `asks` | what is read of them |
 //! | `changed` | the fields that were set after an input |
@@ -14,7 +14,6 @@
 #![tactic(auto)]
 
 mod aim;
-mod appends;
 mod asks;
 mod buffers;
 mod changed;

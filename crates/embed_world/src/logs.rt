@@ -1,47 +1,31 @@
 //! A host that begins with the bytes of a log.
 
-ghost use Rattle.std.specs.Prelude.{◌≡◌, ◌≤◌, ◌++◌, ℕ, None, IfErr, IfOk, IfSome, false};
-ghost use Rattle.std.specs.Int.{w64};
-ghost use Rattle.byte_codec.specs.Codec.{number_text};
+ghost use Rattle.std.specs.Prelude.{◌≡◌, ◌≤◌, ℕ, IfErr, IfOk};
 ghost use Rattle.x3d_values.specs.Ranges.{max_viewers};
 ghost use Rattle.share_logged.specs.declared.fault.ResumeFault.TheVariants as given;
-ghost use Rattle.embed_world.specs.Appends.{lines_from};
+ghost use Rattle.embed_entries.specs.Appends.{IsLogText, lines_from};
 ghost use Rattle.embed_world.specs.Logs as spec;
 ghost use Rattle.embed_world.specs.declared.log_fault.LogFault.TheVariants as why;
 
 use crate::host::EmbeddedHost;
 use crate::log_fault::LogFault;
-use byte_codec::chunk_of;
-use share_entries::{Entry, entry_of};
+use embed_entries::{EntriesFault, after_front, entries_from};
+use share_entries::Entry;
 use share_logged::ResumeFault;
 use share_pending::{Resumed, begin};
 use share_turns::Heard;
 use snapshot_core::scene_mark;
 use std::alloc::Global;
-use x3d_values::{MAX_INPUTS, MAX_VIEWERS};
+use x3d_values::MAX_VIEWERS;
 
-/// Returns the bytes after `front`, or `None` if they don't begin with it.
-fn after<'a>(bytes: &'a [u8], front: &[u8]) -> Option<&'a [u8]>
-    ensures found { IfSome result (λ rest. bytes.now ≡ front.now ++ rest.now) }
-    ensures missing { result ≡ None → spec.begins_with front.now bytes.now ≡ false }
+fn fault_of_entries(fault: EntriesFault) -> LogFault
+    ensures { result ≡ spec.fault_of_entries fault }
 {
-    let Some((head, rest)) = chunk_of(bytes, front.len()) else {
-        return None;
-    };
-    if head == front {
-        return Some(rest);
+    match fault {
+        EntriesFault::Gap(number) => LogFault::Gap(number),
+        EntriesFault::NotAnEntry(number) => LogFault::NotALog(number),
+        EntriesFault::Memory => LogFault::Memory,
     }
-    None
-}
-
-/// Returns the bytes after the number of an entry.
-#[tactic(auto, unfolding(byte_codec::specs::Codec::number_text))]
-fn after_number(bytes: &[u8], number: u64) -> Option<&[u8]>
-    ensures found { IfSome result (λ rest. bytes.now ≡ number_text w64 number ++ rest.now) }
-    ensures missing { result ≡ None
-        → spec.begins_with (number_text w64 number) bytes.now ≡ false }
-{
-    after(bytes, &number.to_be_bytes())
 }
 
 /// Reads all of the bytes as entries after their numbers, from 1 on.
@@ -49,38 +33,21 @@ fn lines_of(alloc: Global, bytes: &[u8]) -> Result<Vec<Entry>, LogFault>
     ensures read { IfOk result (λ v. bytes.now ≡ lines_from 1 v.items) }
     ensures why { IfErr result (λ fault. spec.WhyNoLines bytes.now fault) }
 {
-    let mut entries = Vec::new(alloc);
-    let mut rest = bytes;
-    for number in 0..MAX_INPUTS {
-        if rest.is_empty() {
-            return Ok(entries);
-        }
-        let Some(line) = after_number(rest, u64::from(number) + 1) else {
-            return Err(LogFault::Gap(number + 1));
-        };
-        let Some((entry, behind)) = entry_of(line) else {
-            return Err(LogFault::NotALog(number + 1));
-        };
-        let Ok(()) = entries.push(entry) else {
-            return Err(LogFault::Memory);
-        };
-        rest = behind;
+    match entries_from(alloc, 1, bytes) {
+        Ok(entries) => Ok(entries),
+        Err(fault) => Err(fault_of_entries(fault)),
     }
-    if rest.is_empty() {
-        return Ok(entries);
-    }
-    Err(LogFault::NotALog(MAX_INPUTS + 1))
 }
 
 /// Reads the bytes of a log of the scene with this mark.
 fn entries_of(alloc: Global, mark: &[u8; 32], bytes: &[u8]) -> Result<Vec<Entry>, LogFault>
-    ensures read { IfOk result (λ v. spec.IsLogText mark.now bytes.now v.items) }
+    ensures read { IfOk result (λ v. IsLogText mark.now bytes.now v.items) }
     ensures why { IfErr result (λ fault. spec.WhyUnread mark.now bytes.now fault) }
 {
     if bytes.is_empty() {
         return Ok(Vec::new(alloc));
     }
-    let Some(lines) = after(bytes, mark) else {
+    let Some(lines) = after_front(bytes, mark) else {
         return Err(LogFault::WrongScene);
     };
     lines_of(alloc, lines)

@@ -29,7 +29,7 @@ pub struct ReplyAs {
 }
 
 /// What a viewer did with a datagram: the input is old (kind 0), beyond the window (1) or kept (2),
-/// `count` inputs were applied (3), an ack or floor was noted (4), or the viewer is behind the
+/// `count` inputs were applied (3), an ack or floor was noted (4), or the viewer is below the
 /// floor (5).
 #[derive(Clone, Copy)]
 #[repr(C)]

@@ -1,5 +1,5 @@
-//! Names that the lists of a text give twice: fields in the braces of a node, fields of an interface,
-//! and prototypes among statements.
+//! Names that the lists of a text give twice: fields in the braces of a node, fields of an
+//! interface, and prototypes among statements.
 
 ghost use Rattle.std.specs.Prelude.{◌≡◌, ◌++◌, ◌∷◌, [], map, IfOk, OnOk};
 ghost use Rattle.std.specs.List.{flat_map};

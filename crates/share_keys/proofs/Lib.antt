@@ -1,3 +1,4 @@
 pub mod Blocks
 pub mod Lines
+pub mod Openings
 pub mod Seals

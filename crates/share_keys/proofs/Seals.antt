@@ -1,9 +1,9 @@
 -- A sealed datagram and its parts.
-use Rattle.std.proofs.Common.{◌≡◌, ℕ, true, false, ◌+◌, ◌-◌, ◌<◌, ◌≤◌, List, [], ◌∷◌, ◌++◌, length, take, drop, get_or, Some, refl, sym, ap, ◌∙◌, arith, add-one, length-append}
-use Rattle.std.proofs.lemmas.List.{take_at, drop_at, length-take-le, take_more}
+use Rattle.std.proofs.Common.{◌≡◌, ℕ, true, false, ◌+◌, ◌-◌, ◌<◌, List, ◌∷◌, ◌++◌, length, take, drop, ap, ◌∙◌, arith, length-append}
+use Rattle.std.proofs.lemmas.List.{take_at, drop_at, length-take-le}
 use Rattle.sha2.proofs.Facts256.{length-sha256}
 use Rattle.sha2.specs.Sha256.{sha256}
-use Rattle.share_keys.specs.Hmac.{hmac, masked, block_of}
+use Rattle.share_keys.specs.Hmac.{masked, block_of}
 use Rattle.share_keys.specs.declared.sealing.Direction.{Direction}
 use Rattle.share_keys.specs.Seal.{seal_of, direction_byte, IsSealed}
 

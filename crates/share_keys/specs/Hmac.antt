@@ -1,5 +1,5 @@
 -- HMAC-SHA256 (RFC 2104, section 2), and seals made by it.
-use Rattle.std.specs.Prelude.{ℕ, List, [], ◌∷◌, ◌++◌, nat_lt, ◌-◌, length, map, replicate, take, if◌then◌else◌}
+use Rattle.std.specs.Prelude.{ℕ, List, ◌++◌, nat_lt, ◌-◌, length, map, replicate, if◌then◌else◌}
 use Rattle.std.specs.Int.Bits.{bit_xor}
 use Rattle.sha2.specs.Sha256.{sha256}
 

@@ -1,3 +1,5 @@
+pub mod Claims
 pub mod Hmac
 pub mod Keys
 pub mod Seal
+pub mod Table

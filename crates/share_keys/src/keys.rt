@@ -10,7 +10,7 @@ use crate::sealing::Key;
 use hex::FromHex;
 
 /// The key of a viewer.
-#[derive(Clone, Drop)]
+#[derive(Clone, Copy)]
 pub struct ViewerKey {
     /// 0 to 63.
     pub who: u8,
@@ -101,6 +101,8 @@ fn line_key(line: &[u8]) -> Option<ViewerKey>
 pub fn key_of(line: &[u8]) -> Option<ViewerKey>
     ensures found { IfSome result (λ key. spec.IsLineOf key line.now) }
     ensures only { (key : ViewerKey) → spec.IsLineOf key line.now → result ≡ Some key }
+    // The exact result.
+    ensures exact { result ≡ spec.line_key line.now }
 {
     line_key(line)
 }

@@ -1,13 +1,13 @@
 //! Seals of datagrams by a key that a viewer shares with the host.
 
-ghost use Rattle.std.specs.Prelude.{◌≡◌, ℕ, true, List, Some, IfSome, take};
+ghost use Rattle.std.specs.Prelude.{◌≡◌, ◌+◌, ◌≤◌, ℕ, true, List, Some, IfSome, length, take};
 ghost use Rattle.std.specs.Option.{option_map};
 ghost use Rattle.share_keys.specs.Seal as spec;
 
 use crate::mac::hmac;
 
 /// A key that the host and one viewer share.
-#[derive(Clone, Drop)]
+#[derive(Clone, Copy)]
 pub struct Key {
     pub bytes: [u8; 32],
 }
@@ -22,7 +22,7 @@ pub enum Direction {
 /// The last 16 bytes of a sealed datagram.
 pub type Seal = [u8; 16];
 
-const SEAL: usize = 16;
+pub(crate) const SEAL: usize = 16;
 
 fn direction_byte(direction: Direction) -> u8
     ensures { result ≡ spec.direction_byte direction }
@@ -50,6 +50,19 @@ pub fn seal(key: &Key, direction: Direction, datagram: &[u8]) -> Seal
     front_of(&hmac(key.bytes.as_slice(), direction.as_slice(), datagram))
 }
 
+/// Puts a datagram and its seal to the front of `out`, and returns their number of bytes.
+pub fn sealed(key: &Key, direction: Direction, datagram: &[u8], out: &mut [u8]) -> usize
+    requires { length datagram.now + 16 ≤ length out.old }
+    ensures count { result ≡ length datagram.now + 16 }
+    ensures front { spec.IsSealed key.now.bytes direction datagram.now (take result out.new) }
+    ensures len { length out.new ≡ length out.old }
+{
+    let count = datagram.len();
+    out[..count].copy_from_slice(datagram);
+    out[count..count + SEAL].copy_from_slice(&seal(key, direction, datagram));
+    count + SEAL
+}
+
 /// Reports whether two seals are equal. Looks at each byte, wherever they differ.
 fn is_same(one: &Seal, other: &Seal) -> bool
     ensures same { result ≡ true → one.now ≡ other.now }
@@ -69,6 +82,9 @@ pub fn unsealed<'a>(key: &Key, direction: Direction, bytes: &'a [u8]) -> Option<
         (λ datagram. spec.IsSealed key.now.bytes direction datagram.now bytes.now) }
     ensures only { (datagram : List ℕ) → spec.IsSealed key.now.bytes direction datagram bytes.now
         → option_map (λ found. found.now) result ≡ Some datagram }
+    // The exact result.
+    ensures exact { option_map (λ found. found.now) result
+        ≡ spec.unsealed_in key.now.bytes direction bytes.now }
 {
     if bytes.len() < SEAL {
         return None;

@@ -8,8 +8,8 @@ ghost use Rattle.share_turns.specs.declared.traffic.Traffic.TheVariants.{Nothing
 
 use thiserror::Error;
 
-/// The number of bytes of a datagram that are received: one more than a packet of version 2 has room
-/// for, so that a longer one is noticed.
+/// The number of bytes of a datagram that are received: one more than a packet of version 2 has
+/// room for, so that a longer one is noticed.
 pub const RECEIVED: usize = 289;
 
 /// A send or a receive failed.

@@ -1,8 +1,10 @@
 //! Tables and examples by hand, one file per crate, and growths that are refused.
 
 mod clocks;
+mod cookies;
 mod datagrams;
 mod given_back;
+mod key_files;
 mod lists;
 mod memory;
 mod numerals;
@@ -10,6 +12,7 @@ mod parts;
 mod passing;
 mod reaction_growths;
 mod reactions;
+mod sealed_asks;
 mod seals;
 mod sending;
 mod sessions;

@@ -4,6 +4,8 @@ use app_logs::{LogFault, log_refusal_line, log_status_of};
 use app_program::{Failure, JobFault, RunFault, ShareFault, refusal_line, status_of};
 use app_words::OrderFault;
 use proto_blame::instance_words;
+use share_key_files::KeyFileFault;
+use std::fmt;
 use std::io::Eprint;
 use std::process::ExitCode;
 
@@ -17,6 +19,20 @@ pub enum End {
     Log(LogFault),
     /// The last inputs are in the log or not, and no viewer was sent them.
     InDoubt,
+    /// A text isn't an address with a port, or the system knows no address of its name.
+    NoAddress,
+    /// A file of keys can't be opened or read.
+    KeyFileOpen,
+    /// Others than its owner may use a file of keys.
+    KeyFileShared,
+    /// A file has something else than keys in it.
+    KeyFile(KeyFileFault),
+    /// The key of a viewer's file is another viewer's.
+    WrongViewer,
+    /// A host is beyond this machine, without keys and without the word that anyone may come.
+    NoKeys,
+    /// There is a file with the name of one of the files of keys that are to be made.
+    KeyFileThere,
     /// The file of names that have to stay can't be read.
     NoNames,
     /// A part lacks a name that has to stay; this is already printed.
@@ -70,6 +86,22 @@ fn refuse_failure<R: Eprint>(rt: &R, failure: &Failure) -> ExitCode {
     ExitCode::from(status_of(failure))
 }
 
+/// The line of a file of keys that is refused, in words.
+#[derive(Drop)]
+struct KeyFileRefused(KeyFileFault);
+
+impl fmt::Display for KeyFileRefused {
+    fn fmt<W: fmt::Write>(&self, f: &mut fmt::Formatter<W>) -> fmt::Result {
+        write!(f, "refused {} line {}", self.0.kind.name(), self.0.line)
+    }
+}
+
+/// Prints the line of a refusal that says what is wrong with the words, and returns its status.
+fn refuse_words_of<R: Eprint>(rt: &R, line: &str) -> ExitCode {
+    let _told = rt.eprintln(line);
+    ExitCode::from(2)
+}
+
 /// Prints the line of a refusal on standard error, and a second one where there is more to say.
 /// Returns its status.
 pub fn refuse<R: Eprint>(rt: &R, end: &End) -> ExitCode {
@@ -86,10 +118,21 @@ pub fn refuse<R: Eprint>(rt: &R, end: &End) -> ExitCode {
             let _told = rt.eprintln("the log is in doubt: start the host again with --log");
             status
         }
-        End::NoNames => {
-            let _told = rt.eprintln("refused NoNames");
+        End::NoAddress => refuse_words_of(rt, "refused NoAddress"),
+        End::KeyFileOpen => refuse_words_of(rt, "refused KeyFileOpen"),
+        End::KeyFileShared => {
+            let status = refuse_words_of(rt, "refused KeyFileOpen");
+            let _told = rt.eprintln("others may use the file of keys: chmod 600 it");
+            status
+        }
+        End::KeyFile(fault) => {
+            let _told = rt.eprintln(KeyFileRefused(*fault));
             ExitCode::from(2)
         }
+        End::WrongViewer => refuse_words_of(rt, "refused WrongViewer"),
+        End::NoKeys => refuse_words_of(rt, "refused NoKeys"),
+        End::KeyFileThere => refuse_words_of(rt, "refused KeyFileThere"),
+        End::NoNames => refuse_words_of(rt, "refused NoNames"),
         End::NameLost => ExitCode::from(1),
     }
 }

@@ -1,7 +1,7 @@
 //! What a host and a viewer report on standard error if they are verbose.
 
-use app_commands::{Counts, number_of};
-use share_turns::UdpPort;
+use app_commands::Counts;
+use app_program::ShareFault;
 use std::fmt;
 use std::io::Eprint;
 
@@ -84,10 +84,10 @@ impl fmt::Display for ViewEnd {
     }
 }
 
-/// Reports the bound port on standard error if `verbose` is set. A standard error that fails
-/// doesn't affect the run.
-pub fn tell_port<R: Eprint>(rt: &R, verbose: bool, port: &UdpPort) {
-    if verbose && let Ok(number) = number_of(port) {
+/// Reports the port that a socket is bound to on standard error if `verbose` is set. A standard
+/// error that fails doesn't affect the run.
+pub fn tell_port<R: Eprint>(rt: &R, verbose: bool, port: Result<u16, ShareFault>) {
+    if verbose && let Ok(number) = port {
         let _told = rt.eprintln(BoundAt(number));
     }
 }
@@ -125,6 +125,23 @@ impl fmt::Display for OthersCame {
 pub fn tell_others<R: Eprint>(rt: &R, verbose: bool, others: u64) {
     if verbose && others > 0 {
         let _told = rt.eprintln(OthersCame(others));
+    }
+}
+
+/// How many datagrams without a right seal came, in words.
+#[derive(Drop)]
+struct UnsealedCame(u64);
+
+impl fmt::Display for UnsealedCame {
+    fn fmt<W: fmt::Write>(&self, f: &mut fmt::Formatter<W>) -> fmt::Result {
+        write!(f, "{} datagrams without a right seal dropped", self.0)
+    }
+}
+
+/// Reports how many datagrams without a right seal came, if `verbose` is set and some did.
+pub fn tell_unsealed<R: Eprint>(rt: &R, verbose: bool, unsealed: u64) {
+    if verbose && unsealed > 0 {
+        let _told = rt.eprintln(UnsealedCame(unsealed));
     }
 }
 

@@ -1,20 +1,23 @@
-//! How a host starts: the run of its log, its port, and its turns. A host without a log file has a
-//! log in memory, and a run of its own.
+//! How a host starts: the run of its log, its turns, and the socket of its place. A host without a
+//! log file has a log in memory, and a run of its own.
 
 ghost use Rattle.app_words.specs.Words.{HostInRange};
 
 use crate::defaults::{turns_of, viewers_of};
+use crate::doors::{Door, HostSocket, HostTexts, Socket, opened, way_of};
 use crate::end::End;
-use crate::ends::{tell_host_end, tell_port};
+use crate::ends::{tell_host_end, tell_port, tell_unsealed};
 use crate::files::drawn_run;
-use app_commands::{PatientPort, Peer, SharedJob, TellingPort, Watch, bound, shared_job};
+use app_commands::{PatientPort, Peer, SharedJob, TellingPort, Watch, shared_job};
 use app_logs::{
     AppendFault, Beat, Entry, Head, Log, LogFault, LogPlan, LoggedFault, LoggedHost, MemoryLog,
     RunFault as LogRunFault, append_fault_of, is_viewer_count, log_run, resume, times_after,
 };
 use app_program::{RunFault, ShareFault, read_whole};
 use app_words::{HostOrder, Order};
-use share_turns::{HostPlan, TurnFault, UdpPort};
+use share_keys::Keys;
+use share_sealed::KeyedPort;
+use share_turns::{HostPlan, Port, TurnFault};
 use share_welcomes::{HostPort, HostRun};
 use std::alloc::Global;
 
@@ -74,12 +77,12 @@ fn run_end(fault: LogRunFault) -> End {
 }
 
 /// Returns the port of a host in the run of a log with this head and these entries.
-fn port_in_run(
+fn port_in_run<P: Drop>(
     alloc: Global,
-    bound: UdpPort,
+    bound: P,
     head: &Head,
     entries: &[Entry],
-) -> Result<HostPort<UdpPort>, End> {
+) -> Result<HostPort<P>, End> {
     if !is_viewer_count(head.viewers) {
         return Err(End::Log(LogFault::BadHead));
     }
@@ -90,12 +93,12 @@ fn port_in_run(
 }
 
 /// Runs a host over its log at a port, which answers each datagram in the version in which it came.
-pub fn run_at<L: Log>(
+fn run_over<L: Log, P: Port + HostSocket + Drop>(
     rt: &HostRuntime,
     starting: Starting,
     verbose: bool,
     log: &mut L,
-    bound: UdpPort,
+    bound: P,
 ) -> Result<(), End> {
     let Starting {
         head,
@@ -104,10 +107,10 @@ pub fn run_at<L: Log>(
         clocks,
         plan,
     } = starting;
-    tell_port(rt, verbose, &bound);
+    let has_numbers = bound.has_numbers();
     let port = port_in_run(rt.alloc(), bound, &head, &entries)?;
     drop(entries);
-    let watch = Watch::new(head.mark, Peer::Host(head.viewers));
+    let watch = Watch::new(head.mark, Peer::Host(head.viewers), has_numbers);
     let mut port = PatientPort::new(TellingPort::new(port, rt, verbose, watch), rt);
     if !log.takes_appends() {
         return Err(End::InDoubt);
@@ -115,10 +118,45 @@ pub fn run_at<L: Log>(
     let before = log.len();
     let done = log_run(hosting, &clocks, &plan, log, &mut port);
     let numbered = log.len().saturating_sub(before);
+    tell_unsealed(rt, verbose, port.port().port().port().unsealed());
     tell_host_end(rt, verbose, clocks.len(), numbered, port.port().counts());
     match done {
         Ok(()) => Ok(()),
         Err(fault) => Err(run_end(fault)),
+    }
+}
+
+/// Runs a host over its log at a port, with its keys if it has some.
+fn run_sealed<L: Log, P: Port + HostSocket + Drop>(
+    rt: &HostRuntime,
+    starting: Starting,
+    verbose: bool,
+    log: &mut L,
+    bound: P,
+    keys: Option<Keys>,
+) -> Result<(), End> {
+    let Some(keys) = keys else {
+        return run_over(rt, starting, verbose, log, bound);
+    };
+    match KeyedPort::new(rt.alloc(), bound, keys) {
+        Ok(keyed) => run_over(rt, starting, verbose, log, keyed),
+        Err(_refused) => Err(End::from(ShareFault::Memory)),
+    }
+}
+
+/// Runs a host over its log at a door.
+pub fn run_at<L: Log>(
+    rt: &HostRuntime,
+    starting: Starting,
+    verbose: bool,
+    log: &mut L,
+    door: Door<'_>,
+) -> Result<(), End> {
+    let Door { socket, keys } = door;
+    tell_port(rt, verbose, socket.port());
+    match socket {
+        Socket::Local(bound) => run_sealed(rt, starting, verbose, log, bound, keys),
+        Socket::Addressed(bound) => run_sealed(rt, starting, verbose, log, bound, keys),
     }
 }
 
@@ -151,24 +189,35 @@ fn without_log(
 }
 
 /// Runs the host of a job at a port, with a log in memory and a run drawn at random.
-fn hosted(rt: &HostRuntime, job: &SharedJob, asked: &HostOrder) -> Result<(), End>
+fn hosted(
+    rt: &HostRuntime,
+    job: &SharedJob,
+    asked: &HostOrder,
+    texts: &HostTexts<'_>,
+) -> Result<(), End>
     requires { HostInRange asked.now }
 {
-    let bound = bound(rt, asked.port)?;
+    let way = way_of(rt, asked, texts)?;
+    let door = opened(rt, asked, way)?;
     let run = drawn_run(rt)?;
     let starting = without_log(rt.alloc(), job, asked, run)?;
     let Ok(mut memory) = MemoryLog::new(rt.alloc(), 1, Vec::new(rt.alloc())) else {
         return Err(End::from(ShareFault::Memory));
     };
-    run_at(rt, starting, asked.verbose, &mut memory.handle(0), bound)
+    run_at(rt, starting, asked.verbose, &mut memory.handle(0), door)
 }
 
 /// Reads a job of clocks, and runs its host without a log.
-pub fn host(rt: &HostRuntime, order: &Order, asked: &HostOrder) -> Result<(), End>
+pub fn host(
+    rt: &HostRuntime,
+    order: &Order,
+    asked: &HostOrder,
+    texts: &HostTexts<'_>,
+) -> Result<(), End>
     requires { HostInRange asked.now }
 {
     let job = read_clocks(rt, order)?;
-    let done = hosted(rt, &job, asked);
+    let done = hosted(rt, &job, asked, texts);
     drop(job);
     done
 }

@@ -2,18 +2,18 @@
 //! steps of a job.
 
 use crate::defaults::VIEWERS;
+use crate::doors::{Door, HostTexts, opened, way_of};
 use crate::end::End;
 use crate::ends::tell_log;
 use crate::files::{LogDisk, disk_at, drawn_run};
 use crate::hosts::{Starting, plan_of, read_clocks, run_at};
-use app_commands::{SharedJob, bound};
+use app_commands::SharedJob;
 use app_logs::{
     Begun, Expected, Head, Log, LogFault, go_on, is_viewer_count, make_log, recalled,
     recalled_info, times_after,
 };
 use app_program::{RunFault, read_whole, write_whole};
 use app_words::{HostOrder, LogUse, Order};
-use share_turns::UdpPort;
 use sqlite_disk::Disk;
 use std::alloc::Global;
 use std::io;
@@ -79,7 +79,7 @@ fn run_over_log(
     job: &SharedJob,
     asked: &HostOrder,
     begun: Begun<LogDisk>,
-    bound: UdpPort,
+    door: Door<'_>,
 ) -> Result<(), End> {
     let Begun {
         mut log,
@@ -101,15 +101,22 @@ fn run_over_log(
         clocks,
         plan,
     };
-    run_at(rt, starting, asked.verbose, &mut log, bound)
+    run_at(rt, starting, asked.verbose, &mut log, door)
 }
 
-/// Opens the file of a log, binds the port, and runs the host.
-fn hosted(rt: &HostRuntime, job: &SharedJob, asked: &HostOrder, file: &str) -> Result<(), End> {
+/// Opens the file of a log, binds the socket, and runs the host.
+fn hosted(
+    rt: &HostRuntime,
+    job: &SharedJob,
+    asked: &HostOrder,
+    texts: &HostTexts<'_>,
+    file: &str,
+) -> Result<(), End> {
+    let way = way_of(rt, asked, texts)?;
     let disk = disk_at(rt, file, asked.log)?;
-    let bound = bound(rt, asked.port)?;
+    let door = opened(rt, asked, way)?;
     let begun = begun_in(rt, disk, job.mark, asked)?;
-    run_over_log(rt, job, asked, begun, bound)
+    run_over_log(rt, job, asked, begun, door)
 }
 
 /// Reads a job of clocks, and runs its host over the log of a file.
@@ -117,10 +124,11 @@ pub fn host_over_log(
     rt: &HostRuntime,
     order: &Order,
     asked: &HostOrder,
+    texts: &HostTexts<'_>,
     file: &str,
 ) -> Result<(), End> {
     let job = read_clocks(rt, order)?;
-    let done = hosted(rt, &job, asked, file);
+    let done = hosted(rt, &job, asked, texts, file);
     drop(job);
     done
 }

@@ -2,31 +2,39 @@
 #![tactic(auto)]
 
 mod defaults;
+mod doors;
 mod end;
 mod ends;
 mod files;
 mod hosts;
+mod key_files;
 mod logs;
 mod meets;
 mod parts;
 mod peers;
+mod places;
 mod refused;
 mod stack;
+mod viewer;
 
-ghost use Rattle.app_words.specs.Words.{HostInRange, IsInRange};
+ghost use Rattle.app_words.specs.Words.{HostInRange, IsInRange, ViewInRange};
 
+use crate::doors::HostTexts;
 use crate::end::{End, refuse};
 use crate::hosts::host;
+use crate::key_files::make_keys;
 use crate::logs::{host_over_log, recall};
 use crate::parts::part;
-use crate::peers::{agree, rehearse, view};
+use crate::peers::{agree, rehearse};
 use crate::refused::{refused_job, refused_scene};
 use crate::stack::has_room;
+use crate::viewer::{ViewTexts, view};
 use app_program::{
-    Failure, RunFault, StreamFault, check_text, format_text, read_whole, run_job, write_whole,
+    Failure, RunFault, RunOutput, StreamFault, check_text, format_text, read_whole, run_job,
+    write_whole,
 };
 use app_words::{
-    HostOrder, LogUse, Order, OrderFault, Request, hint_of, log_file_of, names_file_of, request_of,
+    HostOrder, LogUse, Order, OrderFault, Request, ViewOrder, hint_of, request_of, text_of,
 };
 use std::alloc::{AllocError, Global};
 use std::io::{self, Eprint};
@@ -53,11 +61,12 @@ fn read_own<R: AllocGlobal + Input>(rt: &R) -> Result<Vec<u8>, Failure> {
     read_whole(rt.alloc(), &mut rt.reader()).map_err(stream_failure)
 }
 
-/// Reads a job, runs it with boxes of the stock, and prints the trace and the scene.
-fn run_own<R: AllocGlobal + Input + Print>(rt: &R) -> Result<(), End> {
+/// Reads a job, runs it with boxes of the stock, and prints the trace and the scene, or the scene
+/// alone.
+fn run_own<R: AllocGlobal + Input + Print>(rt: &R, output: RunOutput) -> Result<(), End> {
     let job = read_own(rt)?;
     let mut reader = job.as_slice();
-    match run_job(rt.alloc(), &mut reader, &mut io::writer(rt)) {
+    match run_job(rt.alloc(), output, &mut reader, &mut io::writer(rt)) {
         Ok(()) => Ok(()),
         Err(failure) => Err(refused_job(rt.alloc(), failure, job.as_slice())),
     }
@@ -87,15 +96,48 @@ fn print_text<R: Print>(rt: &R, text: &str) -> Result<(), Failure> {
     write_whole(&mut io::writer(rt), text.as_bytes()).map_err(stream_failure)
 }
 
+/// Returns the file of the log that the words name, if they name one.
+fn log_file<'a>(
+    alloc: Global,
+    words: &'a [&'a str],
+    log: LogUse,
+) -> Result<Option<&'a str>, OrderFault> {
+    match log {
+        LogUse::Without => Ok(None),
+        LogUse::GoesOn => text_of(alloc, words, "log"),
+        LogUse::Makes => text_of(alloc, words, "new-log"),
+    }
+}
+
 /// Runs a host, over the log that the words name if they name one.
 fn host_as(rt: &HostRuntime, words: &[&str], order: &Order, asked: &HostOrder) -> Result<(), End>
     requires { HostInRange asked.now }
 {
-    if asked.log == LogUse::Without {
-        return host(rt, order, asked);
+    let texts = HostTexts {
+        listen: text_of(rt.alloc(), words, "listen")?,
+        keys: text_of(rt.alloc(), words, "keys")?,
+    };
+    match log_file(rt.alloc(), words, asked.log)? {
+        Some(file) => host_over_log(rt, order, asked, &texts, file),
+        None => host(rt, order, asked, &texts),
     }
-    match log_file_of(rt.alloc(), words)? {
-        Some(file) => host_over_log(rt, order, asked, file),
+}
+
+/// Runs a viewer.
+fn view_as(rt: &HostRuntime, words: &[&str], order: &Order, asked: &ViewOrder) -> Result<(), End>
+    requires { ViewInRange asked.now }
+{
+    let texts = ViewTexts {
+        host: text_of(rt.alloc(), words, "host")?,
+        key: text_of(rt.alloc(), words, "key")?,
+    };
+    view(rt, order, asked, &texts)
+}
+
+/// Makes the files of keys in the folder that the words name.
+fn key_as(rt: &HostRuntime, words: &[&str], viewers: u8) -> Result<(), End> {
+    match text_of(rt.alloc(), words, "folder")? {
+        Some(folder) => make_keys(rt, viewers, folder),
         None => Err(End::from(OrderFault::Words)),
     }
 }
@@ -105,15 +147,16 @@ fn obey(rt: &HostRuntime, words: &[&str], order: Order) -> Result<(), End>
     requires { IsInRange order }
 {
     match order {
-        Order::Run => run_own(rt)?,
+        Order::Run { no_trace } => run_own(rt, RunOutput::without(no_trace))?,
         Order::Format => format_scene(rt)?,
         Order::Check => check_scene(rt)?,
         Order::Rehearse { viewers } => rehearse(rt, viewers)?,
         Order::Agree { viewers, turns } => agree(rt, &order, viewers, turns)?,
         Order::Host(asked) => host_as(rt, words, &order, &asked)?,
-        Order::View(asked) => view(rt, &order, &asked)?,
+        Order::View(asked) => view_as(rt, words, &order, &asked)?,
         Order::Recall { until, info } => recall(rt, until, info)?,
-        Order::Part { list } => part(rt, list, names_file_of(rt.alloc(), words)?)?,
+        Order::Part { list } => part(rt, list, text_of(rt.alloc(), words, "keep-names")?)?,
+        Order::Key { viewers } => key_as(rt, words, viewers)?,
     }
     Ok(())
 }

@@ -36,9 +36,14 @@ fn draw<R: RandomSource>(rt: &R) -> Result<Drawn, Failure> {
     Ok(Drawn { nonce, seed })
 }
 
-/// Returns how a viewer of the scene with this mark meets its host. A host that has one world
-/// answers to the empty name.
-fn meeting_of(mark: [u8; 32], asked: &ViewOrder, drawn: &Drawn) -> Option<Meeting>
+/// Reports whether a viewer speaks version 2 alone.
+fn demands_run(asked: &ViewOrder) -> bool {
+    asked.wire == Some(2) || asked.has_key || asked.has_address
+}
+
+/// Returns how a viewer of the scene with this mark meets its host, a peer with this number. A host
+/// that has one world answers to the empty name.
+fn meeting_of(mark: [u8; 32], asked: &ViewOrder, host: u16, drawn: &Drawn) -> Option<Meeting>
     requires { ViewInRange asked.now }
 {
     let Some(name) = WorldName::new(b"") else {
@@ -53,12 +58,13 @@ fn meeting_of(mark: [u8; 32], asked: &ViewOrder, drawn: &Drawn) -> Option<Meetin
         nonce,
         name,
     };
-    let most = match asked.wire {
-        Some(_) => MOST_MILLIS_IN_RUN,
-        None => MOST_MILLIS,
+    let most = if demands_run(asked) {
+        MOST_MILLIS_IN_RUN
+    } else {
+        MOST_MILLIS
     };
     Some(Meeting {
-        host: asked.port,
+        host,
         hello,
         seed,
         most,
@@ -82,14 +88,15 @@ fn in_run<P: Drop>(
 
 /// Returns the port of a viewer that no host welcomed: by version 1, if the viewer may speak it.
 fn alone<P: Drop>(port: P, asked: &ViewOrder) -> Result<ViewerPort<P>, Failure> {
-    match asked.wire {
-        Some(_) => Err(Failure::Share(ShareFault::NoWelcome)),
-        None => Ok(ViewerPort::Plain(port)),
+    if demands_run(asked) {
+        Err(Failure::Share(ShareFault::NoWelcome))
+    } else {
+        Ok(ViewerPort::Plain(port))
     }
 }
 
-/// Returns the port of a viewer of the scene with this mark, over `port`: in the run that its host
-/// welcomes it to, or by version 1.
+/// Returns the port of a viewer of the scene with this mark, over `port`: in the run that its host,
+/// the peer `host`, welcomes it to, or by version 1.
 ///
 /// Fails with `NoWelcome` if the viewer demands a run and no host welcomes it, with `Port` if a
 /// send or a receive fails, with `Device` if the system has no random bytes, and with `Memory`.
@@ -97,6 +104,7 @@ pub fn met_port<R: AllocGlobal + RandomSource + Clock, P: Port + Drop>(
     rt: &R,
     mark: [u8; 32],
     asked: &ViewOrder,
+    host: u16,
     port: P,
 ) -> Result<ViewerPort<P>, Failure>
     requires { ViewInRange asked.now }
@@ -105,7 +113,7 @@ pub fn met_port<R: AllocGlobal + RandomSource + Clock, P: Port + Drop>(
         return Ok(ViewerPort::Plain(port));
     }
     let drawn = draw(rt)?;
-    let Some(meeting) = meeting_of(mark, asked, &drawn) else {
+    let Some(meeting) = meeting_of(mark, asked, host, &drawn) else {
         return alone(port, asked);
     };
     let mut port = port;

@@ -1,6 +1,6 @@
 //! The commands that read one input and write one output, and their answers.
 
-use app_program::{Failure, check_text, format_text, refusal_line, run_job, status_of};
+use app_program::{Failure, RunOutput, check_text, format_text, refusal_line, run_job, status_of};
 use std::alloc::Global;
 use std::io::{Read, Write};
 
@@ -22,7 +22,7 @@ pub(super) fn obey<R: Read, W: Write>(
     match command {
         Command::Check => Ok(check_text(alloc, reader, writer)?),
         Command::Format => Ok(format_text(alloc, reader, writer)?),
-        Command::Run => run_job(alloc, reader, writer),
+        Command::Run => run_job(alloc, RunOutput::TraceAndScene, reader, writer),
     }
 }
 

@@ -8,7 +8,7 @@ ghost use Rattle.share_rehearsal.specs.Loaded.{AreFresh};
 
 mod boxes;
 
-use app_program::{Job, OpenedScene, attach, open_job, open_scene, run};
+use app_program::{Job, OpenedScene, RunOutput, attach, open_job, open_scene, run};
 use boxes::{Calls, Count, Counted, NONE};
 use cascade_core::{LoadFault, Stage};
 use script_host::Behaviour;
@@ -253,7 +253,7 @@ fn is_run<'a>(alloc: Global, count: &'a Count) -> Result<bool, AllocError> {
         return Err(AllocError);
     };
     let mut out = Vec::new(alloc);
-    let answer = run(alloc, job, boxes, &mut out);
+    let answer = run(alloc, RunOutput::TraceAndScene, job, boxes, &mut out);
     drop(out);
     Ok(answer.is_ok())
 }

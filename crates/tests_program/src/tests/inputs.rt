@@ -103,7 +103,10 @@ impl Spared<()> for Words {
         memory.run_short();
         let order = order_of(request_of(alloc, &["x3d_share", "run"]));
         memory.come_back();
-        Outcome::of(order == Ok(Order::Run), order == Err(OrderFault::Memory))
+        Outcome::of(
+            order == Ok(Order::Run { no_trace: false }),
+            order == Err(OrderFault::Memory),
+        )
     }
 }
 

@@ -1,6 +1,6 @@
 //! Jobs of a host and two viewers, and what `run` prints for them.
 
-use app_program::run_job;
+use app_program::{RunOutput, run_job};
 use app_words::Order;
 use std::alloc::{AllocError, Global};
 use x3d_values::{Point, Vec3};
@@ -158,7 +158,7 @@ pub(super) fn run_of(alloc: Global, line: &str, job: &[u8]) -> Result<Vec<u8>, A
     let mut reader = job;
     let mut out = Vec::new(alloc);
     out.extend_from_slice(line.as_bytes())?;
-    let Ok(()) = run_job(alloc, &mut reader, &mut out) else {
+    let Ok(()) = run_job(alloc, RunOutput::TraceAndScene, &mut reader, &mut out) else {
         return Err(AllocError);
     };
     Ok(out)

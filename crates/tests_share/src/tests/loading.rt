@@ -39,7 +39,7 @@ struct Begun {
 
 /// Returns what a job begins with, or `None` if memory is refused.
 fn begin(alloc: Global, job: &str) -> Option<Begun> {
-    let Ok(job) = shared_job(alloc, job.as_bytes(), &Order::Run) else {
+    let Ok(job) = shared_job(alloc, job.as_bytes(), &Order::Run { no_trace: false }) else {
         return None;
     };
     let SharedJob {

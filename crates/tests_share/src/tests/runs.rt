@@ -20,8 +20,8 @@ pub(super) const OWN: Run = [9; 16];
 
 pub(super) const OTHER: Run = [8; 16];
 
-/// A viewer that has applied an input of its run ends 10 seconds after it last heard of that run, if
-/// another run's host answers it.
+/// A viewer that has applied an input of its run ends 10 seconds after it last heard of that run,
+/// if another run's host answers it.
 #[test]
 fn a_run_is_over_where_another_one_answers(rt: HostRuntime) -> Result<(), Fail> {
     let Some(name) = WorldName::new(b"door") else {

@@ -131,7 +131,10 @@ fn times_of(alloc: Global, inputs: &[Stamped]) -> Result<Vec<i64>, AllocError> {
 /// Reports whether a host takes all its turns, with the clocks of a job's bytes.
 fn hosts(alloc: Global, bytes: &[u8], port: &mut Between<'_>) -> bool {
     let order = Order::Host(HostOrder {
-        port: HOST,
+        port: Some(HOST),
+        has_address: false,
+        has_keys: false,
+        is_open: false,
         log: LogUse::Without,
         viewers: Some(2),
         turns: Some(TURNS),
@@ -157,7 +160,10 @@ fn views(alloc: Global, bytes: &[u8], who: u8, port: &mut Between<'_>) -> bool
 {
     let until = port.others.job.inputs;
     let order = Order::View(ViewOrder {
-        port: HOST,
+        port: Some(HOST),
+        has_address: false,
+        has_key: false,
+        is_open: false,
         who,
         boot: 1,
         end: ViewEnd::Until(until),

@@ -3,15 +3,18 @@ use Rattle.std.specs.List.{fold}
 use Rattle.std.specs.Result.{IfOk}
 use Rattle.clap.specs.Words.{app_of}
 use Rattle.app_words.specs.Commands.{app_with, with_command}
-use Rattle.app_words.proofs.CommandLemmas.{first_commands, other_commands}
+use Rattle.app_words.proofs.CommandLemmas.{first_commands, shared_commands, file_commands}
 use Rattle.app_words.proofs.commands.program_command.Goals as goal
 
 pub returns : goal.returns
 returns c =
     let first = c.local_commands.result.now in
-    let others = c.other_commands.result.now in
+    let second = c.shared_commands.result.now in
+    let third = c.file_commands.result.now in
     let local = c.in_ok-local.ensures ∙ ap (λ a. fold (λ b w. with_command b (app_with w)) a first) c.in_ok-bare.ensures.app
     ∙ first_commands first c.local_commands.ensures in
-    let all = ap (λ a. fold (λ b w. with_command b (app_with w)) a others) local
-    ∙ other_commands others c.other_commands.ensures in
-    subst (λ a. IfOk c.with_commands-2.result (λ p. app_of p ≡ a)) all c.with_commands-2.ensures
+    let shared = c.in_ok-shared.ensures ∙ ap (λ a. fold (λ b w. with_command b (app_with w)) a second) local
+    ∙ shared_commands second c.shared_commands.ensures in
+    let all = ap (λ a. fold (λ b w. with_command b (app_with w)) a third) shared
+    ∙ file_commands third c.file_commands.ensures in
+    subst (λ a. IfOk c.with_commands-3.result (λ p. app_of p ≡ a)) all c.with_commands-3.ensures

@@ -1,5 +1,5 @@
 use Rattle.embed_world.proofs.AheadLaws.{acks-are-stored, answers-grow, begins-keep, clocks-keep, drops-keep, floors-are-stored, inputs-are-stored, keeping-keeps, takes-from-keep, takes-keep}
-use Rattle.embed_world.proofs.LineTexts.{appends-make-logs}
+use Rattle.embed_entries.proofs.LineTexts.{appends-make-logs}
 use Rattle.embed_world.proofs.law.hosts_write_ahead.Goals as goal
 
 pub returns-clause-clocks : goal.returns-clause-clocks

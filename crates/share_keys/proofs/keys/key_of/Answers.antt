@@ -12,4 +12,5 @@ pub returns : goal.returns
 returns c = record {
   found = of-some c.args.line.now c.line_key.result c.line_key.ensures;
   only = λ key is. c.line_key.ensures ∙ only key c.args.line.now is;
+  exact = c.line_key.ensures;
 }

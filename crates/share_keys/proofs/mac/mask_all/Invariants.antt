@@ -1,4 +1,4 @@
-use Rattle.std.proofs.Common.{◌≡◌, map, take, drop, length}
+use Rattle.std.proofs.Common.{◌≡◌, take, drop, length}
 use Rattle.share_keys.specs.Hmac.{masked}
 use Rattle.share_keys.proofs.mac.mask_all.Given as goal
 

@@ -4,7 +4,7 @@ use super::super::texts::{Part, made};
 use super::probe::{Log, Made, boxes_made};
 use super::worlds::COUNTERS;
 use super::{Row, all_hold};
-use app_program::{RunFault, read_job, run, run_job};
+use app_program::{RunFault, RunOutput, read_job, run, run_job};
 use script_host::AttachFault;
 use std::alloc::Global;
 use std::process::Abort;
@@ -32,7 +32,7 @@ fn fault_of(
         drop(job);
         return None;
     };
-    Some(run(alloc, job, boxes, out).err())
+    Some(run(alloc, RunOutput::TraceAndScene, job, boxes, out).err())
 }
 
 /// Reports whether `out` is what the job prints with boxes of the stock, or nothing if it isn't
@@ -43,7 +43,7 @@ fn is_printed(alloc: Global, bytes: &[u8], out: &[u8], is_run: bool) -> bool {
     }
     let mut reader = bytes;
     let mut wanted = Vec::new(alloc);
-    let answer = run_job(alloc, &mut reader, &mut wanted).err();
+    let answer = run_job(alloc, RunOutput::TraceAndScene, &mut reader, &mut wanted).err();
     let same = out == wanted.as_slice();
     drop(wanted);
     answer.is_none() && same

@@ -1,0 +1,3 @@
+mod Stored
+mod Lasting
+mod Refused

@@ -1,0 +1,4 @@
+pub mod LogFaults
+pub mod Appending
+pub mod Opening
+pub mod Files

@@ -1,0 +1,2 @@
+mod Ages
+mod Texts

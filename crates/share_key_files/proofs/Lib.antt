@@ -1,0 +1,4 @@
+mod Cuts
+mod Reading
+mod Said
+mod Written

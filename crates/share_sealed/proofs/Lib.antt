@@ -1,0 +1,5 @@
+mod Claims
+mod Opened
+mod Porting
+mod Telling
+mod Unheard

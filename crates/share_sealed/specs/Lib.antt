@@ -1,0 +1,4 @@
+pub mod Speakers
+pub mod Told
+pub mod Passing
+pub mod Laws

@@ -1,0 +1,126 @@
+//! The socket of a host, and the keys by which it is reached.
+
+use crate::end::End;
+use crate::key_files::host_keys;
+use crate::places::{Place, may_be_reached, place_of};
+use app_commands::{AddressedPort, bound, number_of};
+use app_program::ShareFault;
+use app_words::HostOrder;
+use share_keys::Keys;
+use share_sealed::KeyedPort;
+use share_turns::UdpPort;
+
+/// The texts of a host's options, if they were given.
+#[derive(Clone, Copy)]
+pub struct HostTexts<'a> {
+    /// That of `--listen`.
+    pub listen: Option<&'a str>,
+    /// That of `--keys`.
+    pub keys: Option<&'a str>,
+}
+
+/// How a host is reached.
+#[derive(Drop)]
+pub struct Way {
+    place: Place,
+    keys: Option<Keys>,
+}
+
+/// A bound socket.
+#[derive(Drop)]
+pub enum Socket<'a> {
+    /// A socket of 127.0.0.1, whose peers are ports of it.
+    Local(UdpPort),
+    Addressed(AddressedPort<&'a HostRuntime>),
+}
+
+/// A bound socket, and the keys of those that are served there, or none if all are.
+#[derive(Drop)]
+pub struct Door<'a> {
+    pub socket: Socket<'a>,
+    pub keys: Option<Keys>,
+}
+
+impl<'a> Socket<'a> {
+    /// Returns the port that the socket is bound to. Fails with `Port` if the system doesn't say
+    /// it.
+    pub fn port(&self) -> Result<u16, ShareFault> {
+        match self {
+            Socket::Local(port) => number_of(port),
+            Socket::Addressed(port) => port.local_port(),
+        }
+    }
+}
+
+/// The port of a host, by a socket of its own.
+pub trait HostSocket {
+    /// Reports whether peers are numbers of a table of addresses, and not ports of this machine.
+    fn has_numbers(&self) -> bool;
+
+    /// Returns how many datagrams without a right seal came, up to 2^64 - 1.
+    fn unsealed(&self) -> u64;
+}
+
+impl HostSocket for UdpPort {
+    fn has_numbers(&self) -> bool {
+        false
+    }
+
+    fn unsealed(&self) -> u64 {
+        0
+    }
+}
+
+impl<R> HostSocket for AddressedPort<R> {
+    fn has_numbers(&self) -> bool {
+        true
+    }
+
+    fn unsealed(&self) -> u64 {
+        0
+    }
+}
+
+impl<P: HostSocket> HostSocket for KeyedPort<P> {
+    fn has_numbers(&self) -> bool {
+        self.port().has_numbers()
+    }
+
+    fn unsealed(&self) -> u64 {
+        self.dropped()
+    }
+}
+
+/// Returns the keys of the file that `--keys` names, if it does.
+fn keys_of(rt: &HostRuntime, file: Option<&str>) -> Result<Option<Keys>, End> {
+    match file {
+        Some(file) => Ok(Some(host_keys(rt, file)?)),
+        None => Ok(None),
+    }
+}
+
+/// Returns how a host is to be reached. Fails with `NoAddress`, then with what is wrong with the
+/// file of its keys, and then with `NoKeys`.
+pub fn way_of(rt: &HostRuntime, asked: &HostOrder, texts: &HostTexts<'_>) -> Result<Way, End> {
+    let place = place_of(rt, asked.port, texts.listen)?;
+    let keys = keys_of(rt, texts.keys)?;
+    may_be_reached(&place, keys.is_some(), asked.is_open)?;
+    Ok(Way { place, keys })
+}
+
+fn bound_at<'a>(rt: &'a HostRuntime, place: &Place, verbose: bool) -> Result<Socket<'a>, End> {
+    match place {
+        Place::Port(port) => Ok(Socket::Local(bound(rt, *port)?)),
+        Place::Address(address) => {
+            let socket = AddressedPort::bind(rt, rt.alloc(), *address, verbose)?;
+            Ok(Socket::Addressed(socket))
+        }
+    }
+}
+
+/// Binds the socket of a host. Fails with `Port` or `Memory`.
+pub fn opened<'a>(rt: &'a HostRuntime, asked: &HostOrder, way: Way) -> Result<Door<'a>, End> {
+    let Way { place, keys } = way;
+    let socket = bound_at(rt, &place, asked.verbose)?;
+    Ok(Door { socket, keys })
+}

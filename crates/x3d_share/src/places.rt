@@ -1,0 +1,57 @@
+//! Where a host is, on this machine or at an address, and who may come there.
+
+use crate::end::End;
+use app_words::OrderFault;
+use share_peers::may_be_used;
+use std::io;
+use std::net::{Net, SocketAddr, ToSocketAddrs};
+
+/// Where a host is.
+#[derive(Clone, Copy)]
+pub enum Place {
+    /// At this port of 127.0.0.1.
+    Port(u16),
+    /// At an address, which may be on a network.
+    Address(SocketAddr),
+}
+
+/// Returns the first address of a text, an address or a name that the system knows with a port from
+/// 1 on. Fails with `NoAddress`.
+fn address_at<R: Net>(rt: &R, text: &str) -> Result<SocketAddr, End> {
+    let mut found = match text.to_socket_addrs(rt) {
+        Ok(found) => found,
+        Err(error) => return Err(address_end(error.kind())),
+    };
+    match found.next() {
+        Some(address) if address.port() != 0 => Ok(address),
+        _ => Err(End::NoAddress),
+    }
+}
+
+fn address_end(kind: io::ErrorKind) -> End {
+    match kind {
+        io::ErrorKind::OutOfMemory => End::from(OrderFault::Memory),
+        _ => End::NoAddress,
+    }
+}
+
+/// Returns where a host is, by the text of `--listen` or `--host` or else by `--port`. Fails with
+/// `NoAddress`.
+pub fn place_of<R: Net>(rt: &R, port: Option<u16>, text: Option<&str>) -> Result<Place, End> {
+    if let Some(text) = text {
+        return Ok(Place::Address(address_at(rt, text)?));
+    }
+    match port {
+        Some(port) => Ok(Place::Port(port)),
+        None => Err(End::from(OrderFault::Words)),
+    }
+}
+
+/// Fails with `NoKeys` if the place may be beyond this machine, and there are neither keys nor the
+/// word that anyone may come.
+pub fn may_be_reached(place: &Place, has_keys: bool, is_open: bool) -> Result<(), End> {
+    match place {
+        Place::Address(address) if !may_be_used(address, has_keys, is_open) => Err(End::NoKeys),
+        _ => Ok(()),
+    }
+}
