@@ -11,6 +11,7 @@
 #include <string.h>
 #include <sys/socket.h>
 #include <sys/wait.h>
+#include <time.h>
 #include <unistd.h>
 
 static const uint8_t scene[] = "#X3D V3.0 utf8\n"
@@ -30,9 +31,9 @@ static const uint8_t scene[] = "#X3D V3.0 utf8\n"
 
 /* The clients end at CLOCKS inputs and two for the click; KEPT are kept of those that all have. */
 enum { CLIENTS = 3, CLOCKS = 200, UNTIL = CLOCKS + 2, KEPT = 20, TICK_MS = 5 };
-/* How many datagrams are taken in a turn and how many pieces are sent, after how many turns a client
- * asks again to join, and how long anything may take. */
-enum { MOST = 64, PIECES = 16, AGAIN = 40, TURNS = 20000 };
+/* How many datagrams are taken in a turn and how many pieces are sent in a tick, after how many ticks
+ * a client asks again to join, and how long all may take. */
+enum { MOST = 64, PIECES = 16, AGAIN = 40, END_MS = 60000 };
 
 static void stop(const char *why) {
   fprintf(stderr, "server: %s\n", why);
@@ -41,6 +42,12 @@ static void stop(const char *why) {
 
 static void must(bool holds, const char *what) {
   if (!holds) stop(what);
+}
+
+static int64_t now_ms(void) {
+  struct timespec now;
+  clock_gettime(CLOCK_MONOTONIC, &now);
+  return (int64_t)now.tv_sec * 1000 + now.tv_nsec / 1000000;
 }
 
 static int socket_at(struct sockaddr_in *at) {
@@ -167,8 +174,9 @@ static void serve(int end) {
   must(x3d_host_open(&s.host, scene, sizeof scene - 1, CLIENTS) == X3D_DONE, "there is no host");
   int clocks = 0;
   bool is_late = true;
-  for (int turn = 0; !all_have(&s); turn++) {
-    must(turn < TURNS, "the clients don't end");
+  int64_t end_ms = now_ms() + END_MS;
+  while (!all_have(&s)) {
+    must(now_ms() < end_ms, "the clients don't end");
     for (int k = 0; k < MOST && (length = receive(end, bytes, &from, k ? 0 : TICK_MS)) > 0; k++)
       take(&s, &from, bytes, length);
     if (clocks < CLOCKS && heard(&s, 0) && heard(&s, 1))
@@ -195,7 +203,7 @@ struct client {
   struct sockaddr_in server;
   uint8_t who, boot;
   bool is_behind, is_over;
-  uint32_t drawn, joins, turn;
+  uint32_t drawn, joins, tick;
   /* The snapshot that is given, the number of its pieces, and the next one. */
   uint8_t shot[1 << 20];
   size_t size;
@@ -254,7 +262,7 @@ static void speak(struct client *c) {
   size_t length;
   give(c);
   if (c->is_behind) {
-    if (c->turn++ % AGAIN == 0) send_to(c->end, &c->server, (const uint8_t *)"J", 1);
+    if (c->tick++ % AGAIN == 0) send_to(c->end, &c->server, (const uint8_t *)"J", 1);
     return;
   }
   for (uint32_t place = 0;
@@ -291,9 +299,15 @@ static void follow(struct sockaddr_in server, uint8_t who, int told) {
     must(x3d_viewer_offer(&c.viewer, true, &aim, &number) == X3D_DONE &&
              x3d_viewer_offer(&c.viewer, false, &aim, &number) == X3D_DONE,
          "a click is refused");
-  for (int turn = 0; !c.is_over; turn++) {
-    must(turn < TURNS, "a client doesn't end");
-    speak(&c);
+  int64_t end_ms = now_ms() + END_MS, next_ms = 0;
+  while (!c.is_over) {
+    int64_t now = now_ms();
+    must(now < end_ms, "a client doesn't end");
+    /* An ask is answered at once: it speaks once a tick, not after each answer. */
+    if (now >= next_ms) {
+      speak(&c);
+      next_ms = now + TICK_MS;
+    }
     for (int k = 0; k < MOST && (length = receive(c.end, bytes, &from, k ? 0 : TICK_MS)) > 0; k++)
       come(&c, bytes, length);
     fields += draw(&c);

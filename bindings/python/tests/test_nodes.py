@@ -291,7 +291,9 @@ class Nodes(unittest.TestCase):
                 self.assertEqual((again.read(), again.run(), again.cut), (append.bytes, run, 4))
             with open(path, "r+b") as file:
                 file.seek(90)
-                file.write(b"?")
+                byte = file.read(1)[0]
+                file.seek(90)
+                file.write(bytes([byte ^ 0xFF]))
             with self.assertRaises(Fault) as refused:
                 Log(path, DOOR)
             self.assertEqual((refused.exception.name, refused.exception.frame), ("LogDamaged", 1))
