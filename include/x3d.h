@@ -39,8 +39,8 @@ extern "C" {
  *   call on a closed handle returns X3D_CLOSED, or X3D_RANGE if a number is out of its range and
  *   the call tests that first.
  * A call returns X3D_MISUSE, and changes nothing, for: any other null pointer; a handle of another
- * kind; a copy of a closed handle, until another handle uses its place (this is not noticed if
- * 1,024 others were open when the handle was opened: closing it freed its memory); a second call at
+ * kind; a copy of a closed handle, until another handle reuses its memory (not noticed if 1,024
+ * others were open when the handle was opened: closing then frees that memory); a second call at
  * the same time that may change the handle. The library cannot check the other rules. A thread that
  * calls it needs a stack of at least 512 KB. */
 
@@ -392,7 +392,7 @@ uint8_t x3d_world_clock(struct x3d_world *world, uint32_t number, int64_t time,
 uint8_t x3d_world_point(struct x3d_world *world, uint32_t number, int64_t time, uint8_t viewer,
                         bool down, const struct x3d_aim *aim, struct x3d_work *work);
 /* Writes where a ray would enter the Box that it hits first, and lists the sensors that a pointer
- * with this ray is inside of (x3d_world_copy_numbers copies their nodes). These are the enabled
+ * with this ray is over (x3d_world_copy_numbers copies their nodes). These are the enabled
  * pointing sensors next to the Box's Shape, in the same `children` field or among the roots. If
  * none is there, the sensors next to the node that holds the Shape are listed, and so on upwards.
  * Sensors among the children of a Switch do not count. The world is unchanged. May return, in this
@@ -422,8 +422,8 @@ uint8_t x3d_world_make_label(struct x3d_world *world, uint32_t node);
 /* Makes the name of a field of a node, such as `translation`. May return: X3D_NO_SUCH_FIELD if
  * there is no such node or field. */
 uint8_t x3d_world_make_field_name(struct x3d_world *world, uint32_t node, uint16_t field);
-/* Makes the text of the current value of a field, such as `0 1.5 0`. For nodes it is empty.
- * May return: X3D_NO_SUCH_FIELD, or X3D_NO_VALUE if the field holds no value. */
+/* Makes the text of the current value of a field, such as `0 1.5 0`. For a field of nodes it is
+ * empty. May return: X3D_NO_SUCH_FIELD, or X3D_NO_VALUE if the field holds no value. */
 uint8_t x3d_world_make_value(struct x3d_world *world, uint32_t node, uint16_t field);
 /* Makes the snapshot of the world, with `boot` as the boot number stored in it. */
 uint8_t x3d_world_make_snapshot(struct x3d_world *world, uint32_t boot);
@@ -607,7 +607,7 @@ uint8_t x3d_host_stored(struct x3d_host *host, uint32_t token, uint8_t answer);
 
 /* ---- a log in a file: the bytes of a host that goes on, stored
  *
- * The file has the form of that of `x3d_share host --log`: each can resume from the other's. Each
+ * The file is one of `x3d_share host --log`: each can resume from the other's. Each
  * handle locks its file, from x3d_log_make or x3d_log_open to x3d_log_close: a second one, of any
  * program, is refused with X3D_LOG_BUSY. The lock ends with the process too, however it ends; a
  * process that was forked off meanwhile shares it. Nothing else may write the file.
@@ -615,11 +615,10 @@ uint8_t x3d_host_stored(struct x3d_host *host, uint32_t token, uint8_t answer);
  * An append is on the disk (fdatasync) when the call returns X3D_DONE. If the process is killed or
  * the power is cut, all entries of earlier appends stay; of this append none, the first few or all
  * stay. The next x3d_log_open cuts what was not finished. If the disk is full or fails, the append
- * is in doubt: none of its entries, the first few or all are stored. Whoever alters the file's
- * bytes is mostly noticed (X3D_BAD_HEAD, X3D_LOG_DAMAGED), but it is not protected against one who
- * means to.
+ * is in doubt: none of its entries, the first few or all are stored. Altered bytes
+ * are mostly noticed (X3D_BAD_HEAD, X3D_LOG_DAMAGED), but not if someone means to hide the change.
  *
- * A path has `path_length` bytes, at most 4,095 and none of them 0, and need not end with a 0. A
+ * A path has `path_length` bytes, at most 4,095, none of them 0; no 0 need follow them. A
  * link is followed. The calls write no memory beyond what they are given, and may take as long as
  * the disk takes. */
 
@@ -645,8 +644,8 @@ void x3d_log_close(struct x3d_log *log);
 /* Appends the bytes of an append of a host (x3d_host_pending), durably; 0 bytes are no entries.
  * Only the next entries of the log are taken; whether a host wrote them is not tested
  * (x3d_host_resume does that). May return, in this order: X3D_IN_DOUBT if an earlier append was;
- * X3D_NOT_ENTRIES if the bytes are others than entries with the next numbers, with the scene's mark
- * before the first; X3D_LOG_FULL; X3D_MEMORY; or X3D_IN_DOUBT: the log has none of these
+ * X3D_NOT_ENTRIES unless the bytes are entries with the next numbers, after the scene's mark if
+ * the log has none yet; X3D_LOG_FULL; X3D_MEMORY; or X3D_IN_DOUBT: the log has none of these
  * entries, the first few or all. After that it takes no append: call x3d_host_stored with
  * X3D_APPEND_DOUBT, close the log, open it again, and resume the host from it. */
 uint8_t x3d_log_append(struct x3d_log *log, const uint8_t *bytes, size_t length);
@@ -655,7 +654,7 @@ uint8_t x3d_log_append(struct x3d_log *log, const uint8_t *bytes, size_t length)
  * the entries that are known to be stored. May return: X3D_ROOM if `room` bytes are not enough, or
  * X3D_MEMORY. */
 uint8_t x3d_log_read(const struct x3d_log *log, uint8_t *out, size_t room, size_t *wanted);
-/* Writes the number of entries: of the inputs that the log has. */
+/* Writes the number of entries, one for each input. */
 uint8_t x3d_log_count(const struct x3d_log *log, uint32_t *count);
 /* Writes the number of viewers that the log was made for. */
 uint8_t x3d_log_viewers(const struct x3d_log *log, uint32_t *count);

@@ -12,9 +12,9 @@ Examples:
 
 Status:
   0  all was done
-  1  the scene is refused
-  2  the words or the job are refused
-  3  all turns were used up
+  1  the scene, a text or a log is refused
+  2  the words, the job, an address or a key is refused, or a file doesn't fit them
+  3  all turns were used up, or the run is over
   4  a device failed
   5  memory ran out";
 
@@ -92,10 +92,10 @@ pub(crate) const HOST_HELP: &str = "A job of clocks is read from standard input;
 
 With --until N the host ends once N inputs are numbered, at least one viewer was heard, and each
 viewer that was heard has asked for the input after the last. Without it the host takes all its
-turns. With --keep N it drops the inputs that all those viewers have, except the last N, but none
-before K viewers were heard or 30 seconds have passed. A viewer that comes later joins by the
-snapshot of another viewer (`view --join`), or never catches up. A viewer that hasn't asked for 10
-seconds doesn't count until it asks again.
+turns. With --keep N it drops the inputs that all viewers that were heard have asked past, except
+the last N, but none before K viewers were heard or 30 seconds have passed. A viewer that comes
+later joins by the snapshot of another viewer (`view --join`), or never catches up. A viewer that
+hasn't asked for 10 seconds doesn't count until it asks again.
 A turn takes up to 64 datagrams. If nothing comes, the host rests between turns for 1 to 50
 milliseconds, so 1000000 turns last up to 14 hours.
 With --listen ADDRESS:PORT the host is on a network. A name is looked up once, as the host starts.
@@ -105,7 +105,7 @@ Without them whoever has the scene may take part. With either it speaks version 
 With --listen it knows 512 addresses. The 128 that it answered last stay; of the others the one that
 came first gives way.
 With --new-log FILE the host makes a log, and stores each input in it before it sends it. After the
-host has ended, even if it was killed, `host --log FILE` goes on with the same world: it skips the
+host has ended, even if it was killed, `host --log FILE` resumes the same world: it skips the
 clocks that the log already has. With a log the turns have no end. With --every MS the host makes a
 clock every MS milliseconds once the job's are over, at the time of the last input as it began and
 the time that has passed since, so the world stands still while no host runs.
@@ -182,7 +182,7 @@ pub(crate) const PART_HELP: &str =
 Nodes, fields and statements that the core doesn't have are left out, with all that names them, and
 so is what `check` refuses. The rest, which `check` calls good, is printed. A line for each thing
 that was left out is printed on standard error, and a last line with their number.
-With --list these lines alone are printed, on standard output.
+With --list only these lines are printed, on standard output.
 With --keep-names FILE the part is refused if no node in it has the name of a line of FILE after
 DEF. A second line has that name, and what it went with.
 
