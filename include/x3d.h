@@ -39,9 +39,9 @@ extern "C" {
  *   call on a closed handle returns X3D_CLOSED, or X3D_RANGE if a number is out of its range and
  *   the call tests that first.
  * A call returns X3D_MISUSE, and changes nothing, for: any other null pointer; a handle of another
- * kind; a copy of a closed handle, until another handle reuses its memory (not noticed if 1,024
- * others were open when the handle was opened: closing then frees that memory); a second call at
- * the same time that may change the handle. The library cannot check the other rules. A thread that
+ * kind; a copy of a closed handle, until another handle reuses its memory (not noticed for a handle
+ * that was opened beside 1,024 others: closing it frees its memory); a second call at the same time
+ * that may change the handle. The library cannot check the other rules. A thread that
  * calls it needs a stack of at least 512 KB. */
 
 /* Handles. Each holds a heap object (a world, a host, a viewer, a log, the part of a text), or
@@ -100,7 +100,7 @@ enum x3d_status {
   X3D_NOT_PIECE = 54,      /* the datagram is not a piece of a snapshot */
   X3D_NOT_WHOLE = 55,      /* pieces of the snapshot are missing */
   X3D_TOO_LARGE = 56,      /* the snapshot is too large to be sent in pieces */
-  X3D_NOT_A_LOG = 60,      /* an entry has bytes that no host of this scene wrote there */
+  X3D_NOT_A_LOG = 60,      /* an entry has bytes that no host of these viewers wrote there */
   X3D_LOG_GAP = 61,        /* an entry of the log is missing, or is in the wrong place */
   X3D_NOT_LASTING = 62,    /* the host was opened, not resumed: it has no log */
   X3D_NOT_AWAITED = 63,    /* no append with this number (token) is under way */
@@ -110,7 +110,7 @@ enum x3d_status {
   X3D_NOT_EMPTY = 73,      /* a log is to be made in a file that has other bytes */
   X3D_BAD_HEAD = 74,       /* the file does not begin as a log does, with its head */
   X3D_WRONG_SEATS = 75,    /* the log is of another number of viewers */
-  X3D_LOG_DAMAGED = 76,    /* a frame of the log was altered, or stands in the wrong place */
+  X3D_LOG_DAMAGED = 76,    /* a frame (entries stored together) was altered, or is misplaced */
   X3D_NOT_ENTRIES = 77,    /* the bytes are not the next entries of this log */
   X3D_LOG_FULL = 78,       /* the log would have more than 2^20 entries */
   X3D_IN_DOUBT = 79        /* an append failed, and may be stored: close the log, open it again */
@@ -605,9 +605,9 @@ uint8_t x3d_host_pending(struct x3d_host *host, uint32_t *token, uint8_t *out, s
  * return: X3D_RANGE if `answer` is no x3d_append, X3D_NOT_LASTING, or X3D_NOT_AWAITED. */
 uint8_t x3d_host_stored(struct x3d_host *host, uint32_t token, uint8_t answer);
 
-/* ---- a log in a file: the bytes of a host that goes on, stored
+/* ---- a log in a file: the stored bytes of a host that can be resumed
  *
- * The file is one of `x3d_share host --log`: each can resume from the other's. Each
+ * The file is as `x3d_share host --log` makes it: either resumes from the other's. Each
  * handle locks its file, from x3d_log_make or x3d_log_open to x3d_log_close: a second one, of any
  * program, is refused with X3D_LOG_BUSY. The lock ends with the process too, however it ends; a
  * process that was forked off meanwhile shares it. Nothing else may write the file.
@@ -641,7 +641,7 @@ uint8_t x3d_log_open(struct x3d_log *log, const uint8_t *path, size_t path_lengt
                      const uint8_t *text, size_t length, uint8_t viewers, uint64_t *place);
 /* Closes the log, and gives up its lock. Does nothing if the handle holds none. */
 void x3d_log_close(struct x3d_log *log);
-/* Appends the bytes of an append of a host (x3d_host_pending), durably; 0 bytes are no entries.
+/* Appends the bytes of an append of a host (x3d_host_pending), durably; 0 bytes append nothing.
  * Only the next entries of the log are taken; whether a host wrote them is not tested
  * (x3d_host_resume does that). May return, in this order: X3D_IN_DOUBT if an earlier append was;
  * X3D_NOT_ENTRIES unless the bytes are entries with the next numbers, after the scene's mark if

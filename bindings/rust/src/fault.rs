@@ -139,7 +139,7 @@ pub enum Fault {
     NotWhole,
     /// The snapshot is too large to be sent in pieces.
     TooLarge,
-    /// An entry of a log is none that a host of this scene wrote there.
+    /// An entry of a log has bytes that no host of these viewers wrote there.
     NotALog,
     /// An entry of a log is missing.
     LogGap,
@@ -159,7 +159,7 @@ pub enum Fault {
     BadHead,
     /// The log is of another number of viewers.
     WrongSeats,
-    /// A frame of the log was altered, or stands in the wrong place.
+    /// A frame of the log (entries stored together) was altered, or is misplaced.
     LogDamaged,
     /// The bytes are not the next entries of this log.
     NotEntries,
@@ -269,7 +269,7 @@ impl fmt::Display for Fault {
             Fault::NotPiece => "the datagram is no piece of a snapshot",
             Fault::NotWhole => "pieces of the snapshot are missing",
             Fault::TooLarge => "the snapshot is too large to be sent in pieces",
-            Fault::NotALog => "the log has an entry that no host of this scene wrote there",
+            Fault::NotALog => "the log has an entry that no host of these viewers wrote there",
             Fault::LogGap => "an entry of the log is missing",
             Fault::NotLasting => "the host was not resumed",
             Fault::NotAwaited => "no append with this token is under way",
