@@ -43,6 +43,13 @@ pub wakes : (nodes new : List Fields) (idles marks : List Idle) (node : ℕ) →
 wakes nodes new idles marks node are is same =
     subst (λ (ms : List Idle). AreIdle new ms) (sym is) (others IsIdle nodes idles node new no_time are never same)
 
+-- what is known of the nodes of a slice is known of the list
+pub around : (nodes new slice : List Fields) (idles marks : List Idle) (node : ℕ) → slice ≡ new →
+    ((before : List Fields) → AreIdle before idles → AreOthers node before slice → AreIdle slice marks) → AreIdle nodes idles → AreOthers node nodes new →
+    AreIdle new marks
+around nodes new slice idles marks node whole known are same =
+    subst (λ (fs : List Fields). AreIdle fs marks) whole (known nodes are (subst (λ (fs : List Fields). AreOthers node nodes fs) (sym whole) same))
+
 -- ---- a tick that does nothing
 
 pub none-of : (o : Option ℕ) → is_some o ≡ false → o ≡ None

@@ -1,10 +1,12 @@
 //! When waiting TimeSensors start next. Before that time, a tick does nothing.
 
-ghost use Rattle.std.specs.Prelude.{◌≡◌, ◌/◌, ◌≤ℤ◌, ◌<ℤ◌, ℕ, ℤ, IfSome, IsTrue, Some, false, slice_get, slice_set};
+ghost use Rattle.std.specs.Prelude.{◌≡◌, ◌/◌, ◌≤ℤ◌, ◌<ℤ◌, ℕ, ℤ, IfSome, IsTrue, List, Some, false, slice_get, slice_set};
 ghost use Rattle.x3d_values.specs.declared.fields.Fields.{Fields as FieldsView};
 ghost use Rattle.sensor_core.specs.Ticks.{is_started};
-ghost use Rattle.cascade_world.specs.Idle.{IsIdle, no_time, starts_at};
+ghost use Rattle.cascade_world.specs.Blocks.{AreOthers};
+ghost use Rattle.cascade_world.specs.Idle.{AreIdle, IsIdle, no_time, starts_at};
 
+use crate::watched::WIDTH;
 use sensor_core::TimeFields;
 use x3d_values::Fields;
 
@@ -103,6 +105,28 @@ pub(crate) fn is_among(idle: Idle, time: i64) -> bool
         → starts_at fields time ≡ false }
 {
     idle.from <= time && time < idle.until
+}
+
+/// Reports whether a node may start at some time, with its current fields.
+fn may_start(nodes: &[Fields], node: usize) -> bool
+    ensures { (fields : FieldsView) (t : ℤ) → result ≡ false
+        → slice_get nodes.now node ≡ Some fields → starts_at fields t ≡ false }
+{
+    match nodes.get(node) {
+        Some(fields) => TimeFields::from_fields(fields).is_some(),
+        None => false,
+    }
+}
+
+/// Forgets what is known of the block of a node that has changed, if the node may start now. If it
+/// doesn't, what was known still holds.
+pub(crate) fn wake_around(idles: &mut Vec<Idle>, nodes: &[Fields], node: usize)
+    ensures { (before : List FieldsView) → AreIdle before idles.old.items
+        → AreOthers node before nodes.now → AreIdle nodes.now idles.new.items }
+{
+    if may_start(nodes, node) {
+        wake(idles, node / WIDTH);
+    }
 }
 
 /// Forgets what is known of a block.

@@ -12,7 +12,7 @@ ghost use Rattle.cascade_world.specs.Blocks.{AreOthers};
 ghost use Rattle.cascade_world.specs.Idle.{starts_at};
 
 use crate::event::NodeEvent;
-use crate::idle::{Idle, idle_of, is_among, no_time, wake};
+use crate::idle::{Idle, idle_of, is_among, no_time, wake, wake_around};
 use crate::watched::WIDTH;
 use react_core::{ArrivedEvent, Outbox, SentEvent, copy_of, react};
 use scene_core::End;
@@ -202,8 +202,9 @@ impl State {
             time).replies)
             (slice_get self.old event.now.target.node) []) }
     {
-        wake(&mut self.idles, event.target.node as usize / WIDTH);
-        react_at(&mut self.items, alloc, event, time, out)
+        let reacted = react_at(&mut self.items, alloc, event, time, out);
+        wake_around(&mut self.idles, &self.items, event.target.node as usize);
+        reacted
     }
 
     /// Sets the field of a node that an event comes to and sends the value, if there is such a
@@ -224,8 +225,9 @@ impl State {
             ≡ option_map_or (λ fields. (keeps fields target.field value.now).replies)
             (slice_get self.old target.node) []) }
     {
-        wake(&mut self.idles, target.node as usize / WIDTH);
-        keep_at(&mut self.items, alloc, target, value, out)
+        let kept = keep_at(&mut self.items, alloc, target, value, out);
+        wake_around(&mut self.idles, &self.items, target.node as usize);
+        kept
     }
 
     /// Stores these values in a TimeSensor, if there is such a node.
@@ -261,8 +263,8 @@ impl State {
             ≡ option_map_or (λ fields. (pointed state.old fields pointer.now time).replies)
             (slice_get self.old node) [] }
     {
-        wake(&mut self.idles, node as usize / WIDTH);
         point_at(&mut self.items, node, state, pointer, time, out);
+        wake_around(&mut self.idles, &self.items, node as usize);
     }
 
     /// Makes room to remember when no node of a block starts. If room is made, nothing is known of

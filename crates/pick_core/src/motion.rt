@@ -5,10 +5,10 @@ ghost use Rattle.std.specs.Int.{int_div_euclid};
 ghost use Rattle.std.specs.Option.{option_copied};
 ghost use Rattle.pick_core.specs.Motion.{along_of, clamped, moved_at, moved, moved_box, box_of, sides_along};
 
-use crate::look::{Motion, Role, kind_of, motion_of};
+use crate::look::{Motion, motion_of};
 use pick_rules::Bounds;
 use scene_core::Scene;
-use x3d_values::{Fields, Vec3};
+use x3d_values::{Fields, NodeType, Vec3};
 
 /// The scale that changes nothing, in millionths.
 const ONE: i64 = 1_000_000;
@@ -19,14 +19,15 @@ const SHORT: u128 = 1 << 63;
 /// The largest absolute value of a coordinate, in millionths.
 const LIMIT: i128 = x3d_values::MAX_COORDINATE as i128;
 
-/// Converts a box from the coordinates inside a node to those around it.
-#[tactic(auto, unfolding(crate::specs::Motion::moved_at))]
+/// Converts a box from the coordinates inside a node to those around it. Only the type is looked
+/// up: a Shape's Box doesn't matter here.
+#[tactic(auto, unfolding(crate::specs::Looks::kind_of, crate::specs::Motion::moved_at))]
 pub(crate) fn move_box(scene: &Scene, state: &[Fields], node: u32, bounds: Bounds) -> Bounds
     ensures { result ≡ moved_at scene.now state.now node bounds }
 {
-    match kind_of(scene, node) {
-        Role::Transform => moved_box(motion_of(state.get(node as usize)), bounds),
-        Role::Group | Role::Switch | Role::Shape(_) | Role::Other => bounds,
+    match scene.type_at(node) {
+        Some(NodeType::Transform) => moved_box(motion_of(state.get(node as usize)), bounds),
+        _ => bounds,
     }
 }
 

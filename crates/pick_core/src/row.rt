@@ -4,13 +4,13 @@ ghost use Rattle.std.specs.Prelude.{◌≡◌, ◌≤◌, length, map, slice_get
 ghost use Rattle.x3d_values.specs.Ranges.{max_depth};
 ghost use Rattle.pick_core.specs.Sites as spec;
 
-use crate::look::{Role, choice_of, kind_of};
+use crate::look::choice_of;
 use crate::motion::box_round;
 use crate::trail::{Place, Trail, carry};
 use pick_rules::Bounds;
 use scene_core::Scene;
 use std::alloc::{AllocError, Global};
-use x3d_values::{Fields, Vec3};
+use x3d_values::{Fields, NodeType, Vec3};
 
 /// A Box of a size at the end of a trail, shown or not, with its corners in the world.
 #[derive(Drop)]
@@ -48,13 +48,13 @@ fn shows(which: i32, position: usize) -> bool
 }
 
 /// Reports whether a node shows its child at a position.
-#[tactic(auto, unfolding(crate::specs::Sites::allows))]
+#[tactic(auto, unfolding(crate::specs::Looks::kind_of, crate::specs::Sites::allows))]
 fn allows(scene: &Scene, state: &[Fields], node: u32, position: usize) -> bool
     ensures { result ≡ spec.allows scene.now state.now node position }
 {
-    match kind_of(scene, node) {
-        Role::Switch => shows(choice_of(state.get(node as usize)), position),
-        Role::Group | Role::Transform | Role::Shape(_) | Role::Other => true,
+    match scene.type_at(node) {
+        Some(NodeType::Switch) => shows(choice_of(state.get(node as usize)), position),
+        _ => true,
     }
 }
 
