@@ -1,5 +1,5 @@
 /* A shared X3D world inside another program: the library `x3d`. docs/EMBEDDING.md explains how to
- * use it. scripts/header compares each declaration below with its export in crates/embed_c/src.
+ * use it. scripts/header compares the declarations below with the sources.
  *
  * Words:
  * - A world is a scene after some inputs. Inputs are numbered from 1; each is a clock, which moves
@@ -39,9 +39,9 @@ extern "C" {
  *   call on a closed handle returns X3D_CLOSED, or X3D_RANGE if a number is out of its range and
  *   the call tests that first.
  * A call returns X3D_MISUSE, and changes nothing, for: any other null pointer; a handle of another
- * kind; a copy of a closed handle, until another handle reuses its memory (not noticed for a handle
- * that was opened beside 1,024 others: closing it frees its memory); a second call at the same time
- * that may change the handle. The library cannot check the other rules. A thread that
+ * kind; a copy of a closed handle, until another handle reuses its memory (not if 1,024 others were
+ * open when it was opened: closing it freed its memory); a second call at the same time that may
+ * change the handle. The library cannot check the other rules. A thread that
  * calls it needs a stack of at least 512 KB. */
 
 /* Handles. Each holds a heap object (a world, a host, a viewer, a log, the part of a text), or
