@@ -39,10 +39,10 @@ extern "C" {
  *   call on a closed handle returns X3D_CLOSED, or X3D_RANGE if a number is out of its range and
  *   the call tests that first.
  * A call returns X3D_MISUSE, and changes nothing, for: any other null pointer; a handle of another
- * kind; a copy of a closed handle, until another handle reuses its memory (not if 1,024 others were
- * open when it was opened: closing it freed its memory); a second call at the same time that may
- * change the handle. The library cannot check the other rules. A thread that
- * calls it needs a stack of at least 512 KB. */
+ * kind; a copy of a closed handle, until another handle reuses its memory; a second call at the
+ * same time that may change the handle. The library cannot check the other rules, nor copies of
+ * handles beyond the first 1,024 that are open at once. A thread that calls it needs a stack of at
+ * least 512 KB. */
 
 /* Handles. Each holds a heap object (a world, a host, a viewer, a log, the part of a text), or
  * nothing. */
@@ -607,7 +607,7 @@ uint8_t x3d_host_stored(struct x3d_host *host, uint32_t token, uint8_t answer);
 
 /* ---- a log in a file: the stored bytes of a host that can be resumed
  *
- * The file is as `x3d_share host --log` makes it: either resumes from the other's. Each
+ * The file is that of `x3d_share host --log`: either resumes from the other's. Each
  * handle locks its file, from x3d_log_make or x3d_log_open to x3d_log_close: a second one, of any
  * program, is refused with X3D_LOG_BUSY. The lock ends with the process too, however it ends; a
  * process that was forked off meanwhile shares it. Nothing else may write the file.
@@ -627,7 +627,7 @@ uint8_t x3d_host_stored(struct x3d_host *host, uint32_t token, uint8_t answer);
  * name at random, its run. May return, in this order: X3D_RANGE for another number of viewers,
  * X3D_NO_LOG if there is no such folder, X3D_LOG_BUSY, or X3D_NOT_EMPTY unless the file is empty or
  * the making of a log was cut off in it; X3D_DEVICE or X3D_MEMORY at any time. Then the handle is
- * empty, and a file with bytes is what it was. */
+ * empty, and after X3D_NOT_EMPTY the file is unchanged. */
 uint8_t x3d_log_make(struct x3d_log *log, const uint8_t *path, size_t path_length,
                      const uint8_t *text, size_t length, uint8_t viewers);
 /* Opens the log of a scene's text, of this number of viewers, or of any if it is 0. It replaces the
@@ -635,8 +635,8 @@ uint8_t x3d_log_make(struct x3d_log *log, const uint8_t *path, size_t path_lengt
  * not finished, are cut; `place` becomes their number. May return, in this order: X3D_NO_LOG,
  * X3D_LOG_BUSY, X3D_BAD_HEAD, X3D_WRONG_SCENE, X3D_WRONG_SEATS, X3D_LOG_DAMAGED (`place` becomes
  * the number of the damaged frame; the head is 0), or X3D_LOG_FULL if it has more entries than a
- * world; X3D_DEVICE or X3D_MEMORY at any time. Then the handle is empty, and of a file that is
- * refused for its bytes nothing is cut. */
+ * world; X3D_DEVICE or X3D_MEMORY at any time. Then the handle is empty. Nothing is cut, except at
+ * X3D_LOG_FULL, X3D_DEVICE or X3D_MEMORY. */
 uint8_t x3d_log_open(struct x3d_log *log, const uint8_t *path, size_t path_length,
                      const uint8_t *text, size_t length, uint8_t viewers, uint64_t *place);
 /* Closes the log, and gives up its lock. Does nothing if the handle holds none. */
