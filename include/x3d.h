@@ -40,9 +40,9 @@ extern "C" {
  *   the call tests that first.
  * A call returns X3D_MISUSE, and changes nothing, for: any other null pointer; a handle of another
  * kind; a copy of a closed handle, until another handle reuses its memory; a second call at the
- * same time that may change the handle. The library cannot check the other rules, nor copies of
- * handles beyond the first 1,024 that are open at once. A thread that calls it needs a stack of at
- * least 512 KB. */
+ * same time that may change the handle. The library cannot check the other rules, nor copies of a
+ * handle opened while 1,024 others were open. A thread that calls it needs a stack of at least 512
+ * KB. */
 
 /* Handles. Each holds a heap object (a world, a host, a viewer, a log, the part of a text), or
  * nothing. */
@@ -528,13 +528,13 @@ uint8_t x3d_host_open(struct x3d_host *host, const uint8_t *text, size_t length,
 /* Frees the host. Does nothing if the handle holds none. */
 void x3d_host_close(struct x3d_host *host);
 /* Numbers a clock at a time of 1 to 10^18 microseconds, above that of the last input, and writes
- * its number. May return, in this order: X3D_WORLD_FULL, X3D_TIME_NOT_LATER, X3D_TIME_RANGE, or
- * X3D_MEMORY. */
+ * its number. May return, in this order: X3D_WORLD_FULL, X3D_TIME_NOT_LATER, or X3D_TIME_RANGE;
+ * X3D_MEMORY at any time. */
 uint8_t x3d_host_clock(struct x3d_host *host, int64_t time, uint32_t *number);
 /* Takes a datagram of a viewer, and writes what the host did with it. May return, in this order:
  * one of X3D_BAD_PACKET, X3D_BAD_VERSION, X3D_BAD_TAG, X3D_BAD_RANGE and X3D_ZERO_RAY if the bytes
  * are not a datagram, X3D_WRONG_SCENE, X3D_BAD_VIEWER if there is no such viewer, or a status of
- * x3d_host_clock if an offer cannot be numbered. */
+ * x3d_host_clock if an offer cannot be numbered; X3D_MEMORY at any time. */
 uint8_t x3d_host_take(struct x3d_host *host, const uint8_t *bytes, size_t length,
                       struct x3d_reply *reply);
 /* Takes a datagram that came from viewer `who`, like x3d_host_take: an offer or an ask of another
@@ -635,18 +635,18 @@ uint8_t x3d_log_make(struct x3d_log *log, const uint8_t *path, size_t path_lengt
  * not finished, are cut; `place` becomes their number. May return, in this order: X3D_NO_LOG,
  * X3D_LOG_BUSY, X3D_BAD_HEAD, X3D_WRONG_SCENE, X3D_WRONG_SEATS, X3D_LOG_DAMAGED (`place` becomes
  * the number of the damaged frame; the head is 0), or X3D_LOG_FULL if it has more entries than a
- * world; X3D_DEVICE or X3D_MEMORY at any time. Then the handle is empty. Nothing is cut, except at
- * X3D_LOG_FULL, X3D_DEVICE or X3D_MEMORY. */
+ * world; X3D_DEVICE or X3D_MEMORY at any time. Then the handle is empty; only after X3D_LOG_FULL,
+ * X3D_DEVICE or X3D_MEMORY may bytes be cut. */
 uint8_t x3d_log_open(struct x3d_log *log, const uint8_t *path, size_t path_length,
                      const uint8_t *text, size_t length, uint8_t viewers, uint64_t *place);
 /* Closes the log, and gives up its lock. Does nothing if the handle holds none. */
 void x3d_log_close(struct x3d_log *log);
 /* Appends the bytes of an append of a host (x3d_host_pending), durably; 0 bytes append nothing.
  * Only the next entries of the log are taken; whether a host wrote them is not tested
- * (x3d_host_resume does that). May return, in this order: X3D_IN_DOUBT if an earlier append was;
- * X3D_NOT_ENTRIES unless the bytes are entries with the next numbers, after the scene's mark if
- * the log has none yet; X3D_LOG_FULL; X3D_MEMORY; or X3D_IN_DOUBT: the log has none of these
- * entries, the first few or all. After that it takes no append: call x3d_host_stored with
+ * (x3d_host_resume does that). May return X3D_MEMORY at any time, and, in this order: X3D_IN_DOUBT
+ * if an earlier append was; X3D_NOT_ENTRIES unless the bytes are entries with the next numbers,
+ * after the scene's mark if the log has none yet; X3D_LOG_FULL; or X3D_IN_DOUBT: the log has none
+ * of these entries, the first few or all. After that it takes no append: call x3d_host_stored with
  * X3D_APPEND_DOUBT, close the log, open it again, and resume the host from it. */
 uint8_t x3d_log_append(struct x3d_log *log, const uint8_t *bytes, size_t length);
 /* Copies the bytes of all entries (as x3d_host_resume takes them: the scene's mark and then the
