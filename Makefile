@@ -246,10 +246,12 @@ abi:
 site:
 	@scripts/site out/site
 
-# Measures the proved program beside C kernels of the same work; wants a C compiler.
+# Measures the proved program beside C kernels of the same work, and beside Castle Game Engine where it is installed;
+# wants a C compiler.
 bench:
 	@cd crates/x3d_share && $(RT) run -- --version > /dev/null
 	@bench/run
+	@bench/castle
 
 # Whether its time grows with the input: doubles each job three times, and fails where time grows by more than 2.3 times.
 growth:
