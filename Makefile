@@ -105,6 +105,12 @@ kill:
 	@cd crates/x3d_share && $(RT) run -- --version > /dev/null
 	@scripts/kill $(MINUTES)
 
+# Proves and builds the program, and sets an attacker and strangers on worlds with keys and without, for MINUTES. It
+# prints a seed, by which it is done again.
+hostile:
+	@cd crates/x3d_share && $(RT) run -- --version > /dev/null
+	@scripts/hostile $$((60 * $(MINUTES)))
+
 # Proves and builds the program, and gives it FILES that are no whole log, and logs after CUTS of the power.
 FILES ?= 10000
 CUTS ?= 200
@@ -123,7 +129,7 @@ fuzz:
 # a thousand changed texts, a shared world over UDP, how hosts and viewers end and what they tell, stacks
 # that are too small, and a world
 # with killed viewers and malicious datagrams;
-# hosts over a log that are killed; logs that are damaged, and power cuts;
+# hosts over a log that are killed; logs that are damaged, and power cuts; an attacker on worlds with keys, and strangers;
 # and jobs from C, Rust and Python, by the library of `make library`, or where it isn't built or is older than a
 # source by one that is built of the same sources without a proof.
 test: definitions
@@ -140,6 +146,7 @@ test: definitions
 	scripts/soak 1 --seed 48; \
 	scripts/kill 1; \
 	scripts/logs --seed 67; \
+	scripts/hostile 30 --seed 68; \
 	if $(call fresh,out/libx3d.so); then scripts/abi out/libx3d.so; scripts/bindings --quick; scripts/log_calls; \
 	elif ! command -v "$${CC:-cc}" > /dev/null; then echo "bindings: skipped: no C compiler"; \
 	else $(call fresh,out/quick/libx3d.so) || scripts/unproved_library out/quick; \

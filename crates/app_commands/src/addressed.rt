@@ -1,6 +1,7 @@
 //! A UDP socket at any address, as a port whose peers are numbers of a table of addresses.
 
 use app_program::ShareFault;
+use share_guards::Placed;
 use share_peers::Addresses;
 use share_turns::{Port, PortFault, RECEIVED};
 use std::alloc::Global;
@@ -9,11 +10,11 @@ use std::io::{Eprint, ErrorKind};
 use std::net::{Net, SocketAddr, UdpSocket};
 use std::time::Duration;
 
-/// A nonblocking UDP socket. A peer is the number of its address. An address that something was
-/// sent to keeps its number until something was sent to 128 others; one that nothing was sent to
-/// may lose it once 384 others came. Datagrams of another version than 2 are dropped. If it is
-/// verbose, it reports on standard error which address a number is of, once something is sent
-/// there. It doesn't record its traffic.
+/// A nonblocking UDP socket. A peer is the number of its address. An address that something else
+/// than a Welcome was sent to keeps its number until such a thing was sent to 128 others. Another
+/// one may lose its number once 384 others came, so that strangers push out strangers alone.
+/// Datagrams of another version than 2 are dropped. If it is verbose, it reports on standard error
+/// which address a number is of, once that is kept. It doesn't record its traffic.
 #[derive(Drop)]
 pub struct AddressedPort<R> {
     socket: UdpSocket,
@@ -56,6 +57,11 @@ fn is_lost(kind: ErrorKind) -> bool {
 
 /// The magic bytes and the version of what is received.
 const HEAD: &[u8] = b"X3DS\x02";
+
+/// The tag of a Welcome, and its place in a datagram.
+const WELCOME: u8 = 8;
+
+const TAG: usize = 5;
 
 impl<R: Eprint> AddressedPort<R> {
     ghost use Rattle.std.specs.Prelude.{◌≡◌, IfOk};
@@ -138,6 +144,16 @@ impl<R: Eprint> AddressedPort<R> {
     }
 }
 
+impl<R> Placed for AddressedPort<R> {
+    ghost use Rattle.share_peers.specs.Table.{address_at};
+
+    ghost place_of = { λ p peer. address_at p.addresses.addresses peer };
+
+    fn place(&self, peer: u16) -> Option<SocketAddr> {
+        self.addresses.address_of(peer)
+    }
+}
+
 impl<R: Eprint> Port for AddressedPort<R> {
     ghost failure_count = { λ p. p.failed };
 
@@ -145,7 +161,9 @@ impl<R: Eprint> Port for AddressedPort<R> {
         let Some(address) = self.addresses.address_of(to) else {
             return Ok(());
         };
-        self.keep(to, address);
+        if bytes.get(TAG) != Some(&WELCOME) {
+            self.keep(to, address);
+        }
         match self.socket.send_to(bytes, address) {
             Ok(_sent) => Ok(()),
             Err(error) if is_lost(error.kind()) => Ok(()),

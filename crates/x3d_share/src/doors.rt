@@ -6,6 +6,7 @@ use crate::places::{Place, may_be_reached, place_of};
 use app_commands::{AddressedPort, bound, number_of};
 use app_program::ShareFault;
 use app_words::HostOrder;
+use share_guards::GuardedPort;
 use share_keys::Keys;
 use share_sealed::KeyedPort;
 use share_turns::UdpPort;
@@ -59,6 +60,12 @@ pub trait HostSocket {
 
     /// Returns how many datagrams without a right seal came, up to 2^64 - 1.
     fn unsealed(&self) -> u64;
+
+    /// Returns how many datagrams of strangers, or beyond a viewer's limits, were dropped, up to
+    /// 2^64 - 1.
+    fn strange(&self) -> u64 {
+        0
+    }
 }
 
 impl HostSocket for UdpPort {
@@ -87,6 +94,20 @@ impl<P: HostSocket> HostSocket for KeyedPort<P> {
     }
 
     fn unsealed(&self) -> u64 {
+        self.dropped()
+    }
+}
+
+impl<P: HostSocket> HostSocket for GuardedPort<P> {
+    fn has_numbers(&self) -> bool {
+        self.port().has_numbers()
+    }
+
+    fn unsealed(&self) -> u64 {
+        self.port().unsealed()
+    }
+
+    fn strange(&self) -> u64 {
         self.dropped()
     }
 }

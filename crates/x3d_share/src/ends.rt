@@ -145,6 +145,24 @@ pub fn tell_unsealed<R: Eprint>(rt: &R, verbose: bool, unsealed: u64) {
     }
 }
 
+/// How many datagrams of strangers, or beyond a viewer's limits, came, in words.
+#[derive(Drop)]
+struct StrangeCame(u64);
+
+impl fmt::Display for StrangeCame {
+    fn fmt<W: fmt::Write>(&self, f: &mut fmt::Formatter<W>) -> fmt::Result {
+        write!(f, "{} datagrams of strangers or beyond limits dropped", self.0)
+    }
+}
+
+/// Reports how many datagrams of strangers, or beyond a viewer's limits, came, if `verbose` is set
+/// and some did.
+pub fn tell_strange<R: Eprint>(rt: &R, verbose: bool, strange: u64) {
+    if verbose && strange > 0 {
+        let _told = rt.eprintln(StrangeCame(strange));
+    }
+}
+
 /// Reports the result of a viewer's run, if `verbose` is set.
 pub fn tell_view_end<R: Eprint>(rt: &R, verbose: bool, inputs: u32, counts: Counts) {
     if verbose {

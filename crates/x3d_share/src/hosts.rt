@@ -6,8 +6,9 @@ ghost use Rattle.app_words.specs.Words.{HostInRange};
 use crate::defaults::{turns_of, viewers_of};
 use crate::doors::{Door, HostSocket, HostTexts, Socket, opened, way_of};
 use crate::end::End;
-use crate::ends::{tell_host_end, tell_port, tell_unsealed};
+use crate::ends::{tell_host_end, tell_port, tell_strange, tell_unsealed};
 use crate::files::drawn_run;
+use crate::key_files::drawn_bytes;
 use app_commands::{PatientPort, Peer, SharedJob, TellingPort, Watch, shared_job};
 use app_logs::{
     AppendFault, Beat, Entry, Head, Log, LogFault, LogPlan, LoggedFault, LoggedHost, MemoryLog,
@@ -15,6 +16,7 @@ use app_logs::{
 };
 use app_program::{RunFault, ShareFault, read_whole};
 use app_words::{HostOrder, Order};
+use share_guards::{GuardedPort, Placed};
 use share_keys::Keys;
 use share_sealed::KeyedPort;
 use share_turns::{HostPlan, Port, TurnFault};
@@ -119,6 +121,7 @@ fn run_over<L: Log, P: Port + HostSocket + Drop>(
     let done = log_run(hosting, &clocks, &plan, log, &mut port);
     let numbered = log.len().saturating_sub(before);
     tell_unsealed(rt, verbose, port.port().port().port().unsealed());
+    tell_strange(rt, verbose, port.port().port().port().strange());
     tell_host_end(rt, verbose, clocks.len(), numbered, port.port().counts());
     match done {
         Ok(()) => Ok(()),
@@ -126,8 +129,24 @@ fn run_over<L: Log, P: Port + HostSocket + Drop>(
     }
 }
 
-/// Runs a host over its log at a port, with its keys if it has some.
-fn run_sealed<L: Log, P: Port + HostSocket + Drop>(
+/// Runs a host over its log at a port that answers strangers with no more bytes than they sent.
+fn run_guarded<L: Log, P: Port + Placed + HostSocket + Drop>(
+    rt: &HostRuntime,
+    starting: Starting,
+    verbose: bool,
+    log: &mut L,
+    bound: P,
+) -> Result<(), End> {
+    let secret = drawn_bytes(rt)?;
+    let seed = drawn_bytes(rt)?;
+    match GuardedPort::new(rt.alloc(), bound, secret, seed) {
+        Ok(guarded) => run_over(rt, starting, verbose, log, guarded),
+        Err(_refused) => Err(End::from(ShareFault::Memory)),
+    }
+}
+
+/// Runs a host over its log at a port that strangers reach, with its keys if it has some.
+fn run_reached<L: Log, P: Port + Placed + HostSocket + Drop>(
     rt: &HostRuntime,
     starting: Starting,
     verbose: bool,
@@ -136,15 +155,16 @@ fn run_sealed<L: Log, P: Port + HostSocket + Drop>(
     keys: Option<Keys>,
 ) -> Result<(), End> {
     let Some(keys) = keys else {
-        return run_over(rt, starting, verbose, log, bound);
+        return run_guarded(rt, starting, verbose, log, bound);
     };
     match KeyedPort::new(rt.alloc(), bound, keys) {
-        Ok(keyed) => run_over(rt, starting, verbose, log, keyed),
+        Ok(keyed) => run_guarded(rt, starting, verbose, log, keyed),
         Err(_refused) => Err(End::from(ShareFault::Memory)),
     }
 }
 
-/// Runs a host over its log at a door.
+/// Runs a host over its log at a door. Only a host of this machine without keys serves all that
+/// come.
 pub fn run_at<L: Log>(
     rt: &HostRuntime,
     starting: Starting,
@@ -154,9 +174,10 @@ pub fn run_at<L: Log>(
 ) -> Result<(), End> {
     let Door { socket, keys } = door;
     tell_port(rt, verbose, socket.port());
-    match socket {
-        Socket::Local(bound) => run_sealed(rt, starting, verbose, log, bound, keys),
-        Socket::Addressed(bound) => run_sealed(rt, starting, verbose, log, bound, keys),
+    match (socket, keys) {
+        (Socket::Local(bound), None) => run_over(rt, starting, verbose, log, bound),
+        (Socket::Local(bound), keys) => run_reached(rt, starting, verbose, log, bound, keys),
+        (Socket::Addressed(bound), keys) => run_reached(rt, starting, verbose, log, bound, keys),
     }
 }
 

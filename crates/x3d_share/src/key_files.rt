@@ -55,11 +55,11 @@ pub fn viewer_key(rt: &HostRuntime, path: &str, who: u8) -> Result<Key, End> {
     }
 }
 
-/// Draws a key by the system's source of random bytes. Fails with `Device`.
-fn drawn_key<R: RandomSource>(rt: &R) -> Result<Key, End> {
+/// Draws bytes by the system's source of random ones. Fails with `Device`.
+pub fn drawn_bytes<R: RandomSource>(rt: &R) -> Result<[u8; 32], End> {
     let mut bytes = [0; 32];
     match rt.fill_bytes(&mut bytes) {
-        Ok(()) => Ok(Key { bytes }),
+        Ok(()) => Ok(bytes),
         Err(_) => Err(End::from(RunFault::Device)),
     }
 }
@@ -87,7 +87,9 @@ fn drawn_texts(rt: &HostRuntime, viewers: u8) -> Result<KeyTexts, End> {
         viewers: Vec::new(rt.alloc()),
     };
     for who in 0..viewers.min(64) {
-        let key = drawn_key(rt)?;
+        let key = Key {
+            bytes: drawn_bytes(rt)?,
+        };
         if push_line(&mut texts, rt.alloc(), who, &key).is_err() {
             return Err(End::from(OrderFault::Memory));
         }
