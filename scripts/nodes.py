@@ -45,12 +45,13 @@ class Nodes:
             process.communicate()
         self.folder.cleanup()
 
-    def start(self, words, lines, scene):
+    def start(self, words, lines, scene, inside=()):
+        """A process of the program, its words after others, such as those of a namespace."""
         given = Path(self.folder.name, f"{len(self.started)}")
         given.write_bytes("".join(f"{line}\n" for line in [*lines, "scene"]).encode() + scene)
         with open(given, "rb") as into:
             streams = {"stdin": into, "stdout": subprocess.PIPE, "stderr": subprocess.PIPE}
-            process = subprocess.Popen([PROGRAM, *map(str, words)], **streams)
+            process = subprocess.Popen([*inside, PROGRAM, *map(str, words)], **streams)
         self.started.append(process)
         return process
 
@@ -66,10 +67,10 @@ class Nodes:
     def view(self, who, *words, boot=1, lines=(), scene=SCENE):
         return self.start(["view", "--port", self.port, "--who", who, "--boot", boot, *words], lines, scene)
 
-    def listen(self, address, *words, lines=()):
+    def listen(self, address, *words, lines=(), inside=()):
         """A host at an address, with its socket bound."""
         words = ["host", "-v", "--listen", text_of(address, self.port), *words]
-        process = self.start(words, lines, SCENE)
+        process = self.start(words, lines, SCENE, inside)
         while (line := process.stderr.readline()) != f"bound to port {self.port}\n".encode():
             if not line:
                 stop(f"no host at {address}")
