@@ -1,0 +1,4 @@
+pub mod Guard
+pub mod Kinds
+pub mod Places
+pub mod Seats
