@@ -1,4 +1,5 @@
 pub mod Guard
 pub mod Kinds
+pub mod Laws
 pub mod Places
 pub mod Seats

@@ -1,5 +1,5 @@
 -- Addresses, and which of them are known at the number of a peer.
-use Rattle.std.specs.Prelude.{ℕ, ◌&&◌, ◌==◌, Bool, false, List, Option, None, Some, get_or, slice_set, nat_eq}
+use Rattle.std.specs.Prelude.{ℕ, ◌&&◌, ◌==◌, Bool, false, List, [], ◌∷◌, Option, None, Some, get_or, slice_set, nat_eq}
 use Rattle.std.specs.Cmp.Lexicographic.{pointwise}
 use Rattle.std.specs.Net.Addr.{ipv4_octets, ipv6_octets, ipv6_segments}
 use Rattle.std.specs.Net.Socket.{v4_ip, v4_port, v6_ip, v6_port, v6_flowinfo, v6_scope_id}
@@ -36,3 +36,7 @@ knows known peer address = is_at (known_at known peer) address
 
 abbrev pub noted : List (Option SocketAddr) → (peer : ℕ) → SocketAddr → List (Option SocketAddr)
 noted known peer address = slice_set known peer (Some address)
+
+-- a port of 127.0.0.1
+abbrev pub local_place : (port : ℕ) → SocketAddr
+local_place port = V4 (record { ip = record { octets = 127 ∷ 0 ∷ 0 ∷ 1 ∷ [] }; port = port })

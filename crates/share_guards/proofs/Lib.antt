@@ -1,0 +1,2 @@
+mod Unknown
+mod Strangers
