@@ -1,2 +1,3 @@
-mod Unknown
+mod Arriving
 mod Strangers
+mod Unknown

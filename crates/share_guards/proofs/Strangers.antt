@@ -1,19 +1,17 @@
 -- What an address that brought back no cookie gets, and that one which is known brought one.
-use Rattle.std.proofs.Common.{◌≡◌, ◌⊎◌, ◌&&◌, ◌||◌, ◌≤◌, ◌+◌, ℕ, Bool, true, false, List, [], ◌∷◌, Option, None, Some, length, get_or, slice_set, nat_eq, nat_le, nat_lt, cond, refl, sym, ap, subst, ◌∙◌, inl, inr, arith}
+use Rattle.std.proofs.Common.{◌≡◌, ◌⊎◌, ◌&&◌, ◌≤◌, ◌+◌, ℕ, Bool, true, false, List, [], ◌∷◌, Option, None, Some, length, nat_eq, nat_lt, cond, refl, sym, ap, subst, ◌∙◌, inl, inr, arith}
 use Rattle.std.proofs.lemmas.Bool.{cases_Bool, cases_eq, eqb-true, leb-true, ltb-false, ltb-true}
 use Rattle.std.proofs.lemmas.List.{get_or_past, get_or-set_same, get_or-set_other, length-set}
-use Rattle.std.specs.Prelude.{⊤}
 use Rattle.std.specs.Cmp.Lexicographic.{bytes_decides, pointwise}
 use Rattle.std.specs.declared.net.socket_addr.SocketAddr.{SocketAddr}
 use Rattle.std.specs.declared.net.socket_addr.SocketAddr.TheVariants.{V4, V6}
 use Rattle.byte_codec.proofs.Laws.{both}
 use Rattle.share_guards.specs.declared.guard.Asked.{Asked}
 use Rattle.share_guards.specs.declared.guard.Guard.{Guard}
-use Rattle.share_guards.specs.declared.kind.Kind.{Kind}
 use Rattle.share_guards.specs.declared.kind.Kind.TheVariants.{Greets, Asks, Offers, Strange}
-use Rattle.share_guards.specs.Guard.{after_came, after_came_at, after_sending, after_take, allows, answers, greeted, has_room, is_known_cookie, takes}
+use Rattle.share_guards.specs.Guard.{after_sending, after_take, allows, answers, greeted, has_room, is_known_cookie, takes}
 use Rattle.share_guards.specs.Places.{is_at, known_at, knows, noted, same_place}
-use Rattle.share_guards.specs.Laws.{AreWelcomes, Brings, Brought, Event, IsWelcome, KnownBroughtACookie, StrangersGetNoMore, after, after_all, all_in, all_out, bytes_in, bytes_out, came, is_place, sending, turned}
+use Rattle.share_guards.specs.Laws.{AreWelcomes, Brings, Brought, Event, IsWelcome, KnownBroughtACookie, StrangersGetNoMore, after, after_all, all_in, all_out, bytes_in, bytes_out, came, sending, turned}
 
 -- ---- addresses
 
@@ -88,12 +86,12 @@ is_at_noted known from peer q p e = elim (cases_eq peer from) [
   | inl same ↦ elim (cases_Bool (nat_lt from (length known))) [
     | inl low ↦
         let here : known_at (noted known from q) peer ≡ Some q =
-            ap (known_at (noted known from q)) same ∙ get_or-set_same known from (Some q) None (ltb-true _ _ low) in
+        ap (known_at (noted known from q)) same ∙ get_or-set_same known from (Some q) None (ltb-true _ _ low) in
         inr (sym same, same_is q p (sym (ap (λ (o : Option SocketAddr). is_at o p) here) ∙ e))
     | inr high ↦
         let past : known_at (noted known from q) peer ≡ None =
-            ap (known_at (noted known from q)) same
-            ∙ get_or_past (noted known from q) from None (omega (arith, length-set known from (Some q), ltb-false _ _ high)) in
+        ap (known_at (noted known from q)) same
+        ∙ get_or_past (noted known from q) from None (omega (arith, length-set known from (Some q), ltb-false _ _ high)) in
         let bad : false ≡ true = sym (ap (λ (o : Option SocketAddr). is_at o p) past) ∙ e in absurd cc
   ]
   | inr other ↦ inl (sym (ap (λ (o : Option SocketAddr). is_at o p) (get_or-set_other known from peer (Some q) None other)) ∙ e)

@@ -1,5 +1,5 @@
 -- What a datagram is to a guard.
-use Rattle.std.specs.Prelude.{ℕ, List, Option, None, Some, Result, Ok, Err}
+use Rattle.std.specs.Prelude.{Option, None, Some, Result, Ok, Err}
 use Rattle.share_session.specs.declared.fault.DatagramFault.{DatagramFault}
 use Rattle.share_session.specs.declared.message.Body2.{Body2}
 use Rattle.share_session.specs.declared.message.Body2.TheVariants as body

@@ -1,5 +1,5 @@
 -- What passes through a guarded port (our choice).
-use Rattle.std.specs.Prelude.{◌≡◌, ◌≤◌, ℕ, ⊤, ◌++◌, Bool, true, false, List, [], ◌∷◌, Option, None, Some, Result, Ok, Err, length, take, is_some, if◌then◌else◌}
+use Rattle.std.specs.Prelude.{◌≡◌, ◌≤◌, ℕ, ⊤, ◌++◌, Bool, true, false, List, [], ◌∷◌, Option, None, Some, Result, Ok, Err, length, take, is_some}
 use Rattle.std.specs.declared.net.socket_addr.SocketAddr.{SocketAddr}
 use Rattle.share_session.specs.Datagram.{datagram}
 use Rattle.share_session.specs.Decoding.{decoded}
@@ -8,7 +8,7 @@ use Rattle.share_session.specs.declared.message.Message2.TheVariants.{Welcome}
 use Rattle.share_turns.specs.Told.{Grows, max_received}
 use Rattle.share_turns.specs.declared.port.PortFault.{PortFault}
 use Rattle.share_turns.specs.declared.traffic.Traffic.{Traffic}
-use Rattle.share_turns.specs.declared.traffic.Traffic.TheVariants.{Nothing, Received, Sent}
+use Rattle.share_turns.specs.declared.traffic.Traffic.TheVariants.{Received, Sent}
 use Rattle.share_guards.specs.declared.guard.Guard.{Guard}
 use Rattle.share_guards.specs.declared.port.Coming.{Coming}
 use Rattle.share_guards.specs.declared.port.Coming.TheVariants as coming

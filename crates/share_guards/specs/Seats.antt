@@ -1,6 +1,6 @@
 -- How much of each seat is taken (our choice). Of a seat, which is a viewer's number below 64, at
 -- most 8 datagrams are taken in one turn, and at most 64 offers in one second.
-use Rattle.std.specs.Prelude.{ℕ, ◌+◌, ◌^◌, ◌&&◌, ◌||◌, not, min, Bool, List, get_or, slice_set, replicate, nat_lt, if◌then◌else◌}
+use Rattle.std.specs.Prelude.{ℕ, ◌+◌, ◌&&◌, ◌||◌, not, min, Bool, List, get_or, slice_set, replicate, nat_lt, if◌then◌else◌}
 use Rattle.share_guards.specs.declared.seats.Seats.{Seats}
 
 abbrev pub none_taken : List ℕ

@@ -119,13 +119,20 @@ impl Guard {
         cookie_at(&self.secrets, place, who)
     }
 
+    /// Forgets the last Hello: it is answered, or needn't be counted.
+    fn forget(&mut self)
+        ensures { self.new ≡ record self.old { asked = None } }
+    {
+        self.asked = None;
+    }
+
     /// Takes a Hello of a peer at an address.
     fn greet(&mut self, peer: u16, place: &SocketAddr, who: u8, cookie: &Cookie, count: usize)
         ensures { self.new ≡ spec.greeted self.old peer place.now who cookie.now count }
     {
         if is_known_cookie(&self.secrets, cookie, place, who) {
             self.known.note(peer, place);
-            self.asked = None;
+            self.forget();
             return;
         }
         if self.known.knows(peer, place) {
@@ -162,13 +169,7 @@ impl Guard {
 
     /// Takes a datagram of this kind, of `count` bytes, that came from a peer, which has this
     /// address now. Returns whether it is handed on.
-    pub fn came(
-        &mut self,
-        peer: u16,
-        place: &Option<SocketAddr>,
-        kind: &Kind,
-        count: usize,
-    ) -> bool
+    pub fn came(&mut self, peer: u16, place: &Option<SocketAddr>, kind: &Kind, count: usize) -> bool
         ensures value { result ≡ spec.hands_on self.old peer place.now kind.now }
         ensures new { self.new ≡ spec.after_came self.old peer place.now kind.now count }
     {
@@ -204,7 +205,7 @@ impl Guard {
             return true;
         }
         if is_welcome && has_room(&self.asked, place, count) {
-            self.asked = None;
+            self.forget();
             return true;
         }
         false

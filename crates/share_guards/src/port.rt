@@ -149,7 +149,7 @@ impl<P: Placed> GuardedPort<P> {
 }
 
 impl<P: Port + Placed> GuardedPort<P> {
-    ghost use Rattle.std.specs.Prelude.{◌≡◌, ◌≤◌, ◌<◌, ◌+◌, ◌×◌, ◌∷◌, [], IfOk, IfSome, OnErr, OnOk};
+    ghost use Rattle.std.specs.Prelude.{◌≡◌, ◌≤◌, ◌<◌, ◌+◌, ◌∷◌, [], IfOk, IfSome, OnErr, OnOk};
     ghost use Rattle.std.specs.Prelude.{Ok, Some, length, true};
     ghost use Rattle.share_turns.specs.Told.{Grows, counted, max_received};
     ghost use Rattle.share_turns.specs.declared.traffic.Traffic.TheVariants.{Sent};
@@ -159,7 +159,7 @@ impl<P: Port + Placed> GuardedPort<P> {
     /// Receives a datagram from below.
     fn receive_one(&mut self, into: &mut [u8; RECEIVED]) -> Result<Coming, PortFault>
         ensures guard { spec.ComesOne self.old.guard self.new.guard
-            (λ peer. P.place_of self.new.port peer)
+            (P.place_of self.new.port)
             (P.told self.old.port) (P.told self.new.port) into.new result }
         ensures most { IfOk result (λ came. spec.MostBytes came) }
         ensures failures { self.new.failed ≡ counted result self.old.failed }
@@ -180,7 +180,7 @@ impl<P: Port + Placed> GuardedPort<P> {
         left: u32,
     ) -> Result<Option<(u16, usize)>, PortFault>
         ensures guard { spec.Comes self.old.guard self.new.guard
-            (λ peer. P.place_of self.new.port peer)
+            (P.place_of self.new.port)
             (P.told self.old.port) (P.told self.new.port) into.new result }
         ensures most { IfOk result (λ came. IfSome came (λ r. r.1 ≤ max_received)) }
         ensures failures { self.new.failed ≡ counted result self.old.failed }
@@ -293,7 +293,7 @@ impl<P: Port + Placed> Port for GuardedPort<P> {
         ensures time { P.rested self.new.port ≡ P.rested self.old.port }
         // What is handed on came below, and the guard took it.
         ensures guard { spec.Comes self.old.guard self.new.guard
-            (λ peer. P.place_of self.new.port peer)
+            (P.place_of self.new.port)
             (P.told self.old.port) (P.told self.new.port) into.new result }
     {
         self.receive_next(into, MOST_DROPPED)
