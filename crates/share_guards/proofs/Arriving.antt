@@ -1,5 +1,5 @@
 -- What comes through a guarded port.
-use Rattle.std.proofs.Common.{◌≡◌, ◌++◌, ℕ, zero, suc, Bool, true, false, List, [], ◌∷◌, Option, None, Some, Result, Ok, Err, length, take, refl, sym, ap, subst, ◌∙◌}
+use Rattle.std.proofs.Common.{◌≡◌, ◌++◌, ℕ, zero, suc, Bool, true, false, List, [], ◌∷◌, Option, None, Some, Result, Ok, Err, length, map, take, refl, sym, ap, subst, ◌∙◌}
 use Rattle.std.proofs.lemmas.List.{append_assoc}
 use Rattle.std.specs.declared.net.socket_addr.SocketAddr.{SocketAddr}
 use Rattle.share_session.specs.Decoding.{decoded}
@@ -14,7 +14,7 @@ use Rattle.share_guards.specs.declared.port.Coming.{Coming}
 use Rattle.share_guards.specs.declared.port.Coming.TheVariants as coming
 use Rattle.share_guards.specs.Guard.{after_came, after_take, dropping, hands_on, takes}
 use Rattle.share_guards.specs.Kinds.{kind_in}
-use Rattle.share_guards.specs.Passing.{Comes, ComesOne, DropsOne, Hands, OnlyDrops, coming_at, coming_if, with_dropped}
+use Rattle.share_guards.specs.Passing.{Comes, ComesOne, DropsOne, Hands, OnlyDrops, coming_at, coming_if, drops}
 
 front : (n : ℕ) (xs : List ℕ) → take (length (take n xs)) xs ≡ take n xs
 front zero xs = refl
@@ -45,10 +45,10 @@ module _ (g h : Guard) (peer count : ℕ) (places : ℕ → Option SocketAddr) (
   came_if : (t : Bool) → hands_on g peer (places peer) kind ≡ t → Grows a b (Received (record { peer = peer; bytes = bytes }) ∷ [])
       → h ≡ after_came g peer (places peer) kind (length bytes) → ComesOne g h places a b into (Ok (coming_if t peer (length bytes)))
   came_if true is grows new =
-      let here : Hands g h peer (places peer) bytes a b = record { passed = []; dropped = g.dropped; told = grows; taken = is; new_is = new } in
+      let here : Hands g h peer (places peer) bytes a b = record { dropped = []; told = grows; taken = is; new_is = new } in
       subst (λ (l : List ℕ). Hands g h peer (places peer) l a b) (sym (front count into)) here
   came_if false is grows new =
-      (Received (record { peer = peer; bytes = bytes }) ∷ [], grows, ((dropping g).dropped, new ∙ unhanded g peer (places peer) kind (length bytes) is))
+      (record { peer = peer; bytes = bytes }, grows, new ∙ unhanded g peer (places peer) kind (length bytes) is)
 
   pub came_one : (result : Coming) → Grows a b (Received (record { peer = peer; bytes = bytes }) ∷ [])
       → result ≡ coming_at g peer (places peer) bytes → h ≡ after_came g peer (places peer) kind (length bytes)
@@ -64,28 +64,24 @@ grows_then (Some os) None c xs ys h k = absurd h
 grows_then (Some os) (Some bs) None xs ys h k = absurd k
 grows_then (Some os) (Some bs) (Some cs) xs ys h k = k ∙ ap (λ (zs : List Traffic). zs ++ ys) h ∙ append_assoc os xs ys
 
-only_then : (g h k : Guard) → OnlyDrops g h → OnlyDrops h k → OnlyDrops g k
-only_then g h k x y = (y.0, y.1 ∙ ap (λ (z : Guard). with_dropped z y.0) x.1)
-
-grown : (a c : Option (List Traffic)) (xs ys : List Traffic) (zs : List Traffic) → Grows a c (xs ++ (ys ++ zs)) → Grows a c ((xs ++ ys) ++ zs)
-grown a c xs ys zs e = subst (λ (l : List Traffic). Grows a c l) (sym (append_assoc xs ys zs)) e
+only_then : (g h k : Guard) → h ≡ dropping g → OnlyDrops h k → OnlyDrops g k
+only_then g h k e y = (suc y.0, y.1 ∙ ap (drops y.0) e)
 
 hands_then : (g h k : Guard) (peer : ℕ) (place : Option SocketAddr) (bytes : List ℕ) (a b c : Option (List Traffic)) → DropsOne g h a b → Hands h k peer place bytes b c → Hands g k peer place bytes a c
 hands_then g h k peer place bytes a b c x y =
-    let same : with_dropped h y.dropped ≡ with_dropped g y.dropped = ap (λ (z : Guard). with_dropped z y.dropped) x.2.1 in
+    let same : drops (length y.dropped) h ≡ drops (suc (length y.dropped)) g = ap (drops (length y.dropped)) x.2 in
     let last : List Traffic = Received (record { peer = peer; bytes = bytes }) ∷ [] in record {
-      passed = x.0 ++ y.passed;
-      dropped = y.dropped;
-      told = grown a c x.0 y.passed last (grows_then a b c x.0 (y.passed ++ last) x.1 y.told);
+      dropped = x.0 ∷ y.dropped;
+      told = grows_then a b c (Received x.0 ∷ []) (map Received y.dropped ++ last) x.1 y.told;
       taken = subst (λ (z : Guard). hands_on z peer place (kind_in (decoded bytes)) ≡ true) same y.taken;
       new_is = y.new_is ∙ ap (λ (z : Guard). after_came z peer place (kind_in (decoded bytes)) (length bytes)) same;
     }
 
 comes_then : (g h k : Guard) (places : ℕ → Option SocketAddr) (a b c : Option (List Traffic)) (into : List ℕ) (result : Result (Option (ℕ × ℕ)) PortFault)
     → DropsOne g h a b → Comes h k places b c into result → Comes g k places a c into result
-comes_then g h k places a b c into (Ok None) x y = only_then g h k (x.2.0, x.2.1) y
+comes_then g h k places a b c into (Ok None) x y = only_then g h k x.2 y
 comes_then g h k places a b c into (Ok (Some r)) x y = hands_then g h k r.0 (places r.0) (take r.1 into) a b c x y
-comes_then g h k places a b c into (Err fault) x y = only_then g h k (x.2.0, x.2.1) y
+comes_then g h k places a b c into (Err fault) x y = only_then g h k x.2 y
 
 pub dropped_then : (g h k : Guard) (old_places places : ℕ → Option SocketAddr) (a b c : Option (List Traffic)) (from into : List ℕ) (one : Result Coming PortFault) (came : Coming) (result : Result (Option (ℕ × ℕ)) PortFault)
     → one ≡ Ok came → came ≡ coming.Dropped → ComesOne g h old_places a b from one → Comes h k places b c into result → Comes g k places a c into result

@@ -1,5 +1,5 @@
 -- What passes through a guarded port (our choice).
-use Rattle.std.specs.Prelude.{◌≡◌, ◌≤◌, ℕ, ⊤, ◌++◌, Bool, true, false, List, [], ◌∷◌, Option, None, Some, Result, Ok, Err, length, take, is_some}
+use Rattle.std.specs.Prelude.{◌≡◌, ◌≤◌, ℕ, zero, suc, map, ⊤, ◌++◌, Bool, true, false, List, [], ◌∷◌, Option, None, Some, Result, Ok, Err, length, take, is_some}
 use Rattle.std.specs.declared.net.socket_addr.SocketAddr.{SocketAddr}
 use Rattle.share_session.specs.Datagram.{datagram}
 use Rattle.share_session.specs.Decoding.{decoded}
@@ -7,12 +7,13 @@ use Rattle.share_session.specs.declared.message.Welcome.{Welcome as AWelcome}
 use Rattle.share_session.specs.declared.message.Message2.TheVariants.{Welcome}
 use Rattle.share_turns.specs.Told.{Grows, max_received}
 use Rattle.share_turns.specs.declared.port.PortFault.{PortFault}
+use Rattle.share_turns.specs.declared.traffic.Datagram.{Datagram}
 use Rattle.share_turns.specs.declared.traffic.Traffic.{Traffic}
 use Rattle.share_turns.specs.declared.traffic.Traffic.TheVariants.{Received, Sent}
 use Rattle.share_guards.specs.declared.guard.Guard.{Guard}
 use Rattle.share_guards.specs.declared.port.Coming.{Coming}
 use Rattle.share_guards.specs.declared.port.Coming.TheVariants as coming
-use Rattle.share_guards.specs.Guard.{after_came, after_sending, allows, cookie_at, hands_on}
+use Rattle.share_guards.specs.Guard.{after_came, after_sending, allows, cookie_at, dropping, hands_on}
 use Rattle.share_guards.specs.Kinds.{kind_in, welcome_in}
 
 -- it records nothing
@@ -35,40 +36,43 @@ MostBytes coming.Nothing = ⊤
 MostBytes coming.Dropped = ⊤
 MostBytes (coming.Handed peer count) = count ≤ max_received
 
-abbrev pub with_dropped : Guard → ℕ → Guard
-with_dropped g n = record g { dropped = n }
+-- so many datagrams were dropped, one after another
+abbrev pub drops : (count : ℕ) → Guard → Guard
+drops zero g = g
+drops (suc n) g = drops n (dropping g)
 
--- nothing is taken: only the number of dropped datagrams may differ
+-- nothing is handed on: some datagrams were dropped, or none
 abbrev pub OnlyDrops : (old new : Guard) → Type 0
-OnlyDrops old new = (dropped : ℕ) × (new ≡ with_dropped old dropped)
+OnlyDrops old new = (count : ℕ) × (new ≡ drops count old)
 
 -- These bytes came below from a peer, which has this address, after others that were dropped, and
 -- the guard takes them.
 pub record Hands (old new : Guard) (peer : ℕ) (place : Option SocketAddr) (bytes : List ℕ)
     (told_before told_after : Option (List Traffic)) : Type 0 where
-  pub passed : List Traffic
-  pub dropped : ℕ
+  pub dropped : List Datagram
   pub told : Grows told_before told_after
-      (passed ++ Received (record { peer = peer; bytes = bytes }) ∷ [])
-  pub taken : hands_on (with_dropped old dropped) peer place (kind_in (decoded bytes)) ≡ true
+      (map Received dropped ++ Received (record { peer = peer; bytes = bytes }) ∷ [])
+  pub taken :
+      hands_on (drops (length dropped) old) peer place (kind_in (decoded bytes)) ≡ true
   pub new_is : new
-      ≡ after_came (with_dropped old dropped) peer place (kind_in (decoded bytes)) (length bytes)
+      ≡ after_came (drops (length dropped) old) peer place (kind_in (decoded bytes))
+      (length bytes)
 
 -- a datagram came below, and was dropped
 abbrev pub DropsOne : (old new : Guard) → (told_before told_after : Option (List Traffic)) → Type 0
 DropsOne old new told_before told_after =
-    (passed : List Traffic) × Grows told_before told_after passed × OnlyDrops old new
+    (d : Datagram) × Grows told_before told_after (Received d ∷ []) × (new ≡ dropping old)
 
 -- what came of one receive below
 abbrev pub ComesOne : (old new : Guard) → (places : ℕ → Option SocketAddr)
     → (told_before told_after : Option (List Traffic)) → (into : List ℕ)
     → Result Coming PortFault → Type 0
-ComesOne old new places told_before told_after into (Ok coming.Nothing) = OnlyDrops old new
+ComesOne old new places told_before told_after into (Ok coming.Nothing) = new ≡ old
 ComesOne old new places told_before told_after into (Ok coming.Dropped) =
     DropsOne old new told_before told_after
 ComesOne old new places told_before told_after into (Ok (coming.Handed peer count)) =
     Hands old new peer (places peer) (take count into) told_before told_after
-ComesOne old new places told_before told_after into (Err fault) = OnlyDrops old new
+ComesOne old new places told_before told_after into (Err fault) = new ≡ old
 
 -- what is handed on, if anything is: a number of bytes at the front of what was received
 abbrev pub Comes : (old new : Guard) → (places : ℕ → Option SocketAddr)

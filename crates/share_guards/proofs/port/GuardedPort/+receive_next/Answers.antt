@@ -11,4 +11,4 @@ returns-in-Ok-Dropped-clause-guard g t c =
     c.in-Ok-Dropped.is c.in-Ok-Dropped.field-0-is c.receive_one.ensures.guard c.receive_next.ensures.guard
 
 pub returns-then-left-eq0-clause-guard : goal.returns-then-left-eq0-clause-guard
-returns-then-left-eq0-clause-guard g t c = (c.args.self.now.guard.dropped, refl)
+returns-then-left-eq0-clause-guard g t c = (0, refl)

@@ -1,4 +1,4 @@
-use Rattle.std.proofs.Common.{rules, refl}
+use Rattle.std.proofs.Common.{rules}
 use Rattle.share_guards.proofs.Arriving.{came_one}
 use Rattle.share_guards.proofs.port.GuardedPort.receive_one.Goals as goal
 
@@ -8,9 +8,3 @@ returns-in-Ok-Some-clause-guard g c =
     came_one c.args.self.now.guard c.take.new.self.guard c.in-Ok-Some.from c.in-Ok-Some.count (g.P.Placed.place_of c.take.new.self.port)
     (g.P.Port.told c.args.self.now.port) (g.P.Port.told c.take.new.self.port) c.receive.new.into c.take.result
     (search rules) (search rules) (search rules)
-
-pub returns-in-Ok-None-clause-guard : goal.returns-in-Ok-None-clause-guard
-returns-in-Ok-None-clause-guard g c = (c.args.self.now.guard.dropped, refl)
-
-pub returns-in-Err-clause-guard : goal.returns-in-Err-clause-guard
-returns-in-Err-clause-guard g c = (c.args.self.now.guard.dropped, search rules)
