@@ -10,8 +10,8 @@ use Rattle.share_turns.specs.declared.traffic.Traffic.TheVariants.{Received}
 use Rattle.share_guards.specs.declared.guard.Guard.{Guard}
 use Rattle.share_guards.specs.declared.kind.Kind.{Kind}
 use Rattle.share_guards.specs.declared.kind.Kind.TheVariants.{Greets, Asks, Offers, Strange}
-use Rattle.share_guards.specs.declared.port.Coming.{Coming}
-use Rattle.share_guards.specs.declared.port.Coming.TheVariants as coming
+use Rattle.share_guards.specs.declared.coming.Coming.{Coming}
+use Rattle.share_guards.specs.declared.coming.Coming.TheVariants as coming
 use Rattle.share_guards.specs.Guard.{after_came, after_take, dropping, hands_on, takes}
 use Rattle.share_guards.specs.Kinds.{kind_in}
 use Rattle.share_guards.specs.Passing.{Comes, ComesOne, DropsOne, Hands, OnlyDrops, coming_at, coming_if, drops}

@@ -11,8 +11,8 @@ use Rattle.share_turns.specs.declared.traffic.Datagram.{Datagram}
 use Rattle.share_turns.specs.declared.traffic.Traffic.{Traffic}
 use Rattle.share_turns.specs.declared.traffic.Traffic.TheVariants.{Received, Sent}
 use Rattle.share_guards.specs.declared.guard.Guard.{Guard}
-use Rattle.share_guards.specs.declared.port.Coming.{Coming}
-use Rattle.share_guards.specs.declared.port.Coming.TheVariants as coming
+use Rattle.share_guards.specs.declared.coming.Coming.{Coming}
+use Rattle.share_guards.specs.declared.coming.Coming.TheVariants as coming
 use Rattle.share_guards.specs.Guard.{after_came, after_sending, allows, cookie_at, dropping, hands_on}
 use Rattle.share_guards.specs.Kinds.{kind_in, welcome_in}
 

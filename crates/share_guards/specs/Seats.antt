@@ -16,11 +16,14 @@ datagrams_of s who = get_or s.datagrams who 0
 abbrev pub offers_of : Seats → (who : ℕ) → ℕ
 offers_of s who = get_or s.offers who 0
 
--- one more datagram of a seat is within the limits, as is one more offer
+-- a datagram is no offer, or fewer than 64 offers were taken
+abbrev pub is_within : (is_offer : Bool) → (count : ℕ) → Bool
+is_within is_offer count = not is_offer || nat_lt count 64
+
+-- one more datagram of a seat is within the limits
 abbrev pub has_room : Seats → (who : ℕ) → (is_offer : Bool) → Bool
 has_room s who is_offer =
-    nat_lt who 64 && (nat_lt (datagrams_of s who) 8
-    && (not is_offer || nat_lt (offers_of s who) 64))
+    nat_lt who 64 && (nat_lt (datagrams_of s who) 8 && is_within is_offer (offers_of s who))
 
 -- one more of a seat, up to what a byte is for
 abbrev pub one_more_of : List ℕ → (who : ℕ) → List ℕ

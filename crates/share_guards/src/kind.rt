@@ -60,7 +60,7 @@ pub fn kind_of(bytes: &[u8]) -> Kind
 }
 
 /// Returns the Welcome of a datagram from a host, if it is one.
-pub fn welcome_of(bytes: &[u8]) -> Option<Welcome>
+pub(crate) fn welcome_of(bytes: &[u8]) -> Option<Welcome>
     ensures { result ≡ spec.welcome_in (decoded bytes.now) }
 {
     match decode(bytes) {

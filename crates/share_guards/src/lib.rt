@@ -2,13 +2,15 @@
 //!
 //! | Modules | Content |
 //! |---|---|
-//! | `port` | the port, over one that knows the addresses of its peers |
+//! | `port`, `coming`, `welcoming` | the port, over one that knows the addresses of its peers |
 //! | `placed` | what such a port is |
-//! | `guard`, `known`, `seats` | which addresses are answered, and how much is taken of each seat |
+//! | `guard`, `known` | which addresses are answered, and which datagrams are taken |
+//! | `seats` | how much is taken of each seat |
 //! | `kind` | what a datagram is to a guard |
 //! | `laws` | what holds of guards |
 #![tactic(auto)]
 
+mod coming;
 mod guard;
 mod kind;
 mod known;
@@ -16,13 +18,13 @@ mod laws;
 mod placed;
 mod port;
 mod seats;
+mod welcoming;
 
-pub use guard::{Asked, Guard};
-pub use kind::{Kind, kind_of, welcome_of};
-pub use known::Known;
+pub use guard::Guard;
+pub use kind::{Kind, kind_of};
 pub use laws::{known_brought_a_cookie, strangers_get_no_more};
 pub use placed::Placed;
-pub use port::{Coming, GuardedPort};
+pub use port::GuardedPort;
 pub use seats::{MOST_DATAGRAMS, MOST_OFFERS, Seats};
 
 #[cfg(test)]

@@ -1,16 +1,18 @@
 //! A host's port that answers strangers with no more bytes than they sent.
 
-ghost use Rattle.std.specs.Prelude.{◌≡◌, ◌≤◌, IfOk, length};
+ghost use Rattle.std.specs.Prelude.{◌≡◌, IfOk};
 ghost use Rattle.share_cookies.specs.Secrets.{begun};
 ghost use Rattle.share_guards.specs.Laws.{IsNew};
 ghost use Rattle.share_guards.specs.Passing as spec;
 ghost use Rattle.share_guards.specs.Seats.{no_seats};
 
+use crate::coming::Coming;
 use crate::guard::Guard;
 use crate::kind::{kind_of, welcome_of};
 use crate::placed::Placed;
-use share_cookies::{Cookie, Secret};
-use share_session::{Message2, Packet2, Welcome, encode};
+use crate::welcoming::{packet_of, welcome_at};
+use share_cookies::Secret;
+use share_session::Welcome;
 use share_turns::{Port, PortFault, RECEIVED};
 use std::alloc::{AllocError, Global};
 use std::net::SocketAddr;
@@ -18,17 +20,6 @@ use std::net::SocketAddr;
 /// How many dropped datagrams one receive takes at most. So a flood of them doesn't keep a turn
 /// from its end.
 const MOST_DROPPED: u32 = 64;
-
-/// What came of a receive.
-#[derive(Clone, Copy)]
-pub enum Coming {
-    /// Nothing arrived.
-    Nothing,
-    /// A datagram that was dropped.
-    Dropped,
-    /// From this peer, a datagram of this number of bytes.
-    Handed(u16, usize),
-}
 
 /// The port of a host, over a port that knows the addresses of its peers. An address is known once
 /// a Hello brought back the cookie that a Welcome to it had. From known addresses it hands on asks
@@ -43,32 +34,6 @@ pub struct GuardedPort<P> {
     port: P,
     guard: Guard,
     failed: u64,
-}
-
-fn with_cookie(welcome: &Welcome, cookie: &Cookie) -> Welcome
-    ensures { result ≡ spec.with_cookie welcome.now cookie.now }
-{
-    let mut made = *welcome;
-    let cookie = *cookie;
-    made.cookie = cookie;
-    made
-}
-
-/// Returns a Welcome with the cookie of an address.
-fn welcome_at(guard: &Guard, place: &Option<SocketAddr>, welcome: &Welcome) -> Welcome
-    ensures { result ≡ spec.welcome_at guard.now place.now welcome.now }
-{
-    match place {
-        Some(place) => with_cookie(welcome, &guard.cookie(place, welcome.who.get())),
-        None => *welcome,
-    }
-}
-
-fn packet_of(welcome: &Welcome) -> Packet2
-    ensures text { result.items ≡ spec.welcome_text welcome.now }
-    ensures most { length result.items ≤ 250 }
-{
-    encode(&Message2::Welcome(*welcome))
 }
 
 impl<P: Drop> GuardedPort<P> {

@@ -1,5 +1,8 @@
 //! How much was taken of each seat.
 
+ghost use Rattle.std.specs.Prelude.{◌≡◌};
+ghost use Rattle.share_guards.specs.Seats as spec;
+
 /// How many seats there are: one for each viewer's number.
 const SEATS: usize = 64;
 
@@ -19,6 +22,13 @@ pub struct Seats {
     offers: [u8; SEATS],
     /// How long this second has been, in milliseconds.
     age: u64,
+}
+
+/// Reports whether a datagram is within the limit of offers, of which `count` were taken.
+fn is_within(is_offer: bool, count: u8) -> bool
+    ensures { result ≡ spec.is_within is_offer count }
+{
+    !is_offer || count < MOST_OFFERS
 }
 
 impl Seats {
@@ -47,7 +57,7 @@ impl Seats {
         if self.datagrams[place] >= MOST_DATAGRAMS {
             return false;
         }
-        !is_offer || self.offers[place] < MOST_OFFERS
+        is_within(is_offer, self.offers[place])
     }
 
     /// Counts a datagram of a seat.
