@@ -3,7 +3,9 @@
 ghost use Rattle.std.specs.Prelude.{◌≡◌};
 
 use crate::rests::{Rests, millis_at};
+use share_guards::Placed;
 use share_turns::{Port, PortFault, RECEIVED};
+use std::net::SocketAddr;
 use std::time::Clock;
 
 /// A port whose rests take the milliseconds that pass by its clock since the last one. While the
@@ -28,6 +30,21 @@ impl<P, C> TimedPort<P, C> {
             clock,
             rests: Rests::new(),
         }
+    }
+
+    /// Returns the inner port.
+    pub fn port(&self) -> &P
+        ensures { result.now ≡ self.now.port }
+    {
+        &self.port
+    }
+}
+
+impl<P: Placed, C> Placed for TimedPort<P, C> {
+    ghost place_of = { λ p peer. P.place_of p.port peer };
+
+    fn place(&self, peer: u16) -> Option<SocketAddr> {
+        self.port.place(peer)
     }
 }
 

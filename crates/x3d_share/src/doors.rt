@@ -3,7 +3,7 @@
 use crate::end::End;
 use crate::key_files::host_keys;
 use crate::places::{Place, may_be_reached, place_of};
-use app_commands::{AddressedPort, bound, number_of};
+use app_commands::{AddressedPort, TimedPort, bound, number_of};
 use app_program::ShareFault;
 use app_words::HostOrder;
 use share_guards::GuardedPort;
@@ -95,6 +95,16 @@ impl<P: HostSocket> HostSocket for KeyedPort<P> {
 
     fn unsealed(&self) -> u64 {
         self.dropped()
+    }
+}
+
+impl<P: HostSocket, C> HostSocket for TimedPort<P, C> {
+    fn has_numbers(&self) -> bool {
+        self.port().has_numbers()
+    }
+
+    fn unsealed(&self) -> u64 {
+        self.port().unsealed()
     }
 }
 

@@ -9,7 +9,7 @@ use crate::end::End;
 use crate::ends::{tell_host_end, tell_port, tell_strange, tell_unsealed};
 use crate::files::drawn_run;
 use crate::key_files::drawn_bytes;
-use app_commands::{PatientPort, Peer, SharedJob, TellingPort, Watch, shared_job};
+use app_commands::{PatientPort, Peer, SharedJob, TellingPort, TimedPort, Watch, shared_job};
 use app_logs::{
     AppendFault, Beat, Entry, Head, Log, LogFault, LogPlan, LoggedFault, LoggedHost, MemoryLog,
     RunFault as LogRunFault, append_fault_of, is_viewer_count, log_run, resume, times_after,
@@ -139,7 +139,8 @@ fn run_guarded<L: Log, P: Port + Placed + HostSocket + Drop>(
 ) -> Result<(), End> {
     let secret = drawn_bytes(rt)?;
     let seed = drawn_bytes(rt)?;
-    match GuardedPort::new(rt.alloc(), bound, secret, seed) {
+    let timed = TimedPort::new(bound, rt);
+    match GuardedPort::new(rt.alloc(), timed, secret, seed) {
         Ok(guarded) => run_over(rt, starting, verbose, log, guarded),
         Err(_refused) => Err(End::from(ShareFault::Memory)),
     }

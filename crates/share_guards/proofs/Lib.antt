@@ -1,0 +1,3 @@
+mod Arriving
+mod Strangers
+mod Unknown
