@@ -40,9 +40,8 @@ extern "C" {
  *   the call tests that first.
  * A call returns X3D_MISUSE, and changes nothing, for: any other null pointer; a handle of another
  * kind; a copy of a closed handle, until another handle reuses its memory; a second call at the
- * same time that may change the handle. The library cannot check the other rules, nor copies of a
- * handle opened while 1,024 others were open. A thread that calls it needs a stack of at least 512
- * KB. */
+ * same time that may change the handle. The library cannot check the other rules, nor the copies of
+ * handles beyond 1,024 open ones. A thread that calls it needs a stack of at least 512 KB. */
 
 /* Handles. Each holds a heap object (a world, a host, a viewer, a log, the part of a text), or
  * nothing. */
@@ -100,7 +99,7 @@ enum x3d_status {
   X3D_NOT_PIECE = 54,      /* the datagram is not a piece of a snapshot */
   X3D_NOT_WHOLE = 55,      /* pieces of the snapshot are missing */
   X3D_TOO_LARGE = 56,      /* the snapshot is too large to be sent in pieces */
-  X3D_NOT_A_LOG = 60,      /* an entry has bytes that no host of these viewers wrote there */
+  X3D_NOT_A_LOG = 60,      /* an entry has bytes that no host for that many viewers writes */
   X3D_LOG_GAP = 61,        /* an entry of the log is missing, or is in the wrong place */
   X3D_NOT_LASTING = 62,    /* the host was opened, not resumed: it has no log */
   X3D_NOT_AWAITED = 63,    /* no append with this number (token) is under way */

@@ -139,7 +139,7 @@ pub enum Fault {
     NotWhole,
     /// The snapshot is too large to be sent in pieces.
     TooLarge,
-    /// An entry of a log has bytes that no host of these viewers wrote there.
+    /// An entry of a log has bytes that no host for that many viewers writes.
     NotALog,
     /// An entry of a log is missing.
     LogGap,
@@ -269,7 +269,7 @@ impl fmt::Display for Fault {
             Fault::NotPiece => "the datagram is no piece of a snapshot",
             Fault::NotWhole => "pieces of the snapshot are missing",
             Fault::TooLarge => "the snapshot is too large to be sent in pieces",
-            Fault::NotALog => "the log has an entry that no host of these viewers wrote there",
+            Fault::NotALog => "the log has an entry that no host for that many viewers writes",
             Fault::LogGap => "an entry of the log is missing",
             Fault::NotLasting => "the host was not resumed",
             Fault::NotAwaited => "no append with this token is under way",
