@@ -151,7 +151,11 @@ struct StrangeCame(u64);
 
 impl fmt::Display for StrangeCame {
     fn fmt<W: fmt::Write>(&self, f: &mut fmt::Formatter<W>) -> fmt::Result {
-        write!(f, "{} datagrams of strangers or beyond limits dropped", self.0)
+        write!(
+            f,
+            "{} datagrams of strangers or beyond limits dropped",
+            self.0
+        )
     }
 }
 
