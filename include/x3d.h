@@ -40,8 +40,8 @@ extern "C" {
  *   the call tests that first.
  * A call returns X3D_MISUSE, and changes nothing, for: any other null pointer; a handle of another
  * kind; a copy of a closed handle, until another handle reuses its memory; a second call at the
- * same time that may change the handle. The library cannot check the other rules, nor the copies of
- * handles beyond 1,024 open ones. A thread that calls it needs a stack of at least 512 KB. */
+ * same time that may change the handle. The library cannot check the other rules, nor copies of
+ * handles opened while 1,024 others are. A calling thread needs a stack of at least 512 KB. */
 
 /* Handles. Each holds a heap object (a world, a host, a viewer, a log, the part of a text), or
  * nothing. */
@@ -433,8 +433,8 @@ uint8_t x3d_world_copy_text(const struct x3d_world *world, uint8_t *out, size_t 
 
 /* ---- numbers: a call lists them, then x3d_world_copy_numbers copies them
  *
- * A call that lists numbers drops the ones before. If it fails, the list is empty and the world is
- * unchanged. It may return X3D_MEMORY. */
+ * A call that lists numbers drops the ones before. If it fails, the list is empty (kept after
+ * X3D_RANGE) and the world unchanged. It may return X3D_MEMORY. */
 
 /* Writes the number of nodes in the scene. They are numbered from 0. */
 uint8_t x3d_world_node_count(const struct x3d_world *world, size_t *count);
@@ -575,11 +575,10 @@ uint8_t x3d_host_time(const struct x3d_host *host, int64_t *time);
 /* ---- a host that can be resumed: the program stores what the host numbers, in the program's log
  *
  * A log is bytes that only grow at their end. Resume such a host from all bytes of its log; at its
- * first start, from none. What it numbers then waits until the program has stored it. Only then
- * does the host show it: x3d_host_packet, x3d_host_ack and x3d_host_take speak only of stored
- * inputs, and x3d_host_drop_below and x3d_host_keep drop only these. x3d_host_count and
- * x3d_host_time speak of all. So a host that is killed and resumed from its log is the host that
- * its viewers know. */
+ * first start, from none. What it numbers then waits until the program has stored it. Only then is
+ * it shown: packets, acks and answers to asks speak only of stored inputs, and x3d_host_drop_below
+ * and x3d_host_keep drop only these. x3d_host_count and x3d_host_time speak of all. So a host that
+ * is killed and resumed from its log is the host that its viewers know. */
 
 /* Resumes the host of a scene's text, for 1 to 64 viewers, from the `log_length` bytes of its log.
  * It replaces the one that the handle had. The host has all inputs of the log, and its floor is 1.
