@@ -41,7 +41,7 @@ extern "C" {
  * A call returns X3D_MISUSE, and changes nothing, for: any other null pointer; a handle of another
  * kind; a copy of a closed handle, until another handle reuses its memory; a second call at the
  * same time that may change the handle. The library cannot check the other rules, nor copies of
- * handles opened while 1,024 others are. A calling thread needs a stack of at least 512 KB. */
+ * handles opened with 1,024 others open. A calling thread needs a stack of at least 512 KB. */
 
 /* Handles. Each holds a heap object (a world, a host, a viewer, a log, the part of a text), or
  * nothing. */
@@ -643,7 +643,7 @@ void x3d_log_close(struct x3d_log *log);
  * Only the next entries of the log are taken; whether a host wrote them is not tested
  * (x3d_host_resume does that). May return X3D_MEMORY at any time, and, in this order: X3D_IN_DOUBT
  * if an earlier append was; X3D_NOT_ENTRIES unless the bytes are entries with the next numbers,
- * after the scene's mark if the log has none yet; X3D_LOG_FULL; or X3D_IN_DOUBT: the log has none
+ * after the scene's mark if the log has no entries; X3D_LOG_FULL; or X3D_IN_DOUBT: the log has none
  * of these entries, the first few or all. After that it takes no append: call x3d_host_stored with
  * X3D_APPEND_DOUBT, close the log, open it again, and resume the host from it. */
 uint8_t x3d_log_append(struct x3d_log *log, const uint8_t *bytes, size_t length);
