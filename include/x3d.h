@@ -40,8 +40,8 @@ extern "C" {
  *   the call tests that first.
  * A call returns X3D_MISUSE, and changes nothing, for: any other null pointer; a handle of another
  * kind; a copy of a closed handle, until another handle reuses its memory; a second call at the
- * same time that may change the handle. The library cannot check the other rules, nor copies of
- * handles opened with 1,024 others open. A calling thread needs a stack of at least 512 KB. */
+ * same time that may change the handle. The library cannot check the other rules, nor every copy.
+ * A calling thread needs a stack of at least 512 KB. */
 
 /* Handles. Each holds a heap object (a world, a host, a viewer, a log, the part of a text), or
  * nothing. */
@@ -69,7 +69,7 @@ enum x3d_status {
   X3D_SPOILED = 20,        /* memory ran out before: only a snapshot brings the world back */
   X3D_NOT_NEXT = 21,       /* the input's number is not the next one */
   X3D_TIME_NOT_LATER = 22, /* the input's time is not above that of the last one */
-  X3D_NO_SUCH_NODE = 23,   /* there is no node with that number */
+  X3D_NO_SUCH_NODE = 23,   /* there is no such node */
   X3D_NO_SUCH_FIELD = 24,  /* the node has no field with that number or name */
   X3D_NO_PACKET = 25,      /* there is no such datagram: no such input, offer or piece */
   X3D_NO_SUCH_SCRIPT = 26, /* there is no script with that number */
