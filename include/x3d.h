@@ -561,9 +561,8 @@ uint8_t x3d_host_floor(const struct x3d_host *host, uint32_t *number);
 uint8_t x3d_host_floor_packet(const struct x3d_host *host, uint8_t *out, size_t room,
                               size_t *wanted);
 /* Drops the inputs below `number`, which becomes the floor; their memory is used again or freed.
- * May return: X3D_FLOOR_BACK if `number` is below the floor, or X3D_FLOOR_AHEAD if `number` is
- * above that of the next input, or for a resumed host that of the first input that is not
- * stored. */
+ * May return: X3D_FLOOR_BACK if `number` is below the floor, or X3D_FLOOR_AHEAD if it is above the
+ * next input's, or for a resumed host above that of the first input not stored. */
 uint8_t x3d_host_drop_below(struct x3d_host *host, uint32_t number);
 /* Writes the number of inputs that are numbered. */
 uint8_t x3d_host_count(const struct x3d_host *host, uint32_t *count);
@@ -590,7 +589,7 @@ uint8_t x3d_host_resume(struct x3d_host *host, const uint8_t *text, size_t lengt
                         const uint8_t *log, size_t log_length, uint32_t *entry);
 /* Copies the bytes of the append that is under way, and writes its token (a number that names this
  * append) and its number of bytes.
- * If none is under way, it first begins one of all entries that wait; if none wait, there are 0
+ * If none is under way, it first begins one with all entries that wait; if none wait, there are 0
  * bytes. Store the bytes at the log's end, durably, and then call x3d_host_stored. Until then each
  * call gives the same bytes and token, and what is numbered meanwhile waits for the next append.
  * May return: X3D_NOT_LASTING, X3D_ROOM if `room` bytes are not enough, or X3D_MEMORY. X3D_ROOM and
@@ -642,10 +641,11 @@ void x3d_log_close(struct x3d_log *log);
 /* Appends the bytes of an append of a host (x3d_host_pending), durably; 0 bytes append nothing.
  * Only the next entries of the log are taken; whether a host wrote them is not tested
  * (x3d_host_resume does that). May return X3D_MEMORY at any time, and, in this order: X3D_IN_DOUBT
- * if an earlier append was; X3D_NOT_ENTRIES unless the bytes are entries with the next numbers,
- * after the scene's mark if the log has no entries; X3D_LOG_FULL; or X3D_IN_DOUBT: the log has none
- * of these entries, the first few or all. After that it takes no append: call x3d_host_stored with
- * X3D_APPEND_DOUBT, close the log, open it again, and resume the host from it. */
+ * if an earlier append returned it; X3D_NOT_ENTRIES unless the bytes are entries with the next
+ * numbers, after the scene's mark if the log has no entries; X3D_LOG_FULL; or X3D_IN_DOUBT: the log
+ * has none of these entries, the first few or all. After that it takes no append: call
+ * x3d_host_stored with X3D_APPEND_DOUBT, close the log, open it again, and resume the host from it.
+ * */
 uint8_t x3d_log_append(struct x3d_log *log, const uint8_t *bytes, size_t length);
 /* Copies the bytes of all entries (as x3d_host_resume takes them: the scene's mark and then the
  * entries, or nothing), and writes their number of bytes to `wanted`. After X3D_IN_DOUBT these are
