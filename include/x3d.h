@@ -515,7 +515,7 @@ uint8_t x3d_world_replace_script(struct x3d_world *world, size_t k, uint8_t kind
 /* ---- the host of a shared world: it numbers what happens, and gives it to the viewers. A host and
  * its viewers exchange datagrams of at most X3D_PACKET bytes, which the program carries. Datagrams
  * may be lost, repeated and come in any order, but must arrive unaltered. No datagram of another
- * host of this scene may arrive, and none that was sent before this host was opened again. A call
+ * host may arrive, unless both share a log, nor one sent before this host was opened again. A call
  * that copies a datagram writes its length to `wanted`. It may return: X3D_NO_PACKET if there is no
  * such datagram, or X3D_ROOM if `room` bytes are not enough. */
 
@@ -562,7 +562,7 @@ uint8_t x3d_host_floor_packet(const struct x3d_host *host, uint8_t *out, size_t 
                               size_t *wanted);
 /* Drops the inputs below `number`, which becomes the floor; their memory is used again or freed.
  * May return: X3D_FLOOR_BACK if `number` is below the floor, or X3D_FLOOR_AHEAD if it is above the
- * next input's, or for a resumed host above that of the first input not stored. */
+ * next input's number (of a resumed host: the first unstored input's). */
 uint8_t x3d_host_drop_below(struct x3d_host *host, uint32_t number);
 /* Writes the number of inputs that are numbered. */
 uint8_t x3d_host_count(const struct x3d_host *host, uint32_t *count);
