@@ -514,8 +514,8 @@ uint8_t x3d_world_replace_script(struct x3d_world *world, size_t k, uint8_t kind
 
 /* ---- the host of a shared world: it numbers what happens, and gives it to the viewers. A host and
  * its viewers exchange datagrams of at most X3D_PACKET bytes, which the program carries. Datagrams
- * may be lost, repeated and come in any order, but must arrive unaltered. No datagram of another
- * host may arrive, unless both share a log, nor one sent before this host was opened again. A call
+ * may be lost, repeated and come in any order, but must arrive unaltered. No datagram sent before
+ * this host was opened again may arrive, nor one of another host, unless both share a log. A call
  * that copies a datagram writes its length to `wanted`. It may return: X3D_NO_PACKET if there is no
  * such datagram, or X3D_ROOM if `room` bytes are not enough. */
 
