@@ -395,7 +395,8 @@ uint8_t x3d_world_point(struct x3d_world *world, uint32_t number, int64_t time, 
  * pointing sensors next to the Box's Shape, in the same `children` field or among the roots. If
  * none is there, the sensors next to the node that holds the Shape are listed, and so on upwards.
  * Sensors among the children of a Switch do not count. The world is unchanged. May return, in this
- * order: X3D_RANGE if the ray is out of its range, X3D_SPOILED, or X3D_MEMORY. */
+ * order: X3D_RANGE if the ray is out of its range (the list is kept), X3D_SPOILED, or
+ * X3D_MEMORY. */
 uint8_t x3d_world_meet(struct x3d_world *world, const struct x3d_aim *aim, struct x3d_met *met);
 
 /* ---- texts: a call makes a text, then x3d_world_copy_text copies it
@@ -433,8 +434,8 @@ uint8_t x3d_world_copy_text(const struct x3d_world *world, uint8_t *out, size_t 
 
 /* ---- numbers: a call lists them, then x3d_world_copy_numbers copies them
  *
- * A call that lists numbers drops the ones before. If it fails, the list is empty (kept after
- * X3D_RANGE) and the world unchanged. It may return X3D_MEMORY. */
+ * A call that lists numbers drops the ones before. If it fails, the list is empty and the world
+ * unchanged. It may return X3D_MEMORY. */
 
 /* Writes the number of nodes in the scene. They are numbered from 0. */
 uint8_t x3d_world_node_count(const struct x3d_world *world, size_t *count);
@@ -514,10 +515,10 @@ uint8_t x3d_world_replace_script(struct x3d_world *world, size_t k, uint8_t kind
 
 /* ---- the host of a shared world: it numbers what happens, and gives it to the viewers. A host and
  * its viewers exchange datagrams of at most X3D_PACKET bytes, which the program carries. Datagrams
- * may be lost, repeated and come in any order, but must arrive unaltered. No datagram sent before
- * this host was opened again may arrive, nor one of another host, unless both share a log. A call
- * that copies a datagram writes its length to `wanted`. It may return: X3D_NO_PACKET if there is no
- * such datagram, or X3D_ROOM if `room` bytes are not enough. */
+ * may be lost, repeated and come in any order, but must arrive unaltered. No datagram of an earlier
+ * or another host, or of its viewers, may arrive, unless both hosts share a log. A call that copies
+ * a datagram writes its length to `wanted`. It may return: X3D_NO_PACKET if there is no such
+ * datagram, or X3D_ROOM if `room` bytes are not enough. */
 
 /* Opens the host of a scene's text for 1 to 64 viewers, numbered from 0. It replaces the one that
  * the handle had. The host keeps only the text's SHA-256 (its mark), and does not look at the
