@@ -8,7 +8,7 @@ use app_program::ShareFault;
 use app_words::HostOrder;
 use share_guards::GuardedPort;
 use share_keys::Keys;
-use share_sealed::KeyedPort;
+use share_sealed::{KeyedPort, SealedPort};
 use share_turns::UdpPort;
 
 /// The texts of a host's options, if they were given.
@@ -53,8 +53,8 @@ impl<'a> Socket<'a> {
     }
 }
 
-/// The port of a host, by a socket of its own.
-pub trait HostSocket {
+/// A port over a socket.
+pub trait OverSocket {
     /// Reports whether peers are numbers of a table of addresses, and not ports of this machine.
     fn has_numbers(&self) -> bool;
 
@@ -68,7 +68,7 @@ pub trait HostSocket {
     }
 }
 
-impl HostSocket for UdpPort {
+impl OverSocket for UdpPort {
     fn has_numbers(&self) -> bool {
         false
     }
@@ -78,7 +78,7 @@ impl HostSocket for UdpPort {
     }
 }
 
-impl<R> HostSocket for AddressedPort<R> {
+impl<R> OverSocket for AddressedPort<R> {
     fn has_numbers(&self) -> bool {
         true
     }
@@ -88,7 +88,7 @@ impl<R> HostSocket for AddressedPort<R> {
     }
 }
 
-impl<P: HostSocket> HostSocket for KeyedPort<P> {
+impl<P: OverSocket> OverSocket for KeyedPort<P> {
     fn has_numbers(&self) -> bool {
         self.port().has_numbers()
     }
@@ -98,7 +98,17 @@ impl<P: HostSocket> HostSocket for KeyedPort<P> {
     }
 }
 
-impl<P: HostSocket, C> HostSocket for TimedPort<P, C> {
+impl<P: OverSocket> OverSocket for SealedPort<P> {
+    fn has_numbers(&self) -> bool {
+        self.port().has_numbers()
+    }
+
+    fn unsealed(&self) -> u64 {
+        self.dropped()
+    }
+}
+
+impl<P: OverSocket, C> OverSocket for TimedPort<P, C> {
     fn has_numbers(&self) -> bool {
         self.port().has_numbers()
     }
@@ -108,7 +118,7 @@ impl<P: HostSocket, C> HostSocket for TimedPort<P, C> {
     }
 }
 
-impl<P: HostSocket> HostSocket for GuardedPort<P> {
+impl<P: OverSocket> OverSocket for GuardedPort<P> {
     fn has_numbers(&self) -> bool {
         self.port().has_numbers()
     }

@@ -4,7 +4,7 @@
 ghost use Rattle.app_words.specs.Words.{HostInRange};
 
 use crate::defaults::{turns_of, viewers_of};
-use crate::doors::{Door, HostSocket, HostTexts, Socket, opened, way_of};
+use crate::doors::{Door, HostTexts, OverSocket, Socket, opened, way_of};
 use crate::end::End;
 use crate::ends::{tell_host_end, tell_port, tell_strange, tell_unsealed};
 use crate::files::drawn_run;
@@ -95,7 +95,7 @@ fn port_in_run<P: Drop>(
 }
 
 /// Runs a host over its log at a port, which answers each datagram in the version in which it came.
-fn run_over<L: Log, P: Port + HostSocket + Drop>(
+fn run_over<L: Log, P: Port + OverSocket + Drop>(
     rt: &HostRuntime,
     starting: Starting,
     verbose: bool,
@@ -130,7 +130,7 @@ fn run_over<L: Log, P: Port + HostSocket + Drop>(
 }
 
 /// Runs a host over its log at a port that answers strangers with no more bytes than they sent.
-fn run_guarded<L: Log, P: Port + Placed + HostSocket + Drop>(
+fn run_guarded<L: Log, P: Port + Placed + OverSocket + Drop>(
     rt: &HostRuntime,
     starting: Starting,
     verbose: bool,
@@ -147,7 +147,7 @@ fn run_guarded<L: Log, P: Port + Placed + HostSocket + Drop>(
 }
 
 /// Runs a host over its log at a port that strangers reach, with its keys if it has some.
-fn run_reached<L: Log, P: Port + Placed + HostSocket + Drop>(
+fn run_reached<L: Log, P: Port + Placed + OverSocket + Drop>(
     rt: &HostRuntime,
     starting: Starting,
     verbose: bool,

@@ -2,8 +2,9 @@
 
 ghost use Rattle.app_words.specs.Words.{ViewInRange};
 
+use crate::doors::OverSocket;
 use crate::end::End;
-use crate::ends::{tell_others, tell_port, tell_view_end};
+use crate::ends::{tell_others, tell_port, tell_unsealed, tell_view_end};
 use crate::key_files::viewer_key;
 use crate::meets::met_port;
 use crate::places::{Place, may_be_reached, place_of};
@@ -138,9 +139,17 @@ fn ended<T: Drop, P>(done: Result<T, ShareFault>, port: &ViewerPort<P>) -> Resul
     }
 }
 
+/// Returns how many datagrams without a right seal came to a viewer, up to 2^64 - 1.
+fn unsealed_at<P: OverSocket>(port: &ViewerPort<P>) -> u64 {
+    match port {
+        ViewerPort::Plain(inner) => inner.unsealed(),
+        ViewerPort::InRun(in_run) => in_run.port().unsealed(),
+    }
+}
+
 /// Runs a viewer at its port, which offers its points to a host, and prints its trace and its
 /// scene. Then it gives its snapshot, if it is asked to.
-fn viewed_at<R: AllocGlobal + Print + Eprint + Clock, P: Port + Drop>(
+fn viewed_at<R: AllocGlobal + Print + Eprint + Clock, P: Port + OverSocket + Drop>(
     rt: &R,
     seat: &mut Seat,
     asked: &ViewOrder,
@@ -171,12 +180,13 @@ fn viewed_at<R: AllocGlobal + Print + Eprint + Clock, P: Port + Drop>(
     let telling = port.port().port().port();
     let counts = telling.counts();
     tell_others(rt, asked.verbose, telling.port().others());
+    tell_unsealed(rt, asked.verbose, unsealed_at(telling.port()));
     tell_view_end(rt, asked.verbose, seat.viewer.applied(), counts);
     done
 }
 
 /// Comes into the run of a viewer's host over its port, and runs the viewer.
-fn met_and_viewed<P: Port + Drop>(
+fn met_and_viewed<P: Port + OverSocket + Drop>(
     rt: &HostRuntime,
     seat: &mut Seat,
     asked: &ViewOrder,
@@ -191,7 +201,7 @@ fn met_and_viewed<P: Port + Drop>(
 }
 
 /// Runs a viewer over its port, with its key if it has one.
-fn sealed_and_viewed<P: Port + Drop>(
+fn sealed_and_viewed<P: Port + OverSocket + Drop>(
     rt: &HostRuntime,
     seat: &mut Seat,
     asked: &ViewOrder,
