@@ -2,7 +2,7 @@
 SHELL := bash
 .SHELLFLAGS := -eu -o pipefail -c
 .PHONY: run try unproved quick picture room test-room test-room-quick measure-room room-library \
-        share soak kill logs fuzz test cases prefixes refusals check definitions calls \
+        share soak kill hostile worlds logs fuzz test cases prefixes refusals check definitions calls \
         bench growth format install library library-unproved bindings fuzz-library wasm \
         dist test-dist abi site
 
@@ -111,6 +111,11 @@ hostile:
 	@cd crates/x3d_share && $(RT) run -- --version > /dev/null
 	@scripts/hostile $$((60 * $(MINUTES)))
 
+# Proves and builds the program, and serves folders of worlds; last 1,000 of them, whose figures it prints.
+worlds:
+	@cd crates/x3d_share && $(RT) run -- --version > /dev/null
+	@scripts/worlds
+
 # Proves and builds the program, and gives it FILES that are no whole log, and logs after CUTS of the power.
 FILES ?= 10000
 CUTS ?= 200
@@ -130,6 +135,7 @@ fuzz:
 # that are too small, and a world
 # with killed viewers and malicious datagrams;
 # hosts over a log that are killed; logs that are damaged, and power cuts; an attacker on worlds with keys, and strangers;
+# folders of worlds that one process serves, a thousand of them at last;
 # and jobs from C, Rust and Python, by the library of `make library`, or where it isn't built or is older than a
 # source by one that is built of the same sources without a proof.
 test: definitions
@@ -147,6 +153,7 @@ test: definitions
 	scripts/kill 1; \
 	scripts/logs --seed 67; \
 	scripts/hostile 30 --seed 68; \
+	scripts/worlds 5; \
 	if $(call fresh,out/libx3d.so); then scripts/abi out/libx3d.so; scripts/bindings --quick; scripts/log_calls; \
 	elif ! command -v "$${CC:-cc}" > /dev/null; then echo "bindings: skipped: no C compiler"; \
 	else $(call fresh,out/quick/libx3d.so) || scripts/unproved_library out/quick; \

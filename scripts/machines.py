@@ -1,9 +1,12 @@
 """Tests of hosts and viewers at several addresses, with keys and without, for scripts/hosts."""
+import hashlib
 import hmac
+import os
 import random
 import selectors
 import socket
 import stat
+import struct
 import subprocess
 import threading
 import time
@@ -128,6 +131,49 @@ def keyed():
         wanted = ended(nodes.start(["run"], LINES, SCENE))
         viewer = nodes.view(0, "--exactly", 100, "--key", keys / "viewer-0.key")
         same(ended(viewer), wanted, "a viewer with a key at a port of this machine")
+
+
+def arrived(end, to, mark, who, key):
+    """Says Hello, and again with the cookie of its Welcome: the host then knows the address. Its run."""
+    cookie = sessions.NO_COOKIE
+    for _ in range(2):
+        end.sendto(sealed(key, sessions.hello(mark, who, os.urandom(16), cookie=cookie)), to)
+        welcome = sessions.read_welcome(end.recv(2048)[:-SEAL])
+        cookie = welcome.cookie
+    return welcome.run
+
+
+def gathered(to, who, key):
+    """The head and the bytes of the snapshot that a host gives a viewer that joins: it asks for input 1 each second."""
+    mark, pieces, head, asked = wire.mark_of(SCENE), {}, None, 0
+    with socket.socket(family_of(to[0]), socket.SOCK_DGRAM) as end:
+        end.settimeout(5)
+        session = sessions.session_of(mark, arrived(end, to, mark, who, key))
+        while head is None or len(pieces) < (head[3] + 191) // 192:
+            if time.monotonic() > asked + 1:
+                end.sendto(sealed(key, sessions.ask(session, who, 1)), to)
+                asked = time.monotonic()
+            packet = end.recv(2048)[:-SEAL]
+            if packet[5:sessions.BODY] == bytes([wire.PIECE]) + session:
+                *head, index = struct.unpack_from(">16sIQII", packet, sessions.BODY)
+                pieces[index] = packet[sessions.BODY + 36:]
+    return head, b"".join(part for _, part in sorted(pieces.items()))
+
+
+def late():
+    """A host with keys has dropped all inputs, and gives its world to a viewer that comes late."""
+    with Nodes() as nodes:
+        keys = keys_in(Path(nodes.folder.name, "keys"), 3)
+        nodes.listen("127.0.0.2", "--keys", keys / "host.keys", "--viewers", 3, "--keep", 0, lines=LINES)
+        words = [["--exactly", 100, "--key", keys / f"viewer-{who}.key"] for who in range(3)]
+        wanted = ended(nodes.start(["run"], LINES, SCENE))
+        for who in range(3):
+            same(ended(nodes.visit("127.0.0.2", who, *words[who])), wanted, f"viewer {who} of a host with keys")
+        who, key = key_of(keys / "viewer-2.key")
+        (_, boot, applied, size), snapshot = gathered(("127.0.0.2", nodes.port), who, key)
+        same((boot, applied, size), (1, 100, len(snapshot)), "the head of the snapshot that a host gives")
+        same(hashlib.sha256(snapshot[:-32]).digest(), snapshot[-32:], "the digest of the snapshot that a host gives")
+        same(ended(nodes.visit("127.0.0.2", 2, "--join", *words[2], boot=2)), wanted, "a viewer that joins by a host")
 
 
 def no_one(nodes, keys):

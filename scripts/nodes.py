@@ -65,7 +65,8 @@ class Nodes:
         return process
 
     def view(self, who, *words, boot=1, lines=(), scene=SCENE):
-        return self.start(["view", "--port", self.port, "--who", who, "--boot", boot, *words], lines, scene)
+        named = [] if boot is None else ["--boot", boot]
+        return self.start(["view", "--port", self.port, "--who", who, *named, *words], lines, scene)
 
     def listen(self, address, *words, lines=(), inside=()):
         """A host at an address, with its socket bound."""

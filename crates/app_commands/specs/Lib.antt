@@ -9,3 +9,4 @@ pub mod Beyond
 pub mod Pace
 pub mod Ended
 pub mod Welcomed
+pub mod Boots

@@ -114,3 +114,7 @@ passed_between (Some ended) (Some now) = now - ended
 abbrev pub is_reminded : (asked : Option ℕ) → (now : ℕ) → Bool
 is_reminded None now = true
 is_reminded (Some asked) now = nat_le 1000 (now - asked)
+
+-- a viewer that only gathers repeats its ask likewise, until it sends something else
+abbrev pub is_knocking : (knocks : Bool) → (asked : Option ℕ) → (now : ℕ) → Bool
+is_knocking knocks asked now = knocks && is_reminded asked now

@@ -37,6 +37,12 @@ impl fmt::Display for PeerAt {
     }
 }
 
+/// How many addresses have a number at once. The numbers are those below this one.
+pub const ADDRESSES: u16 = 512;
+
+/// How many of them are kept, those that something was sent to last.
+const KEPT: u16 = 128;
+
 /// The largest number of datagrams that one receive skips.
 const PASSED_OVER: usize = 64;
 
@@ -79,7 +85,7 @@ impl<R: Eprint> AddressedPort<R> {
         R: Net + Drop,
         ensures { IfOk result (λ port. port.failed ≡ 0) }
     {
-        let Ok(addresses) = Addresses::new(alloc) else {
+        let Ok(addresses) = Addresses::new(alloc, ADDRESSES, KEPT) else {
             return Err(ShareFault::Memory);
         };
         let Ok(socket) = UdpSocket::bind(&rt, address) else {

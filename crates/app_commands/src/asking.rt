@@ -25,7 +25,7 @@ pub struct AskingPort<P, C> {
 }
 
 /// Reports whether an ask that was last sent at `asked` is repeated now. Times are milliseconds.
-fn is_reminded(asked: Option<u64>, now: u64) -> bool
+pub(crate) fn is_reminded(asked: Option<u64>, now: u64) -> bool
     ensures { result ≡ is_reminded asked now }
 {
     match asked {

@@ -4,12 +4,14 @@
 
 mod addressed;
 mod asking;
+mod boots;
 mod brief;
 mod exact;
 mod fits;
 mod hosting;
 mod job;
 mod joining;
+mod knocking;
 mod note;
 mod pace;
 mod patient;
@@ -24,12 +26,14 @@ mod viewing;
 mod watch;
 mod welcomed;
 
-pub use addressed::AddressedPort;
+pub use addressed::{ADDRESSES, AddressedPort};
 pub use asking::AskingPort;
+pub use boots::{boot_at, boot_beyond, boot_now};
 pub use exact::ExactPort;
 pub use fits::job_fits;
 pub use job::{SharedJob, shared_job};
 pub use joining::{JointJob, agree_job, joint_job};
+pub use knocking::KnockingPort;
 pub use note::{Note, PeerName, Refusal};
 pub use pace::Pace;
 pub use patient::PatientPort;

@@ -125,13 +125,7 @@ fn beat_clock(beat: &Beat, last: i64, due: u64, millis: u64) -> Option<i64>
 
 /// Returns the clock of a turn: the one of the job, or if there is none, that of the beat.
 #[tactic(auto, using(crate::proofs::Passed::passed))]
-pub(crate) fn clock_for(
-    job: Option<i64>,
-    beat: &Beat,
-    last: i64,
-    due: u64,
-    millis: u64,
-) -> Option<i64>
+pub fn clock_for(job: Option<i64>, beat: &Beat, last: i64, due: u64, millis: u64) -> Option<i64>
     ensures { result
         ≡ clock_for job (beat_clock beat.now.every beat.now.base last due millis) }
 {
@@ -142,7 +136,7 @@ pub(crate) fn clock_for(
 }
 
 /// Returns when the first clock of a beat is due.
-pub(crate) fn first_due(every: Option<u32>) -> u64
+pub fn first_due(every: Option<u32>) -> u64
     ensures { result ≡ first_due every }
 {
     match every {
@@ -152,7 +146,7 @@ pub(crate) fn first_due(every: Option<u32>) -> u64
 }
 
 /// Returns when the next clock of a beat is due, after a turn with this clock of the job.
-pub(crate) fn due_after(job: Option<i64>, every: Option<u32>, due: u64, millis: u64) -> u64
+pub fn due_after(job: Option<i64>, every: Option<u32>, due: u64, millis: u64) -> u64
     ensures { result ≡ due_after job every due millis }
 {
     if job.is_some() || millis < due {

@@ -23,7 +23,7 @@ mod refusal;
 mod steps;
 
 pub use beginning::{Begun, go_on, make_log};
-pub use clocks::{Beat, times_after};
+pub use clocks::{Beat, clock_for, due_after, first_due, times_after};
 pub use fault::{LogFault, RunFault, append_fault_of};
 pub use hosting::{LogPlan, log_run};
 pub use laws::logs_run_again;

@@ -15,7 +15,7 @@ use Rattle.route_core.specs.FaultName.{fault_name as route_fault_name}
 use Rattle.script_host.specs.declared.fault.AttachFault.{AttachFault}
 use Rattle.script_host.specs.declared.fault.AttachFault.TheVariants as attach
 use Rattle.script_host.specs.Faults.{attach_fault_name}
-use Rattle.app_words.specs.declared.order.OrderFault.TheVariants as order
+use Rattle.app_faults.specs.declared.fault.OrderFault.TheVariants as order
 use Rattle.app_jobs.specs.declared.fault.JobFault.{JobFault}
 use Rattle.app_jobs.specs.declared.fault.JobFault.TheVariants as job
 use Rattle.app_program.specs.declared.run_fault.RunFault.{RunFault}
@@ -67,6 +67,7 @@ abbrev pub share_status : ShareFault → ℕ
 share_status share.Port = 4
 share_status share.TurnsUsedUp = 3
 share_status share.BootNotNew = 2
+share_status share.BootsSpent = 2
 share_status share.BadSnapshot = 1
 share_status share.OtherRun = 3
 share_status share.OtherList = 3
@@ -102,6 +103,7 @@ abbrev pub share_fault_name : ShareFault → List ℕ
 share_fault_name share.Port = codes "Port"
 share_fault_name share.TurnsUsedUp = codes "TurnsUsedUp"
 share_fault_name share.BootNotNew = codes "BootNotNew"
+share_fault_name share.BootsSpent = codes "BootsSpent"
 share_fault_name share.BadSnapshot = codes "BadSnapshot"
 share_fault_name share.OtherRun = codes "OtherRun"
 share_fault_name share.OtherList = codes "OtherList"

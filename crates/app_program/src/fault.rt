@@ -11,6 +11,8 @@ pub enum ShareFault {
     TurnsUsedUp,
     #[error("the boot is not above that of the snapshot")]
     BootNotNew,
+    #[error("no boot is left for this viewer")]
+    BootsSpent,
     #[error("what was gathered is not a snapshot of the scene")]
     BadSnapshot,
     #[error("the host is of another run")]

@@ -7,8 +7,8 @@ ghost use Rattle.app_program.specs.Refusal.{failure_line};
 
 use crate::fault::ShareFault;
 use crate::run_fault::RunFault;
+use app_faults::OrderFault;
 use app_jobs::JobFault;
-use app_words::OrderFault;
 use arrayvec::ArrayString;
 use classic_text::ReadFaultKind;
 use proto_flat::ExpandFaultKind;
@@ -74,6 +74,7 @@ fn share_status(fault: ShareFault) -> u8
     match fault {
         ShareFault::BadSnapshot => 1,
         ShareFault::BootNotNew => 2,
+        ShareFault::BootsSpent => 2,
         ShareFault::TurnsUsedUp => 3,
         ShareFault::OtherRun => 3,
         ShareFault::OtherList => 3,
@@ -135,6 +136,7 @@ fn share_fault_name(fault: ShareFault) -> &'static str
         ShareFault::Port => "Port",
         ShareFault::TurnsUsedUp => "TurnsUsedUp",
         ShareFault::BootNotNew => "BootNotNew",
+        ShareFault::BootsSpent => "BootsSpent",
         ShareFault::BadSnapshot => "BadSnapshot",
         ShareFault::OtherRun => "OtherRun",
         ShareFault::OtherList => "OtherList",

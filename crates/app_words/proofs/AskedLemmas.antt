@@ -3,14 +3,15 @@ use Rattle.std.proofs.Common.{◌≡◌, ◌≤◌, ℕ, List, codes, Option, So
 use Rattle.clap.specs.Words.{Row, Text}
 use Rattle.app_words.specs.declared.order.HostOrder.{HostOrder}
 use Rattle.app_words.specs.declared.order.Order.{Order}
-use Rattle.app_words.specs.declared.order.Order.TheVariants.{Run, Format, Check, Rehearse, Agree, Host, View, Recall, Part, Key}
+use Rattle.app_words.specs.declared.order.Order.TheVariants.{Run, Format, Check, Rehearse, Agree, Host, View, Serve, Recall, Part, Key}
+use Rattle.app_words.specs.declared.order.ServeOrder.{ServeOrder}
 use Rattle.app_words.specs.declared.order.ViewEnd.{ViewEnd}
 use Rattle.app_words.specs.declared.order.ViewEnd.TheVariants.{Until, Exactly}
 use Rattle.app_words.specs.declared.order.ViewOrder.{ViewOrder}
-use Rattle.app_words.specs.Misfits.{host_misfit, misfit_of}
+use Rattle.app_words.specs.Misfits.{host_misfit, misfit_of, serve_misfit}
 use Rattle.app_words.specs.declared.misfit.Misfit.{Misfit}
-use Rattle.app_words.specs.Words.{Asks, AsksHost, AsksView, IsEnd, IsInRange, IsViewers, IsTurns, MayHaveExactly, MayHaveNumberIn, MayHaveUntil, end_count, end_of}
-use Rattle.app_words.proofs.OneNumber.{one_host, one_view, without}
+use Rattle.app_words.specs.Words.{Asks, AsksHost, AsksServe, AsksView, IsEnd, IsInRange, IsViewers, IsTurns, MayHaveExactly, MayHaveNumberIn, MayHaveUntil, end_count, end_of}
+use Rattle.app_words.proofs.OneNumber.{one_host, one_serve, one_view, without}
 
 pub agree_needs : (rows : List Row) (o : Order) → Asks o (codes "agree", rows)
     → (viewers : ℕ) × (turns : ℕ) × IsViewers rows viewers × IsTurns rows turns
@@ -27,6 +28,8 @@ agree_needs rows (Host asked) h =
     let bad : 97 ≡ 104 = ap (λ t. slice_index t 0) h.0 in absurd (omega (arith, bad))
 agree_needs rows (View asked) h =
     let bad : 97 ≡ 118 = ap (λ t. slice_index t 0) h.0 in absurd (omega (arith, bad))
+agree_needs rows (Serve asked) h =
+    let bad : 97 ≡ 115 = ap (λ t. slice_index t 0) h.0 in absurd (omega (arith, bad))
 agree_needs rows (Recall until info) h =
     let bad : 97 ≡ 114 = ap (λ t. slice_index t 0) h.0 in absurd (omega (arith, bad))
 agree_needs rows (Part list) h =
@@ -49,6 +52,8 @@ host_needs rows (Agree viewers turns) h =
 host_needs rows (Host asked) h = (asked, h.1, h.2)
 host_needs rows (View asked) h =
     let bad : 104 ≡ 118 = ap (λ t. slice_index t 0) h.0 in absurd (omega (arith, bad))
+host_needs rows (Serve asked) h =
+    let bad : 104 ≡ 115 = ap (λ t. slice_index t 0) h.0 in absurd (omega (arith, bad))
 host_needs rows (Recall until info) h =
     let bad : 104 ≡ 114 = ap (λ t. slice_index t 0) h.0 in absurd (omega (arith, bad))
 host_needs rows (Part list) h =
@@ -71,12 +76,38 @@ view_needs rows (Agree viewers turns) h =
 view_needs rows (Host asked) h =
     let bad : 118 ≡ 104 = ap (λ t. slice_index t 0) h.0 in absurd (omega (arith, bad))
 view_needs rows (View asked) h = (asked, h.1, h.2)
+view_needs rows (Serve asked) h =
+    let bad : 118 ≡ 115 = ap (λ t. slice_index t 0) h.0 in absurd (omega (arith, bad))
 view_needs rows (Recall until info) h =
     let bad : 118 ≡ 114 = ap (λ t. slice_index t 0) h.0 in absurd (omega (arith, bad))
 view_needs rows (Part list) h =
     let bad : 118 ≡ 112 = ap (λ t. slice_index t 0) h.0 in absurd (omega (arith, bad))
 view_needs rows (Key viewers) h =
     let bad : 118 ≡ 107 = ap (λ t. slice_index t 0) h.0 in absurd (omega (arith, bad))
+
+pub serve_needs : (rows : List Row) (o : Order) → Asks o (codes "serve", rows)
+    → (asked : ServeOrder) × AsksServe rows asked × (serve_misfit asked ≡ None)
+serve_needs rows (Run no_trace) h =
+    let bad : 115 ≡ 114 = ap (λ t. slice_index t 0) h.0 in absurd (omega (arith, bad))
+serve_needs rows Format h =
+    let bad : 115 ≡ 102 = ap (λ t. slice_index t 0) h in absurd (omega (arith, bad))
+serve_needs rows Check h =
+    let bad : 115 ≡ 99 = ap (λ t. slice_index t 0) h in absurd (omega (arith, bad))
+serve_needs rows (Rehearse viewers) h =
+    let bad : 115 ≡ 114 = ap (λ t. slice_index t 0) h.0 in absurd (omega (arith, bad))
+serve_needs rows (Agree viewers turns) h =
+    let bad : 115 ≡ 97 = ap (λ t. slice_index t 0) h.0 in absurd (omega (arith, bad))
+serve_needs rows (Host asked) h =
+    let bad : 115 ≡ 104 = ap (λ t. slice_index t 0) h.0 in absurd (omega (arith, bad))
+serve_needs rows (View asked) h =
+    let bad : 115 ≡ 118 = ap (λ t. slice_index t 0) h.0 in absurd (omega (arith, bad))
+serve_needs rows (Serve asked) h = (asked, h.1, h.2)
+serve_needs rows (Recall until info) h =
+    let bad : 115 ≡ 114 = ap (λ t. slice_index t 0) h.0 in absurd (omega (arith, bad))
+serve_needs rows (Part list) h =
+    let bad : 115 ≡ 112 = ap (λ t. slice_index t 0) h.0 in absurd (omega (arith, bad))
+serve_needs rows (Key viewers) h =
+    let bad : 115 ≡ 107 = ap (λ t. slice_index t 0) h.0 in absurd (omega (arith, bad))
 
 -- options that don't go together ask for nothing
 pub no_view_of_misfit : (rows : List Row) (asked : ViewOrder) (why : Misfit) → AsksView rows asked → Some why ≡ misfit_of asked
@@ -93,6 +124,14 @@ no_host_of_misfit rows asked why read misfit o h =
     let given = host_needs rows o h in
     let same : asked ≡ given.0 = one_host rows asked given.0 read given.1 in
     let bad : Some why ≡ None = misfit ∙ ap (λ v. host_misfit v) same ∙ given.2 in
+    (cc)
+
+pub no_serve_of_misfit : (rows : List Row) (asked : ServeOrder) (why : Misfit) → AsksServe rows asked → Some why ≡ serve_misfit asked
+    → (o : Order) → ¬ Asks o (codes "serve", rows)
+no_serve_of_misfit rows asked why read misfit o h =
+    let given = serve_needs rows o h in
+    let same : asked ≡ given.0 = one_serve rows asked given.0 read given.1 in
+    let bad : Some why ≡ None = misfit ∙ ap (λ v. serve_misfit v) same ∙ given.2 in
     (cc)
 
 -- an end takes what both options may have
@@ -163,7 +202,7 @@ asked_range (Host asked) p h = record {
 asked_range (View asked) p h = record {
   port_low = at_least (codes "port") p.1 1 65535 asked.port h.1.port;
   who_high = omega (arith, h.1.who.high_end);
-  boot_low = h.1.boot.low_end;
+  boot_low = at_least (codes "boot") p.1 1 4294967295 asked.boot h.1.boot;
   end_high = end_range p.1 asked.end h.1.end;
   turns_low = h.1.turns.low_end;
   turns_high = h.1.turns.high_end;
@@ -172,6 +211,15 @@ asked_range (View asked) p h = record {
   give_turns_low = h.1.give_turns.low_end;
   wire_low = at_least (codes "wire") p.1 1 2 asked.wire h.1.wire;
   wire_high = at_most (codes "wire") p.1 1 2 asked.wire h.1.wire;
+  together = h.2;
+}
+asked_range (Serve asked) p h = record {
+  port_low = at_least (codes "port") p.1 1 65535 asked.port h.1.port;
+  viewers_low = at_least (codes "viewers") p.1 1 64 asked.viewers h.1.viewers;
+  viewers_high = at_most (codes "viewers") p.1 1 64 asked.viewers h.1.viewers;
+  keep_high = at_most (codes "keep") p.1 0 1048576 asked.keep h.1.keep;
+  every_low = at_least (codes "every") p.1 1 3600000 asked.every h.1.every;
+  every_high = at_most (codes "every") p.1 1 3600000 asked.every h.1.every;
   together = h.2;
 }
 asked_range (Recall until info) p h = at_most (codes "until") p.1 0 1048576 until h.1

@@ -4,8 +4,8 @@ use Rattle.std.specs.List.{fold}
 use Rattle.std.proofs.lemmas.List.Folds.{fold-map}
 use Rattle.std.proofs.lemmas.List.Sums.{fold_more}
 use Rattle.app_words.specs.declared.commands.CommandWords.{CommandWords}
-use Rattle.app_words.specs.Commands.{app_with, with_command, program, parted_program, logged_program, shared_program, local_program, single_program, bare_program}
-use Rattle.app_words.specs.Commands.{run_app, format_app, check_app, rehearse_app, agree_app, host_app, view_app, recall_app, part_app, key_app}
+use Rattle.app_words.specs.Commands.{app_with, with_command, program, parted_program, logged_program, served_program, shared_program, local_program, single_program, bare_program}
+use Rattle.app_words.specs.Commands.{run_app, format_app, check_app, rehearse_app, agree_app, host_app, view_app, serve_app, recall_app, part_app, key_app}
 
 pub one_more : {X Y : Type 0} (f : Y → X → Y) (a : Y) (xs : List X) (i : ℕ) (d : X) (now next : Y) → i < length xs
     → now ≡ fold f a (take i xs) → next ≡ f now (get_or xs i d) → next ≡ fold f a (take (i + 1) xs)
@@ -23,7 +23,7 @@ pub shared_commands : (ws : List CommandWords) → map app_with ws ≡ host_app 
 unfolding shared_program
 shared_commands ws e = sym (fold-map with_command app_with local_program ws) ∙ ap (fold with_command local_program) e
 
-pub file_commands : (ws : List CommandWords) → map app_with ws ≡ recall_app ∷ part_app ∷ key_app ∷ []
+pub file_commands : (ws : List CommandWords) → map app_with ws ≡ serve_app ∷ recall_app ∷ part_app ∷ key_app ∷ []
     → fold (λ a w. with_command a (app_with w)) shared_program ws ≡ program
-unfolding program parted_program logged_program
+unfolding program parted_program logged_program served_program
 file_commands ws e = sym (fold-map with_command app_with shared_program ws) ∙ ap (fold with_command shared_program) e

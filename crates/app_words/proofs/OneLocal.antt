@@ -3,7 +3,7 @@
 use Rattle.std.proofs.Common.{◌≡◌, ◌∙◌, ℕ, Bool, List, ap, arith, refl, slice_index, sym}
 use Rattle.clap.specs.Words.{Row, Text}
 use Rattle.app_words.specs.declared.order.Order.{Order}
-use Rattle.app_words.specs.declared.order.Order.TheVariants.{Run, Format, Check, Rehearse, Agree, Host, View, Recall, Part, Key}
+use Rattle.app_words.specs.declared.order.Order.TheVariants.{Run, Format, Check, Rehearse, Agree, Host, View, Serve, Recall, Part, Key}
 use Rattle.app_words.specs.Words.{Asks}
 use Rattle.app_words.proofs.OneNumber.{one}
 
@@ -32,6 +32,10 @@ run_alone no_trace (Host asked2) p h g =
 run_alone no_trace (View asked2) p h g =
     let x : slice_index p.0 0 ≡ 114 = ap (λ t. slice_index t 0) h.0 in
     let y : slice_index p.0 0 ≡ 118 = ap (λ t. slice_index t 0) g.0 in
+    absurd (omega (arith, x, y))
+run_alone no_trace (Serve asked2) p h g =
+    let x : slice_index p.0 0 ≡ 114 = ap (λ t. slice_index t 0) h.0 in
+    let y : slice_index p.0 0 ≡ 115 = ap (λ t. slice_index t 0) g.0 in
     absurd (omega (arith, x, y))
 run_alone no_trace (Recall until2 info2) p h g =
     let x : slice_index p.0 1 ≡ 117 = ap (λ t. slice_index t 1) h.0 in
@@ -72,6 +76,10 @@ format_alone (View asked2) p h g =
     let x : slice_index p.0 0 ≡ 102 = ap (λ t. slice_index t 0) h in
     let y : slice_index p.0 0 ≡ 118 = ap (λ t. slice_index t 0) g.0 in
     absurd (omega (arith, x, y))
+format_alone (Serve asked2) p h g =
+    let x : slice_index p.0 0 ≡ 102 = ap (λ t. slice_index t 0) h in
+    let y : slice_index p.0 0 ≡ 115 = ap (λ t. slice_index t 0) g.0 in
+    absurd (omega (arith, x, y))
 format_alone (Recall until2 info2) p h g =
     let x : slice_index p.0 0 ≡ 102 = ap (λ t. slice_index t 0) h in
     let y : slice_index p.0 0 ≡ 114 = ap (λ t. slice_index t 0) g.0 in
@@ -110,6 +118,10 @@ check_alone (Host asked2) p h g =
 check_alone (View asked2) p h g =
     let x : slice_index p.0 0 ≡ 99 = ap (λ t. slice_index t 0) h in
     let y : slice_index p.0 0 ≡ 118 = ap (λ t. slice_index t 0) g.0 in
+    absurd (omega (arith, x, y))
+check_alone (Serve asked2) p h g =
+    let x : slice_index p.0 0 ≡ 99 = ap (λ t. slice_index t 0) h in
+    let y : slice_index p.0 0 ≡ 115 = ap (λ t. slice_index t 0) g.0 in
     absurd (omega (arith, x, y))
 check_alone (Recall until2 info2) p h g =
     let x : slice_index p.0 0 ≡ 99 = ap (λ t. slice_index t 0) h in
@@ -150,6 +162,10 @@ rehearse_alone viewers (View asked2) p h g =
     let x : slice_index p.0 0 ≡ 114 = ap (λ t. slice_index t 0) h.0 in
     let y : slice_index p.0 0 ≡ 118 = ap (λ t. slice_index t 0) g.0 in
     absurd (omega (arith, x, y))
+rehearse_alone viewers (Serve asked2) p h g =
+    let x : slice_index p.0 0 ≡ 114 = ap (λ t. slice_index t 0) h.0 in
+    let y : slice_index p.0 0 ≡ 115 = ap (λ t. slice_index t 0) g.0 in
+    absurd (omega (arith, x, y))
 rehearse_alone viewers (Recall until2 info2) p h g =
     let x : slice_index p.0 2 ≡ 104 = ap (λ t. slice_index t 2) h.0 in
     let y : slice_index p.0 2 ≡ 99 = ap (λ t. slice_index t 2) g.0 in
@@ -188,6 +204,10 @@ agree_alone viewers turns (Host asked2) p h g =
 agree_alone viewers turns (View asked2) p h g =
     let x : slice_index p.0 0 ≡ 97 = ap (λ t. slice_index t 0) h.0 in
     let y : slice_index p.0 0 ≡ 118 = ap (λ t. slice_index t 0) g.0 in
+    absurd (omega (arith, x, y))
+agree_alone viewers turns (Serve asked2) p h g =
+    let x : slice_index p.0 0 ≡ 97 = ap (λ t. slice_index t 0) h.0 in
+    let y : slice_index p.0 0 ≡ 115 = ap (λ t. slice_index t 0) g.0 in
     absurd (omega (arith, x, y))
 agree_alone viewers turns (Recall until2 info2) p h g =
     let x : slice_index p.0 0 ≡ 97 = ap (λ t. slice_index t 0) h.0 in

@@ -4,10 +4,11 @@ use Rattle.std.proofs.Common.{◌≡◌, ◌∙◌, ℕ, List, ap, refl, sym}
 use Rattle.std.specs.Str.Parse.{digits_value, without_leading_plus}
 use Rattle.clap.specs.Words.{Row, Text}
 use Rattle.app_words.specs.declared.order.HostOrder.{HostOrder}
+use Rattle.app_words.specs.declared.order.ServeOrder.{ServeOrder}
 use Rattle.app_words.specs.declared.order.ViewEnd.{ViewEnd}
 use Rattle.app_words.specs.declared.order.ViewEnd.TheVariants.{Until, Exactly}
 use Rattle.app_words.specs.declared.order.ViewOrder.{ViewOrder}
-use Rattle.app_words.specs.Words.{AsksHost, AsksView, HasNumber, HasNumberIn, IsEnd, IsLeftOut, MayHaveNumberIn}
+use Rattle.app_words.specs.Words.{AsksHost, AsksServe, AsksView, HasNumber, HasNumberIn, IsEnd, IsLeftOut, MayHaveNumberIn}
 
 one_number : (id : Text) (rows : List Row) (n m : ℕ) → HasNumber id rows n → HasNumber id rows m → n ≡ m
 one_number id rows n m a b =
@@ -52,17 +53,28 @@ one_host rows x y a b =
 
 pub one_view : (rows : List Row) (x y : ViewOrder) → AsksView rows x → AsksView rows y → x ≡ y
 one_view rows x y a b =
-    ap (λ n. record x { port = n }) (one_or_none _ rows _ _ x.port y.port a.port b.port)
+    ap (λ v. record x { port = v }) (one_or_none _ rows _ _ x.port y.port a.port b.port)
     ∙ ap (λ v. record x { port = y.port; has_address = v }) (a.has_address ∙ sym b.has_address)
     ∙ ap (λ v. record x { port = y.port; has_address = y.has_address; has_key = v }) (a.has_key ∙ sym b.has_key)
-    ∙ ap (λ v. record x { port = y.port; has_address = y.has_address; has_key = y.has_key; is_open = v }) (a.is_open ∙ sym b.is_open)
-    ∙ ap (λ n. record y { who = n; boot = x.boot; end = x.end; turns = x.turns; at = x.at; give = x.give; give_turns = x.give_turns; wire = x.wire; join = x.join; verbose = x.verbose }) (one a.who b.who)
-    ∙ ap (λ n. record y { boot = n; end = x.end; turns = x.turns; at = x.at; give = x.give; give_turns = x.give_turns; wire = x.wire; join = x.join; verbose = x.verbose }) (one a.boot b.boot)
-    ∙ ap (λ e. record y { end = e; turns = x.turns; at = x.at; give = x.give; give_turns = x.give_turns; wire = x.wire; join = x.join; verbose = x.verbose }) (one_end rows x.end y.end a.end b.end)
-    ∙ ap (λ n. record y { turns = n; at = x.at; give = x.give; give_turns = x.give_turns; wire = x.wire; join = x.join; verbose = x.verbose }) (one a.turns b.turns)
-    ∙ ap (λ o. record y { at = o; give = x.give; give_turns = x.give_turns; wire = x.wire; join = x.join; verbose = x.verbose }) (one_or_none _ rows _ _ x.at y.at a.at b.at)
-    ∙ ap (λ o. record y { give = o; give_turns = x.give_turns; wire = x.wire; join = x.join; verbose = x.verbose }) (one_or_none _ rows _ _ x.give y.give a.give b.give)
-    ∙ ap (λ n. record y { give_turns = n; wire = x.wire; join = x.join; verbose = x.verbose }) (one a.give_turns b.give_turns)
-    ∙ ap (λ o. record y { wire = o; join = x.join; verbose = x.verbose }) (one_or_none _ rows _ _ x.wire y.wire a.wire b.wire)
+    ∙ ap (λ v. record x { port = y.port; has_address = y.has_address; has_key = y.has_key; has_world = v }) (a.has_world ∙ sym b.has_world)
+    ∙ ap (λ v. record x { port = y.port; has_address = y.has_address; has_key = y.has_key; has_world = y.has_world; is_open = v }) (a.is_open ∙ sym b.is_open)
+    ∙ ap (λ v. record y { who = v; boot = x.boot; end = x.end; turns = x.turns; at = x.at; give = x.give; give_turns = x.give_turns; wire = x.wire; join = x.join; verbose = x.verbose }) (one a.who b.who)
+    ∙ ap (λ v. record y { boot = v; end = x.end; turns = x.turns; at = x.at; give = x.give; give_turns = x.give_turns; wire = x.wire; join = x.join; verbose = x.verbose }) (one_or_none _ rows _ _ x.boot y.boot a.boot b.boot)
+    ∙ ap (λ v. record y { end = v; turns = x.turns; at = x.at; give = x.give; give_turns = x.give_turns; wire = x.wire; join = x.join; verbose = x.verbose }) (one_end rows x.end y.end a.end b.end)
+    ∙ ap (λ v. record y { turns = v; at = x.at; give = x.give; give_turns = x.give_turns; wire = x.wire; join = x.join; verbose = x.verbose }) (one a.turns b.turns)
+    ∙ ap (λ v. record y { at = v; give = x.give; give_turns = x.give_turns; wire = x.wire; join = x.join; verbose = x.verbose }) (one_or_none _ rows _ _ x.at y.at a.at b.at)
+    ∙ ap (λ v. record y { give = v; give_turns = x.give_turns; wire = x.wire; join = x.join; verbose = x.verbose }) (one_or_none _ rows _ _ x.give y.give a.give b.give)
+    ∙ ap (λ v. record y { give_turns = v; wire = x.wire; join = x.join; verbose = x.verbose }) (one a.give_turns b.give_turns)
+    ∙ ap (λ v. record y { wire = v; join = x.join; verbose = x.verbose }) (one_or_none _ rows _ _ x.wire y.wire a.wire b.wire)
     ∙ ap (λ v. record y { join = v; verbose = x.verbose }) (a.join ∙ sym b.join)
+    ∙ ap (λ v. record y { verbose = v }) (a.verbose ∙ sym b.verbose)
+
+pub one_serve : (rows : List Row) (x y : ServeOrder) → AsksServe rows x → AsksServe rows y → x ≡ y
+one_serve rows x y a b =
+    ap (λ v. record y { port = v; has_address = x.has_address; is_open = x.is_open; viewers = x.viewers; keep = x.keep; every = x.every; verbose = x.verbose }) (one_or_none _ rows _ _ x.port y.port a.port b.port)
+    ∙ ap (λ v. record y { has_address = v; is_open = x.is_open; viewers = x.viewers; keep = x.keep; every = x.every; verbose = x.verbose }) (a.has_address ∙ sym b.has_address)
+    ∙ ap (λ v. record y { is_open = v; viewers = x.viewers; keep = x.keep; every = x.every; verbose = x.verbose }) (a.is_open ∙ sym b.is_open)
+    ∙ ap (λ v. record y { viewers = v; keep = x.keep; every = x.every; verbose = x.verbose }) (one_or_none _ rows _ _ x.viewers y.viewers a.viewers b.viewers)
+    ∙ ap (λ v. record y { keep = v; every = x.every; verbose = x.verbose }) (one_or_none _ rows _ _ x.keep y.keep a.keep b.keep)
+    ∙ ap (λ v. record y { every = v; verbose = x.verbose }) (one_or_none _ rows _ _ x.every y.every a.every b.every)
     ∙ ap (λ v. record y { verbose = v }) (a.verbose ∙ sym b.verbose)

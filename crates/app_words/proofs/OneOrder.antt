@@ -5,10 +5,11 @@ use Rattle.clap.specs.Words.{Row, Text, subcommand_of}
 use Rattle.app_words.specs.Commands.{program}
 use Rattle.app_words.specs.declared.order.HostOrder.{HostOrder}
 use Rattle.app_words.specs.declared.order.Order.{Order}
-use Rattle.app_words.specs.declared.order.Order.TheVariants.{Run, Format, Check, Rehearse, Agree, Host, View, Recall, Part, Key}
+use Rattle.app_words.specs.declared.order.Order.TheVariants.{Run, Format, Check, Rehearse, Agree, Host, View, Serve, Recall, Part, Key}
+use Rattle.app_words.specs.declared.order.ServeOrder.{ServeOrder}
 use Rattle.app_words.specs.declared.order.ViewOrder.{ViewOrder}
 use Rattle.app_words.specs.Words.{Asks, Means}
-use Rattle.app_words.proofs.OneNumber.{one, one_or_none, one_host, one_view}
+use Rattle.app_words.proofs.OneNumber.{one, one_or_none, one_host, one_serve, one_view}
 use Rattle.app_words.proofs.OneLocal.{run_alone, format_alone, check_alone, rehearse_alone, agree_alone}
 
 host_alone : (asked : HostOrder) (o : Order) (p : Text × List Row) → Asks (Host asked) p → Asks o p → Host asked ≡ o
@@ -36,6 +37,10 @@ host_alone asked (Host asked2) p h g = ap (λ x. Host x) (one_host p.1 asked ask
 host_alone asked (View asked2) p h g =
     let x : slice_index p.0 0 ≡ 104 = ap (λ t. slice_index t 0) h.0 in
     let y : slice_index p.0 0 ≡ 118 = ap (λ t. slice_index t 0) g.0 in
+    absurd (omega (arith, x, y))
+host_alone asked (Serve asked2) p h g =
+    let x : slice_index p.0 0 ≡ 104 = ap (λ t. slice_index t 0) h.0 in
+    let y : slice_index p.0 0 ≡ 115 = ap (λ t. slice_index t 0) g.0 in
     absurd (omega (arith, x, y))
 host_alone asked (Recall until2 info2) p h g =
     let x : slice_index p.0 0 ≡ 104 = ap (λ t. slice_index t 0) h.0 in
@@ -76,6 +81,10 @@ view_alone asked (Host asked2) p h g =
     let y : slice_index p.0 0 ≡ 104 = ap (λ t. slice_index t 0) g.0 in
     absurd (omega (arith, x, y))
 view_alone asked (View asked2) p h g = ap (λ x. View x) (one_view p.1 asked asked2 h.1 g.1)
+view_alone asked (Serve asked2) p h g =
+    let x : slice_index p.0 0 ≡ 118 = ap (λ t. slice_index t 0) h.0 in
+    let y : slice_index p.0 0 ≡ 115 = ap (λ t. slice_index t 0) g.0 in
+    absurd (omega (arith, x, y))
 view_alone asked (Recall until2 info2) p h g =
     let x : slice_index p.0 0 ≡ 118 = ap (λ t. slice_index t 0) h.0 in
     let y : slice_index p.0 0 ≡ 114 = ap (λ t. slice_index t 0) g.0 in
@@ -86,6 +95,49 @@ view_alone asked (Part list2) p h g =
     absurd (omega (arith, x, y))
 view_alone asked (Key viewers2) p h g =
     let x : slice_index p.0 0 ≡ 118 = ap (λ t. slice_index t 0) h.0 in
+    let y : slice_index p.0 0 ≡ 107 = ap (λ t. slice_index t 0) g.0 in
+    absurd (omega (arith, x, y))
+
+serve_alone : (asked : ServeOrder) (o : Order) (p : Text × List Row) → Asks (Serve asked) p → Asks o p → Serve asked ≡ o
+serve_alone asked (Run no_trace2) p h g =
+    let x : slice_index p.0 0 ≡ 115 = ap (λ t. slice_index t 0) h.0 in
+    let y : slice_index p.0 0 ≡ 114 = ap (λ t. slice_index t 0) g.0 in
+    absurd (omega (arith, x, y))
+serve_alone asked Format p h g =
+    let x : slice_index p.0 0 ≡ 115 = ap (λ t. slice_index t 0) h.0 in
+    let y : slice_index p.0 0 ≡ 102 = ap (λ t. slice_index t 0) g in
+    absurd (omega (arith, x, y))
+serve_alone asked Check p h g =
+    let x : slice_index p.0 0 ≡ 115 = ap (λ t. slice_index t 0) h.0 in
+    let y : slice_index p.0 0 ≡ 99 = ap (λ t. slice_index t 0) g in
+    absurd (omega (arith, x, y))
+serve_alone asked (Rehearse viewers2) p h g =
+    let x : slice_index p.0 0 ≡ 115 = ap (λ t. slice_index t 0) h.0 in
+    let y : slice_index p.0 0 ≡ 114 = ap (λ t. slice_index t 0) g.0 in
+    absurd (omega (arith, x, y))
+serve_alone asked (Agree viewers2 turns2) p h g =
+    let x : slice_index p.0 0 ≡ 115 = ap (λ t. slice_index t 0) h.0 in
+    let y : slice_index p.0 0 ≡ 97 = ap (λ t. slice_index t 0) g.0 in
+    absurd (omega (arith, x, y))
+serve_alone asked (Host asked2) p h g =
+    let x : slice_index p.0 0 ≡ 115 = ap (λ t. slice_index t 0) h.0 in
+    let y : slice_index p.0 0 ≡ 104 = ap (λ t. slice_index t 0) g.0 in
+    absurd (omega (arith, x, y))
+serve_alone asked (View asked2) p h g =
+    let x : slice_index p.0 0 ≡ 115 = ap (λ t. slice_index t 0) h.0 in
+    let y : slice_index p.0 0 ≡ 118 = ap (λ t. slice_index t 0) g.0 in
+    absurd (omega (arith, x, y))
+serve_alone asked (Serve asked2) p h g = ap (λ x. Serve x) (one_serve p.1 asked asked2 h.1 g.1)
+serve_alone asked (Recall until2 info2) p h g =
+    let x : slice_index p.0 0 ≡ 115 = ap (λ t. slice_index t 0) h.0 in
+    let y : slice_index p.0 0 ≡ 114 = ap (λ t. slice_index t 0) g.0 in
+    absurd (omega (arith, x, y))
+serve_alone asked (Part list2) p h g =
+    let x : slice_index p.0 0 ≡ 115 = ap (λ t. slice_index t 0) h.0 in
+    let y : slice_index p.0 0 ≡ 112 = ap (λ t. slice_index t 0) g.0 in
+    absurd (omega (arith, x, y))
+serve_alone asked (Key viewers2) p h g =
+    let x : slice_index p.0 0 ≡ 115 = ap (λ t. slice_index t 0) h.0 in
     let y : slice_index p.0 0 ≡ 107 = ap (λ t. slice_index t 0) g.0 in
     absurd (omega (arith, x, y))
 
@@ -117,6 +169,10 @@ recall_alone until info (Host asked2) p h g =
 recall_alone until info (View asked2) p h g =
     let x : slice_index p.0 0 ≡ 114 = ap (λ t. slice_index t 0) h.0 in
     let y : slice_index p.0 0 ≡ 118 = ap (λ t. slice_index t 0) g.0 in
+    absurd (omega (arith, x, y))
+recall_alone until info (Serve asked2) p h g =
+    let x : slice_index p.0 0 ≡ 114 = ap (λ t. slice_index t 0) h.0 in
+    let y : slice_index p.0 0 ≡ 115 = ap (λ t. slice_index t 0) g.0 in
     absurd (omega (arith, x, y))
 recall_alone until info (Recall until2 info2) p h g = ap (λ o. Recall o info) (one_or_none _ p.1 _ _ until until2 h.1 g.1) ∙ ap (λ b. Recall until2 b) (h.2 ∙ sym g.2)
 recall_alone until info (Part list2) p h g =
@@ -157,6 +213,10 @@ part_alone list (View asked2) p h g =
     let x : slice_index p.0 0 ≡ 112 = ap (λ t. slice_index t 0) h.0 in
     let y : slice_index p.0 0 ≡ 118 = ap (λ t. slice_index t 0) g.0 in
     absurd (omega (arith, x, y))
+part_alone list (Serve asked2) p h g =
+    let x : slice_index p.0 0 ≡ 112 = ap (λ t. slice_index t 0) h.0 in
+    let y : slice_index p.0 0 ≡ 115 = ap (λ t. slice_index t 0) g.0 in
+    absurd (omega (arith, x, y))
 part_alone list (Recall until2 info2) p h g =
     let x : slice_index p.0 0 ≡ 112 = ap (λ t. slice_index t 0) h.0 in
     let y : slice_index p.0 0 ≡ 114 = ap (λ t. slice_index t 0) g.0 in
@@ -196,6 +256,10 @@ key_alone viewers (View asked2) p h g =
     let x : slice_index p.0 0 ≡ 107 = ap (λ t. slice_index t 0) h.0 in
     let y : slice_index p.0 0 ≡ 118 = ap (λ t. slice_index t 0) g.0 in
     absurd (omega (arith, x, y))
+key_alone viewers (Serve asked2) p h g =
+    let x : slice_index p.0 0 ≡ 107 = ap (λ t. slice_index t 0) h.0 in
+    let y : slice_index p.0 0 ≡ 115 = ap (λ t. slice_index t 0) g.0 in
+    absurd (omega (arith, x, y))
 key_alone viewers (Recall until2 info2) p h g =
     let x : slice_index p.0 0 ≡ 107 = ap (λ t. slice_index t 0) h.0 in
     let y : slice_index p.0 0 ≡ 114 = ap (λ t. slice_index t 0) g.0 in
@@ -214,6 +278,7 @@ asks_one (Rehearse viewers) b p h g = rehearse_alone viewers b p h g
 asks_one (Agree viewers turns) b p h g = agree_alone viewers turns b p h g
 asks_one (Host asked) b p h g = host_alone asked b p h g
 asks_one (View asked) b p h g = view_alone asked b p h g
+asks_one (Serve asked) b p h g = serve_alone asked b p h g
 asks_one (Recall until info) b p h g = recall_alone until info b p h g
 asks_one (Part list) b p h g = part_alone list b p h g
 asks_one (Key viewers) b p h g = key_alone viewers b p h g

@@ -8,7 +8,7 @@ use Rattle.app_words.specs.Options.{until_rule}
 use Rattle.app_words.specs.Options.{who_rule, boot_rule, exactly_rule, at_rule, give_rule}
 use Rattle.app_words.specs.Options.{give_turns_rule, wire_rule, host_viewers_rule, host_turns_rule}
 use Rattle.app_words.specs.Options.{log_rule, new_log_rule, keep_names_rule, text_rule}
-use Rattle.app_words.specs.Options.{listen_rule, host_rule, keys_rule, key_rule, folder_rule, open_rule}
+use Rattle.app_words.specs.Options.{listen_rule, host_rule, keys_rule, key_rule, world_rule, folder_rule, open_rule}
 use Rattle.app_words.specs.Options.{join_rule, no_trace_rule, info_rule, list_rule, verbose_rule, number_rule, flag_rule}
 use Rattle.app_words.specs.declared.commands.CommandWords.{CommandWords}
 use Rattle.app_words.specs.declared.options.FlagOption.{FlagOption}
@@ -57,11 +57,17 @@ host_app = taking (codes "host")
     ∷ listen_rule ∷ log_rule ∷ new_log_rule ∷ keys_rule ∷ open_rule ∷ verbose_rule ∷ [])
 
 -- `view --port P --who V --boot B --until N --exactly N --turns T --at Q --give Q --give-turns T
--- --wire VERSION --host ADDRESS:PORT --key FILE --open --join -v`
+-- --wire VERSION --host ADDRESS:PORT --key FILE --world NAME --open --join -v`
 unfoldable pub view_app : App
 view_app = taking (codes "view")
     (port_rule ∷ who_rule ∷ boot_rule ∷ until_rule ∷ exactly_rule ∷ turns_rule ∷ at_rule
-    ∷ give_rule ∷ give_turns_rule ∷ wire_rule ∷ host_rule ∷ key_rule ∷ open_rule ∷ join_rule
+    ∷ give_rule ∷ give_turns_rule ∷ wire_rule ∷ host_rule ∷ key_rule ∷ world_rule ∷ open_rule
+    ∷ join_rule ∷ verbose_rule ∷ [])
+
+-- `serve FOLDER --port P --viewers K --keep N --every MS --listen ADDRESS:PORT --open -v`
+unfoldable pub serve_app : App
+serve_app = taking (codes "serve")
+    (port_rule ∷ host_viewers_rule ∷ keep_rule ∷ every_rule ∷ folder_rule ∷ listen_rule ∷ open_rule
     ∷ verbose_rule ∷ [])
 
 -- `recall --until N --info`
@@ -77,7 +83,7 @@ unfoldable pub key_app : App
 key_app = taking (codes "key") (viewers_rule ∷ folder_rule ∷ [])
 
 -- the program with `run`, `format` and `check`; then with `rehearse` and `agree`; then with
--- `host` and `view`; with `recall`; with `part`; then with all
+-- `host` and `view`; with `serve`; with `recall`; with `part`; then with all
 unfoldable pub single_program : App
 single_program =
     with_subcommand (with_subcommand (with_subcommand bare_program run_app.top) format_app.top)
@@ -89,8 +95,11 @@ local_program = with_subcommand (with_subcommand single_program rehearse_app.top
 unfoldable pub shared_program : App
 shared_program = with_subcommand (with_subcommand local_program host_app.top) view_app.top
 
+unfoldable pub served_program : App
+served_program = with_subcommand shared_program serve_app.top
+
 unfoldable pub logged_program : App
-logged_program = with_subcommand shared_program recall_app.top
+logged_program = with_subcommand served_program recall_app.top
 
 unfoldable pub parted_program : App
 parted_program = with_subcommand logged_program part_app.top

@@ -1,10 +1,11 @@
--- Options of `view` and of `host` that don't go together, though each has its range (our choice).
+-- Options of `view`, `host` and `serve` that don't go together, though each has its range (our choice).
 use Rattle.std.specs.Prelude.{ℕ, Bool, true, false, ◌==◌, ◌&&◌, ◌||◌, nat_lt, not, is_none, is_some, Option, None, Some, if◌then◌else◌}
 use Rattle.app_words.specs.declared.misfit.Misfit.{Misfit}
 use Rattle.app_words.specs.declared.misfit.Misfit.TheVariants as misfit
 use Rattle.app_words.specs.declared.order.HostOrder.{HostOrder}
 use Rattle.app_words.specs.declared.order.LogUse.{LogUse}
 use Rattle.app_words.specs.declared.order.LogUse.TheVariants.{Without, GoesOn, Makes}
+use Rattle.app_words.specs.declared.order.ServeOrder.{ServeOrder}
 use Rattle.app_words.specs.declared.order.ViewOrder.{ViewOrder}
 
 -- the first of two reasons
@@ -18,13 +19,18 @@ place_misfit why (Some port) true = Some why
 place_misfit why None false = Some why
 place_misfit why port has_address = None
 
+-- the boot that was asked for can't be above another
+abbrev pub is_first_boot : Option ℕ → Bool
+is_first_boot None = false
+is_first_boot (Some n) = nat_lt n 2
+
 -- a viewer joins in a boot above that of a snapshot, which is at least 1, and at a port that the
--- other viewer was told
+-- other viewer was told. With a key the host gives, to the port that the viewer speaks from
 abbrev pub join_misfit : ViewOrder → Option Misfit
 join_misfit o =
     if not o.join then None
-    else if nat_lt o.boot 2 then Some misfit.FirstBoot
-    else if is_none o.at then Some misfit.NoOwnPort
+    else if is_first_boot o.boot then Some misfit.FirstBoot
+    else if not o.has_key && is_none o.at then Some misfit.NoOwnPort
     else None
 
 -- its own port is not the host's, where that is one of this machine
@@ -52,18 +58,18 @@ give_misfit port at (Some to) = given_misfit port at to
 abbrev pub open_misfit : (why : Misfit) → (has_keys is_open : Bool) → Option Misfit
 open_misfit why has_keys is_open = if has_keys && is_open then Some why else None
 
--- version 1 is spoken on one machine alone, without keys
+-- version 1 is spoken on one machine alone, without keys, and names no world
 abbrev pub first_misfit : (wire : Option ℕ) → Option Misfit
 first_misfit None = None
 first_misfit (Some n) = if n == 1 then Some misfit.FirstWire else None
 
 abbrev pub wire_misfit : ViewOrder → Option Misfit
-wire_misfit o = if o.has_key || o.has_address then first_misfit o.wire else None
+wire_misfit o =
+    if o.has_key || o.has_address || o.has_world then first_misfit o.wire else None
 
--- snapshots come from the host alone: another viewer has no key for them
+-- snapshots come from the host alone: another viewer has another key
 abbrev pub sealed_misfit : ViewOrder → Option Misfit
-sealed_misfit o =
-    if o.has_key && (o.join || is_some o.give) then Some misfit.SealedGiving else None
+sealed_misfit o = if o.has_key && is_some o.give then Some misfit.SealedGiving else None
 
 -- the first reason why the options don't go together, if there is one
 abbrev pub misfit_of : ViewOrder → Option Misfit
@@ -91,3 +97,7 @@ abbrev pub host_misfit : HostOrder → Option Misfit
 host_misfit o =
     or_else (place_misfit misfit.TwoPlaces o.port o.has_address)
     (or_else (every_misfit o) (open_misfit misfit.OpenWithKeys o.has_keys o.is_open))
+
+-- `serve` has one place, as a host
+abbrev pub serve_misfit : ServeOrder → Option Misfit
+serve_misfit o = place_misfit misfit.TwoPlaces o.port o.has_address

@@ -68,11 +68,15 @@ keys_rule = option (codes "keys")
 abbrev pub key_rule : Rule
 key_rule = option (codes "key")
 
+-- `--world NAME` of `view`
+abbrev pub world_rule : Rule
+world_rule = option (codes "world")
+
 -- VALUE, a word of its own, required
 abbrev pub word : Text → Rule
 word name = record (new_rule name) { value_names = 1; required = true }
 
--- `key FOLDER`
+-- `key FOLDER` and `serve FOLDER`
 abbrev pub folder_rule : Rule
 folder_rule = word (codes "folder")
 
@@ -80,9 +84,9 @@ folder_rule = word (codes "folder")
 abbrev pub who_rule : Rule
 who_rule = record (ranged (codes "who") 0 max_who) { required = true }
 
--- `--boot B`, from 1 to 2^32 - 1, required
+-- `--boot B`, from 1 to 2^32 - 1
 abbrev pub boot_rule : Rule
-boot_rule = record (ranged (codes "boot") 1 4294967295) { required = true }
+boot_rule = ranged (codes "boot") 1 4294967295
 
 -- `--until N`, `--exactly N` and `--keep N`, from 0 to 2^20
 abbrev pub until_rule : Rule

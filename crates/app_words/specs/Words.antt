@@ -9,20 +9,18 @@ use Rattle.clap.specs.declared.error.kind.ErrorKind.{ErrorKind}
 use Rattle.clap.specs.declared.error.kind.ErrorKind.TheVariants as kind
 use Rattle.x3d_values.specs.Ranges.{max_viewers, max_inputs}
 use Rattle.app_words.specs.Commands.{program}
-use Rattle.app_words.specs.Misfits.{host_misfit, misfit_of}
+use Rattle.app_words.specs.Misfits.{host_misfit, misfit_of, serve_misfit}
 use Rattle.app_words.specs.Options.{max_who}
 use Rattle.app_words.specs.declared.order.HostOrder.{HostOrder}
 use Rattle.app_words.specs.declared.order.LogUse.{LogUse}
 use Rattle.app_words.specs.declared.order.LogUse.TheVariants.{Without, GoesOn, Makes}
 use Rattle.app_words.specs.declared.order.Order.{Order}
-use Rattle.app_words.specs.declared.order.Order.TheVariants.{Run, Format, Check, Rehearse, Agree, Host, View, Recall, Part, Key}
-use Rattle.app_words.specs.declared.order.OrderFault.{OrderFault}
-use Rattle.app_words.specs.declared.order.OrderFault.TheVariants.{Words, Memory}
+use Rattle.app_words.specs.declared.order.Order.TheVariants.{Run, Format, Check, Rehearse, Agree, Host, View, Serve, Recall, Part, Key}
+use Rattle.app_words.specs.declared.order.ServeOrder.{ServeOrder}
 use Rattle.app_words.specs.declared.order.ViewEnd.{ViewEnd}
 use Rattle.app_words.specs.declared.order.ViewEnd.TheVariants.{Until, Exactly}
 use Rattle.app_words.specs.declared.order.ViewOrder.{ViewOrder}
-use Rattle.std.specs.declared.io.ErrorKind.{ErrorKind as IoErrorKind}
-use Rattle.std.specs.declared.io.ErrorKind.TheVariants.{OutOfMemory}
+use Rattle.app_words.specs.declared.view.ViewPorts.{ViewPorts}
 
 -- the option of this name has this number, either given or by default
 pub record HasNumber (id : Text) (rows : List Row) (n : ℕ) : Type 0 where
@@ -63,8 +61,8 @@ IsGiveTurns rows turns = HasNumberIn (codes "give-turns") rows 1 4294967295 turn
 abbrev pub IsWho : List Row → ℕ → Type 0
 IsWho rows who = HasNumberIn (codes "who") rows 0 max_who who
 
-abbrev pub IsBoot : List Row → ℕ → Type 0
-IsBoot rows boot = HasNumberIn (codes "boot") rows 1 4294967295 boot
+abbrev pub MayHaveBoot : List Row → Option ℕ → Type 0
+MayHaveBoot rows boot = MayHaveNumberIn (codes "boot") rows 1 4294967295 boot
 
 -- `--viewers` and `--turns` of `host`, which may be left out
 abbrev pub MayHaveViewers : List Row → Option ℕ → Type 0
@@ -96,6 +94,12 @@ MayHaveGive rows give = MayHaveNumberIn (codes "give") rows 1 65535 give
 
 abbrev pub MayHaveWire : List Row → Option ℕ → Type 0
 MayHaveWire rows wire = MayHaveNumberIn (codes "wire") rows 1 2 wire
+
+-- the port of the host, the viewer's own, and the one that it gives to
+pub record HasPorts (rows : List Row) (ports : ViewPorts) : Type 0 where
+  pub host : MayHavePort rows ports.host
+  pub at : MayHaveAt rows ports.at
+  pub give : MayHaveGive rows ports.give
 
 -- one of `--until` and `--exactly` was given, and it says when a viewer ends
 abbrev pub IsEnd : List Row → ViewEnd → Type 0
@@ -152,9 +156,10 @@ pub record AsksView (rows : List Row) (o : ViewOrder) : Type 0 where
   pub port : MayHavePort rows o.port
   pub has_address : o.has_address ≡ is_text_given (codes "host") rows
   pub has_key : o.has_key ≡ is_text_given (codes "key") rows
+  pub has_world : o.has_world ≡ is_text_given (codes "world") rows
   pub is_open : o.is_open ≡ is_given (codes "open") rows
   pub who : IsWho rows o.who
-  pub boot : IsBoot rows o.boot
+  pub boot : MayHaveBoot rows o.boot
   pub end : IsEnd rows o.end
   pub turns : IsTurns rows o.turns
   pub at : MayHaveAt rows o.at
@@ -162,6 +167,16 @@ pub record AsksView (rows : List Row) (o : ViewOrder) : Type 0 where
   pub give_turns : IsGiveTurns rows o.give_turns
   pub wire : MayHaveWire rows o.wire
   pub join : o.join ≡ is_given (codes "join") rows
+  pub verbose : o.verbose ≡ is_given (codes "verbose") rows
+
+-- the matches of `serve` ask for this
+pub record AsksServe (rows : List Row) (o : ServeOrder) : Type 0 where
+  pub port : MayHavePort rows o.port
+  pub has_address : o.has_address ≡ is_text_given (codes "listen") rows
+  pub is_open : o.is_open ≡ is_given (codes "open") rows
+  pub viewers : MayHaveViewers rows o.viewers
+  pub keep : MayHaveKeep rows o.keep
+  pub every : MayHaveEvery rows o.every
   pub verbose : o.verbose ≡ is_given (codes "verbose") rows
 
 -- the command of this name with these matches asks for this
@@ -174,6 +189,7 @@ Asks (Agree viewers turns) p =
     (p.0 ≡ codes "agree") × IsViewers p.1 viewers × IsTurns p.1 turns
 Asks (Host o) p = (p.0 ≡ codes "host") × AsksHost p.1 o × (host_misfit o ≡ None)
 Asks (View o) p = (p.0 ≡ codes "view") × AsksView p.1 o × (misfit_of o ≡ None)
+Asks (Serve o) p = (p.0 ≡ codes "serve") × AsksServe p.1 o × (serve_misfit o ≡ None)
 Asks (Recall until info) p =
     (p.0 ≡ codes "recall") × MayHaveUntil p.1 until × (info ≡ is_given (codes "info") p.1)
 Asks (Part list) p = (p.0 ≡ codes "part") × (list ≡ is_given (codes "list") p.1)
@@ -208,7 +224,7 @@ pub record HostInRange (o : HostOrder) : Type 0 where
 pub record ViewInRange (o : ViewOrder) : Type 0 where
   pub port_low : IfSome o.port (λ n. 1 ≤ n)
   pub who_high : o.who < max_viewers
-  pub boot_low : 1 ≤ o.boot
+  pub boot_low : IfSome o.boot (λ n. 1 ≤ n)
   pub end_high : end_count o.end ≤ max_inputs
   pub turns_low : 1 ≤ o.turns
   pub turns_high : o.turns ≤ 10000000
@@ -219,20 +235,26 @@ pub record ViewInRange (o : ViewOrder) : Type 0 where
   pub wire_high : IfSome o.wire (λ v. v ≤ 2)
   pub together : misfit_of o ≡ None
 
+-- the numbers of an order to serve are in their ranges
+pub record ServeInRange (o : ServeOrder) : Type 0 where
+  pub port_low : IfSome o.port (λ n. 1 ≤ n)
+  pub viewers_low : IfSome o.viewers (λ n. 1 ≤ n)
+  pub viewers_high : IfSome o.viewers (λ n. n ≤ max_viewers)
+  pub keep_high : IfSome o.keep (λ n. n ≤ max_inputs)
+  pub every_low : IfSome o.every (λ n. 1 ≤ n)
+  pub every_high : IfSome o.every (λ n. n ≤ 3600000)
+  pub together : serve_misfit o ≡ None
+
 -- the numbers of an order are in the ranges that hosts and viewers take
 abbrev pub IsInRange : Order → Type 0
 IsInRange (Rehearse viewers) = (1 ≤ viewers) × (viewers ≤ max_viewers)
 IsInRange (Agree viewers turns) = (1 ≤ viewers) × (viewers ≤ max_viewers)
 IsInRange (Host o) = HostInRange o
 IsInRange (View o) = ViewInRange o
+IsInRange (Serve o) = ServeInRange o
 IsInRange (Recall until info) = IfSome until (λ n. n ≤ max_inputs)
 IsInRange (Key viewers) = (1 ≤ viewers) × (viewers ≤ max_viewers)
 IsInRange _ = ⊤
-
--- why the process's own words can't be read: memory was refused, or one of them is not a text
-abbrev pub order_fault_of : IoErrorKind → OrderFault
-order_fault_of OutOfMemory = Memory
-order_fault_of _ = Words
 
 -- ---- help
 

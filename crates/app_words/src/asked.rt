@@ -6,9 +6,10 @@ ghost use Rattle.app_words.specs.Words.{Asks, text_named};
 ghost use Rattle.app_words.specs.declared.order.Order.{Order as OrderOf};
 
 use crate::host::host_asked;
-use crate::misfit::{Misfit, host_misfit, misfit_of};
+use crate::misfit::{Misfit, host_misfit, misfit_of, serve_misfit};
 use crate::numbers::{is_named, text_in, turns_in, until_in, viewers_in};
 use crate::order::Order;
+use crate::serve::serve_asked;
 use crate::view::view_asked;
 use clap::ArgMatches;
 
@@ -65,6 +66,20 @@ fn view_in(found: &ArgMatches<'_>) -> Option<Order>
     }
 }
 
+fn serve_in(found: &ArgMatches<'_>) -> Option<Order>
+    ensures some { IfSome result (λ o. Asks o (codes "serve", rows_of (found_of found.now))) }
+    ensures none { IfNone result
+        ((o : OrderOf) → ¬ Asks o (codes "serve", rows_of (found_of found.now))) }
+{
+    let Some(asked) = serve_asked(found) else {
+        return None;
+    };
+    match serve_misfit(&asked) {
+        None => Some(Order::Serve(asked)),
+        Some(_) => None,
+    }
+}
+
 fn recall_in(found: &ArgMatches<'_>) -> Option<Order>
     ensures some { IfSome result (λ o. Asks o (codes "recall", rows_of (found_of found.now))) }
     ensures none { IfNone result
@@ -110,8 +125,8 @@ fn key_in(found: &ArgMatches<'_>) -> Option<Order>
     Some(Order::Key { viewers })
 }
 
-/// Returns why the options of `view` or of `host` don't go together, if the matches are of one of
-/// these and they don't.
+/// Returns why the options of `view`, of `host` or of `serve` don't go together, if the matches are
+/// of one of these and they don't.
 pub fn misfit_in(matches: &ArgMatches<'_>) -> Option<Misfit> {
     match matches.subcommand()? {
         ("host", found) => match host_asked(found) {
@@ -122,6 +137,7 @@ pub fn misfit_in(matches: &ArgMatches<'_>) -> Option<Misfit> {
             Some(asked) => misfit_of(&asked),
             None => Some(Misfit::End),
         },
+        ("serve", found) => serve_misfit(&serve_asked(found)?),
         _ => None,
     }
 }
@@ -140,6 +156,7 @@ fn order_of(name: &str, found: &ArgMatches<'_>) -> Option<Order>
         "agree" => agree_in(found),
         "host" => host_in(found),
         "view" => view_in(found),
+        "serve" => serve_in(found),
         "recall" => recall_in(found),
         "part" => part_in(found),
         "key" => key_in(found),

@@ -6,19 +6,19 @@ ghost use Rattle.clap.specs.Words.{app_of, with_subcommand};
 ghost use Rattle.clap.specs.declared.builder.command.Command.TheViews.{out-Command as fields_of};
 ghost use Rattle.app_words.specs.Commands.{bare_program, program, app_with, with_command};
 ghost use Rattle.app_words.specs.Commands.{run_app, format_app, check_app};
-ghost use Rattle.app_words.specs.Commands.{rehearse_app, agree_app, host_app, view_app, recall_app};
-ghost use Rattle.app_words.specs.Commands.{part_app, key_app};
+ghost use Rattle.app_words.specs.Commands.{rehearse_app, agree_app, host_app, view_app, serve_app};
+ghost use Rattle.app_words.specs.Commands.{recall_app, part_app, key_app};
 
 use crate::arguments::{flag_arg, number_arg, text_arg};
 use crate::help::{
     AGREE_HELP, CHECK_HELP, FORMAT_HELP, HOST_HELP, KEY_HELP, PART_HELP, PROGRAM_HELP, RECALL_HELP,
-    REHEARSE_HELP, RUN_HELP, VIEW_HELP,
+    REHEARSE_HELP, RUN_HELP, SERVE_HELP, VIEW_HELP,
 };
 use crate::options::{
     AT, BOOT, EVERY, EXACTLY, FOLDER, FlagOption, GIVE, GIVE_TURNS, HOST, HOST_TURNS, HOST_UNTIL,
     HOST_VIEWERS, INFO, JOIN, KEEP, KEEP_NAMES, KEY, KEYS, LIST, LISTEN, LOG, NEW_LOG, NO_TRACE,
     NumberOption, OPEN, PORT, RECALL_UNTIL, TURNS, TextOption, VERBOSE, VIEW_UNTIL, VIEWERS, WHO,
-    WIRE,
+    WIRE, WORLD, WORLD_EVERY, WORLD_VIEWERS, WORLDS,
 };
 use clap::Command;
 use std::alloc::{AllocError, Global};
@@ -94,13 +94,21 @@ static SHARED_COMMANDS: [CommandWords; 2] = [
         options: &[
             PORT, WHO, BOOT, VIEW_UNTIL, EXACTLY, TURNS, AT, GIVE, GIVE_TURNS, WIRE,
         ],
-        texts: &[HOST, KEY],
+        texts: &[HOST, KEY, WORLD],
         flags: &[OPEN, JOIN, VERBOSE],
     },
 ];
 
-/// The commands of files, in the order of help.
-static FILE_COMMANDS: [CommandWords; 3] = [
+/// The commands of a folder and of files, in the order of help.
+static FILE_COMMANDS: [CommandWords; 4] = [
+    CommandWords {
+        name: "serve",
+        about: "Serve the worlds of a folder, over one UDP socket",
+        after_help: SERVE_HELP,
+        options: &[PORT, WORLD_VIEWERS, KEEP, WORLD_EVERY],
+        texts: &[WORLDS, LISTEN],
+        flags: &[OPEN, VERBOSE],
+    },
     CommandWords {
         name: "recall",
         about: "Print the inputs of a host's log as the steps of a job",
@@ -144,7 +152,7 @@ fn shared_commands() -> &'static [CommandWords]
 
 /// Returns the last commands.
 fn file_commands() -> &'static [CommandWords]
-    ensures { map app_with result.now ≡ recall_app ∷ part_app ∷ key_app ∷ [] }
+    ensures { map app_with result.now ≡ serve_app ∷ recall_app ∷ part_app ∷ key_app ∷ [] }
 {
     &FILE_COMMANDS
 }

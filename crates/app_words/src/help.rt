@@ -94,14 +94,17 @@ With --until N the host ends once N inputs are numbered, at least one viewer was
 viewer that was heard has asked for the input after the last. Without it the host takes all its
 turns. With --keep N it drops the inputs that all viewers that were heard have asked past, except
 the last N, but none before K viewers were heard or 30 seconds have passed. A viewer that comes
-later joins by the snapshot of another viewer (`view --join`), or never catches up. A viewer that
-hasn't asked for 10 seconds doesn't count until it asks again.
+later joins by a snapshot (`view --join`), or never catches up. A viewer that hasn't asked for 10
+seconds doesn't count until it asks again.
 A turn takes up to 64 datagrams. If nothing comes, the host rests between turns for 1 to 50
 milliseconds, so 1000000 turns last up to 14 hours.
 With --listen ADDRESS:PORT the host is on a network. A name is looked up once, as the host starts.
 Beyond the loopback addresses that takes --keys, or the word --open. `key` makes the keys. With them
 the host drops what isn't sealed by a viewer's key, and answers nothing else; nothing is encrypted.
-Without them whoever has the scene may take part. With either it speaks version 2 of datagrams.
+Without them whoever has the scene may take part. With either it speaks version 2 of datagrams. Then
+an address that the host doesn't know gets one answer of no more bytes than it sent, and is known
+once it has sent back the cookie in it. Of each viewer it takes 8 datagrams a turn and 64 offers a
+second. With --keys it keeps the world, and gives its snapshot to viewers that join.
 With --listen it knows 512 addresses. The 128 that it answered last stay; of the others the one that
 came first gives way.
 With --new-log FILE the host makes a log, and stores each input in it before it sends it. After the
@@ -148,11 +151,14 @@ pub(crate) const VIEW_HELP: &str = "A job of this viewer's points is read from s
 One of --until and --exactly is required. With --until N the viewer ends once at least N inputs are
 applied. It may have applied up to 126 more by then, so two viewers may print different texts. With
 --exactly N it ignores later inputs, and two viewers print the same bytes.
+Without --boot it takes the boot after the last one that the host knows of it, or the seconds since
+2020 if they are more, so a viewer that is started again works.
 A viewer that comes late needn't ask for all inputs. With --join --at Q it starts from a snapshot
-that another viewer sends to port Q in pieces, and asks for the inputs after it. Its --boot must be
-above the other viewer's. With --give Q a viewer that has applied its N inputs prints its texts, and
-then sends its snapshot to port Q repeatedly, a piece of 192 bytes a turn, in --give-turns turns. Of
-these 32 take a millisecond or two, so 1000000 last about a minute.
+that another viewer sends to port Q in pieces, and asks for the inputs after it. A --boot must be
+above the other viewer's. With --key --join the host gives, and no --at is needed. With --give Q a
+viewer that has applied its N inputs prints its texts, and then sends its snapshot to port Q
+repeatedly, a piece of 192 bytes a turn, in --give-turns turns. Of these 32 take a millisecond or
+two, so 1000000 last about a minute.
 A turn of the others takes up to 64 datagrams. If nothing comes, a turn waits 50 milliseconds, and
 up to 50 more pass before the next, so 1000000 turns last up to 28 hours.
 A viewer that is stopped by a signal before its inputs are applied prints nothing.
@@ -163,16 +169,42 @@ With --host ADDRESS:PORT the host is on another machine. A name is looked up onc
 starts. Beyond the loopback addresses that takes --key, or the word --open. With --key FILE it seals
 what it sends, and drops what isn't sealed by the host with its key; its host has to have --keys.
 With either it speaks version 2, as with --wire 2. The ports of --at and --give are of this machine.
+With --world NAME it is of that world of a host that serves many, and speaks version 2.
 
 Examples:
-  x3d_share view --port 4000 --who 0 --boot 1 --until 2 < examples/view.job
-  x3d_share view --host 192.0.2.7:4000 --key viewer-0.key --who 0 --boot 1 --until 2 < view.job
+  x3d_share view --port 4000 --who 0 --until 2 < examples/view.job
+  x3d_share view --host 192.0.2.7:4000 --key viewer-0.key --who 0 --until 2 < view.job
 
 Status:
   0  the trace and the scene are printed
   1  the scene is refused, or with --join, what was gathered is not a snapshot of it
-  2  the words, the job, the address or the key are refused, or with --join, the boot is
-  3  all turns were used up, the run is over, or with --wire 2, --host or --key, no host answered
+  2  the words, the job, the address or the key are refused, or with --join, the boot is, or no boot
+     is left
+  3  all turns were used up, the run is over, or with --wire 2, --host, --key or --world, no host
+     answered
+  4  a device failed
+  5  memory ran out";
+
+pub(crate) const SERVE_HELP: &str = "Nothing is read from standard input, and nothing is printed.
+
+Each file NAME.job in FOLDER is a world, a job of clocks as of `host`. Its log is NAME.x3dlog, which
+is made if it isn't there, and its keys are those of NAME.keys, if that file is there. NAME is up to
+64 letters, digits, '-', '_' and '.'. A viewer names its world by `view --world NAME`, and speaks
+version 2 of datagrams alone.
+The folder is read each second. A world is added when its job appears, tried again when its job
+changes, and dropped when its job goes; its log stays. A world that is refused is told once on
+standard error, with its name, and the others go on.
+Each world is as with `host --log`: it goes on where its log ends. --keep, --every and --viewers are
+those of each world.
+With --listen ADDRESS:PORT the socket is on a network. Beyond the loopback addresses a world takes
+keys, or the word --open.
+It runs until it is stopped by a signal.
+
+Example:
+  x3d_share serve --listen 192.0.2.7:4000 worlds
+
+Status:
+  2  the words or the address are refused, or the folder can't be read
   4  a device failed
   5  memory ran out";
 

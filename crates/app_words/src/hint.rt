@@ -1,11 +1,11 @@
 //! What is wrong with words that are refused.
 
 ghost use Rattle.std.specs.Prelude.{◌≡◌, IfErr};
-ghost use Rattle.app_words.specs.declared.order.OrderFault.TheVariants as fault;
+ghost use Rattle.app_faults.specs.declared.fault.OrderFault.TheVariants as fault;
 
 use crate::asked::misfit_in;
 use crate::commands::program_command;
-use crate::order::OrderFault;
+use app_faults::OrderFault;
 use clap::Error;
 use clap::error::ErrorKind;
 use std::alloc::{AllocError, Global};

@@ -11,8 +11,8 @@ use crate::order::{HostOrder, LogUse};
 use clap::ArgMatches;
 use x3d_values::{MAX_INPUTS, MAX_VIEWERS};
 
-/// Returns the number of viewers of `host`, or `Some(None)` if it was left out.
-fn viewers_or_none(found: &ArgMatches<'_>) -> Option<Option<u8>>
+/// Returns the number of viewers of `host` or `serve`, or `Some(None)` if it was left out.
+pub(crate) fn viewers_or_none(found: &ArgMatches<'_>) -> Option<Option<u8>>
     ensures some { IfSome result (λ o. MayHaveViewers (rows_of (found_of found.now)) o) }
     ensures none { IfNone result
         ((o : Option ℕ) → ¬ MayHaveViewers (rows_of (found_of found.now)) o) }
@@ -32,7 +32,8 @@ fn turns_or_none(found: &ArgMatches<'_>) -> Option<Option<u32>>
     optional_in(found, "turns", 1, 10_000_000)
 }
 
-fn keep_in(found: &ArgMatches<'_>) -> Option<Option<u32>>
+/// Returns the number of `--keep`, or `Some(None)` if it was left out.
+pub(crate) fn keep_in(found: &ArgMatches<'_>) -> Option<Option<u32>>
     ensures some { IfSome result (λ o. MayHaveKeep (rows_of (found_of found.now)) o) }
     ensures none { IfNone result
         ((o : Option ℕ) → ¬ MayHaveKeep (rows_of (found_of found.now)) o) }
@@ -40,7 +41,8 @@ fn keep_in(found: &ArgMatches<'_>) -> Option<Option<u32>>
     optional_in(found, "keep", 0, MAX_INPUTS)
 }
 
-fn every_in(found: &ArgMatches<'_>) -> Option<Option<u32>>
+/// Returns the number of `--every`, or `Some(None)` if it was left out.
+pub(crate) fn every_in(found: &ArgMatches<'_>) -> Option<Option<u32>>
     ensures some { IfSome result (λ o. MayHaveEvery (rows_of (found_of found.now)) o) }
     ensures none { IfNone result
         ((o : Option ℕ) → ¬ MayHaveEvery (rows_of (found_of found.now)) o) }

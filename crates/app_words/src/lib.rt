@@ -12,10 +12,12 @@ mod misfit;
 mod numbers;
 mod options;
 mod order;
+mod serve;
 mod view;
 mod words;
 
+pub use app_faults::OrderFault;
 pub use hint::hint_of;
 pub use laws::{help_and_version_are_asked_for, words_mean_one_order};
-pub use order::{HostOrder, LogUse, Order, OrderFault, Request, ViewEnd, ViewOrder};
+pub use order::{HostOrder, LogUse, Order, Request, ServeOrder, ViewEnd, ViewOrder};
 pub use words::{request_of, text_of};

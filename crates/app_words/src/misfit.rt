@@ -1,15 +1,16 @@
-//! Options of `view` and of `host` that don't go together.
+//! Options of `view`, `host` and `serve` that don't go together.
 
 ghost use Rattle.std.specs.Prelude.{◌≡◌};
 ghost use Rattle.app_words.specs.Misfits.{at_misfit, every_misfit, give_misfit, given_misfit};
-ghost use Rattle.app_words.specs.Misfits.{first_misfit, has_log, host_misfit, join_misfit};
-ghost use Rattle.app_words.specs.Misfits.{misfit_of, open_misfit};
-ghost use Rattle.app_words.specs.Misfits.{own_misfit, place_misfit, sealed_misfit, wire_misfit};
+ghost use Rattle.app_words.specs.Misfits.{first_misfit, has_log, host_misfit, is_first_boot};
+ghost use Rattle.app_words.specs.Misfits.{join_misfit, misfit_of, open_misfit};
+ghost use Rattle.app_words.specs.Misfits.{own_misfit, place_misfit, sealed_misfit, serve_misfit};
+ghost use Rattle.app_words.specs.Misfits.{wire_misfit};
 
-use crate::order::{HostOrder, LogUse, ViewOrder};
+use crate::order::{HostOrder, LogUse, ServeOrder, ViewOrder};
 use thiserror::Error;
 
-/// Why the options of `view` or of `host` don't go together.
+/// Why the options of `view`, of `host` or of `serve` don't go together.
 #[derive(Clone, Copy, Debug, PartialEq, Eq, Error)]
 pub enum Misfit {
     /// `--until` and `--exactly` were both given, or neither.
@@ -18,8 +19,8 @@ pub enum Misfit {
     /// A viewer joins in a boot that can't be above that of a snapshot.
     #[error("--join --boot 1: a boot above that of the viewer that gives, so at least 2")]
     FirstBoot,
-    /// A viewer joins, and no one knows its port.
-    #[error("--join: --at Q is required, the port to which another viewer gives")]
+    /// A viewer without a key joins, and no one knows its port.
+    #[error("--join: --at Q is required, the port to which another viewer gives, or --key")]
     NoOwnPort,
     /// A viewer's own port is that of the host.
     #[error("--at {0}: a port other than the host's")]
@@ -36,11 +37,12 @@ pub enum Misfit {
     /// A viewer has a key, and goes to a host of whoever comes.
     #[error("one of --key and --open, and not both")]
     OpenWithKey,
-    /// A viewer with a key is to give to another viewer, or to join by what another one gives.
-    #[error("--key: neither with --give nor with --join, since another viewer has another key")]
+    /// A viewer with a key is to give to another viewer.
+    #[error("--key: not with --give, since another viewer has another key")]
     SealedGiving,
-    /// A viewer with a key, or of a host at an address, is to speak version 1.
-    #[error("--wire 1: neither with --key nor with --host")]
+    /// A viewer with a key, of a host at an address, or of a world with a name, is to speak
+    /// version 1.
+    #[error("--wire 1: not with --key, --host or --world")]
     FirstWire,
     /// `--port` and `--listen` were both given, or neither.
     #[error("one of --port and --listen is required, and not both")]
@@ -71,14 +73,23 @@ fn open_misfit(why: Misfit, has_keys: bool, is_open: bool) -> Option<Misfit>
     if has_keys && is_open { Some(why) } else { None }
 }
 
+fn is_first_boot(boot: Option<u32>) -> bool
+    ensures { result ≡ is_first_boot boot }
+{
+    match boot {
+        Some(boot) => boot < 2,
+        None => false,
+    }
+}
+
 fn join_misfit(asked: &ViewOrder) -> Option<Misfit>
     ensures { result ≡ join_misfit asked.now }
 {
     if !asked.join {
         None
-    } else if asked.boot < 2 {
+    } else if is_first_boot(asked.boot) {
         Some(Misfit::FirstBoot)
-    } else if asked.at.is_none() {
+    } else if !asked.has_key && asked.at.is_none() {
         Some(Misfit::NoOwnPort)
     } else {
         None
@@ -133,7 +144,7 @@ fn first_misfit(wire: Option<u8>) -> Option<Misfit>
 fn wire_misfit(asked: &ViewOrder) -> Option<Misfit>
     ensures { result ≡ wire_misfit asked.now }
 {
-    if asked.has_key || asked.has_address {
+    if asked.has_key || asked.has_address || asked.has_world {
         first_misfit(asked.wire)
     } else {
         None
@@ -143,7 +154,7 @@ fn wire_misfit(asked: &ViewOrder) -> Option<Misfit>
 fn sealed_misfit(asked: &ViewOrder) -> Option<Misfit>
     ensures { result ≡ sealed_misfit asked.now }
 {
-    if asked.has_key && (asked.join || asked.give.is_some()) {
+    if asked.has_key && asked.give.is_some() {
         Some(Misfit::SealedGiving)
     } else {
         None
@@ -208,4 +219,11 @@ pub(crate) fn host_misfit(asked: &HostOrder) -> Option<Misfit>
         return Some(misfit);
     }
     open_misfit(Misfit::OpenWithKeys, asked.has_keys, asked.is_open)
+}
+
+/// Returns the reason why the options of `serve` don't go together, if there is one.
+pub(crate) fn serve_misfit(asked: &ServeOrder) -> Option<Misfit>
+    ensures { result ≡ serve_misfit asked.now }
+{
+    place_misfit(Misfit::TwoPlaces, asked.port, asked.has_address)
 }

@@ -108,12 +108,28 @@ pub const KEY: TextOption = TextOption {
     help: "Has the key of FILE, and takes what a host with this key sends",
 };
 
+/// The option `--world` of `view`.
+pub const WORLD: TextOption = TextOption {
+    name: "world",
+    is_word: false,
+    value: "NAME",
+    help: "The name of the world, at a host that serves many",
+};
+
 /// The folder of `key`.
 pub const FOLDER: TextOption = TextOption {
     name: "folder",
     is_word: true,
     value: "FOLDER",
     help: "Where the files of keys are made",
+};
+
+/// The folder of `serve`.
+pub const WORLDS: TextOption = TextOption {
+    name: "folder",
+    is_word: true,
+    value: "FOLDER",
+    help: "Where the jobs, the logs and the keys of the worlds are",
 };
 
 pub const OPEN: FlagOption = FlagOption {
@@ -130,6 +146,16 @@ pub const HOST_VIEWERS: NumberOption = NumberOption {
     unless: Unless::Nothing,
     value: "K",
     help: "How many viewers, 1 to 64 [default: 2, or with --log those of the log]",
+};
+
+/// The option `--viewers` of `serve`.
+pub const WORLD_VIEWERS: NumberOption = NumberOption {
+    name: "viewers",
+    low: 1,
+    high: MAX_VIEWERS as u32,
+    unless: Unless::Nothing,
+    value: "K",
+    help: "How many viewers a new world has, 1 to 64 [default: 2]",
 };
 
 /// The option `--turns` of `host`.
@@ -181,6 +207,16 @@ pub const EVERY: NumberOption = NumberOption {
     help: "With a log, makes a clock every MS milliseconds after the job's, 1 to 3600000",
 };
 
+/// The option `--every` of `serve`.
+pub const WORLD_EVERY: NumberOption = NumberOption {
+    name: "every",
+    low: 1,
+    high: 3_600_000,
+    unless: Unless::Nothing,
+    value: "MS",
+    help: "Makes a clock in each world every MS milliseconds after its job's, 1 to 3600000",
+};
+
 /// The option `--until` of `host`.
 pub const HOST_UNTIL: NumberOption = NumberOption {
     name: "until",
@@ -204,9 +240,9 @@ pub const BOOT: NumberOption = NumberOption {
     name: "boot",
     low: 1,
     high: u32::MAX,
-    unless: Unless::Refused,
+    unless: Unless::Nothing,
     value: "B",
-    help: "How often this viewer was started, counting this time, 1 to 4294967295",
+    help: "Which start of this viewer this is, 1 to 4294967295 [default: one that works]",
 };
 
 /// The option `--until` of `view`.
@@ -277,7 +313,7 @@ pub const WIRE: NumberOption = NumberOption {
 pub const JOIN: FlagOption = FlagOption {
     name: "join",
     letter: None,
-    help: "Starts from the snapshot that another viewer sends to its port",
+    help: "Starts from the snapshot that another viewer, or with --key the host, sends to its port",
 };
 
 pub const NO_TRACE: FlagOption = FlagOption {

@@ -1,14 +1,5 @@
 //! What a command line asks for.
 
-ghost use Rattle.std.specs.Prelude.{◌≡◌};
-ghost use Rattle.std.specs.IoError.{error_kind};
-ghost use Rattle.app_words.specs.Words.{order_fault_of};
-ghost use Rattle.app_words.specs.declared.order.OrderFault.TheVariants as order_fault;
-
-use std::alloc::AllocError;
-use std::io;
-use thiserror::Error;
-
 /// Whether a host has a log, and whether its file is there. `text_of` returns the file's name.
 #[derive(Clone, Copy, PartialEq, Eq)]
 pub enum LogUse {
@@ -66,12 +57,15 @@ pub struct ViewOrder {
     pub has_address: bool,
     /// `--key`: it has the key of the file that the option names.
     pub has_key: bool,
+    /// `--world`: it is of the world that the option names, at a host that serves many.
+    pub has_world: bool,
     /// `--open`: it goes to a host on any machine without a key.
     pub is_open: bool,
     /// The number of the viewer, below `MAX_VIEWERS` of x3d_values.
     pub who: u8,
-    /// How often the viewer has been started, counting this time, 1 to 2^32 - 1.
-    pub boot: u32,
+    /// How often the viewer has been started, counting this time, 1 to 2^32 - 1; `None` for a boot
+    /// that works.
+    pub boot: Option<u32>,
     pub end: ViewEnd,
     /// The limit of turns, 1 to 10,000,000.
     pub turns: u32,
@@ -83,8 +77,30 @@ pub struct ViewOrder {
     pub give_turns: u32,
     /// The version of datagrams, 1 or 2; `None` for 2, or 1 if the host doesn't answer in 2.
     pub wire: Option<u8>,
-    /// Joins from the pieces of another viewer's snapshot.
+    /// Joins from the pieces of a snapshot: another viewer's, or with a key the host's.
     pub join: bool,
+    /// Reports events on standard error.
+    pub verbose: bool,
+}
+
+/// What `serve` does; the worlds are those of the folder that its word names. `text_of` returns the
+/// folder's name, and the address.
+#[derive(Clone, Copy, PartialEq, Eq)]
+pub struct ServeOrder {
+    /// The UDP port of 127.0.0.1 to bind, 1 to 65,535; `None` if `--listen` names an address.
+    pub port: Option<u16>,
+    /// `--listen`: it binds the address that the option names.
+    pub has_address: bool,
+    /// `--open`: worlds without keys are served to whoever has the scene, on any machine.
+    pub is_open: bool,
+    /// How many viewers a new world can have, 1 to `MAX_VIEWERS` of x3d_values, if that is given.
+    pub viewers: Option<u8>,
+    /// How many of a world's last inputs are kept for viewers that have them, 0 to 2^20; `None`
+    /// keeps all.
+    pub keep: Option<u32>,
+    /// How many milliseconds pass from one clock that a world's host makes to the next, 1 to
+    /// 3,600,000, once those of its job are over; `None` for no such clocks.
+    pub every: Option<u32>,
     /// Reports events on standard error.
     pub verbose: bool,
 }
@@ -104,6 +120,7 @@ pub enum Order {
     Agree { viewers: u8, turns: u32 },
     Host(HostOrder),
     View(ViewOrder),
+    Serve(ServeOrder),
     /// `recall`: the input is a log's file; at most this many of its inputs, 0 to 2^20, or all.
     /// `info` prints what the log has instead of them.
     Recall { until: Option<u32>, info: bool },
@@ -118,33 +135,4 @@ pub enum Order {
 pub enum Request {
     Text(String),
     Order(Order),
-}
-
-/// Why words ask for nothing.
-#[derive(Clone, Copy, Debug, PartialEq, Eq, Error)]
-pub enum OrderFault {
-    #[error("the words are not a command")]
-    Words,
-    #[error("memory was refused")]
-    Memory,
-}
-
-impl From<AllocError> for OrderFault {
-    ghost from_gives = { λ _ fault. fault ≡ order_fault.Memory };
-
-    fn from(_refused: AllocError) -> OrderFault {
-        OrderFault::Memory
-    }
-}
-
-/// The fault if the process's own words can't be read.
-impl From<io::Error> for OrderFault {
-    ghost from_gives = { λ error fault. fault ≡ order_fault_of (error_kind error) };
-
-    fn from(error: io::Error) -> OrderFault {
-        match error.kind() {
-            io::ErrorKind::OutOfMemory => OrderFault::Memory,
-            _ => OrderFault::Words,
-        }
-    }
 }

@@ -3,11 +3,12 @@
 ghost use Rattle.std.specs.Prelude.{◌≡◌, ℕ, Option, IfSome, IfNone};
 ghost use Rattle.clap.specs.Words.{rows_of, found_of};
 ghost use Rattle.app_words.specs.Words.{AsksView, IsEnd, end_of};
-ghost use Rattle.app_words.specs.Words.{IsGiveTurns, IsWho, IsBoot};
-ghost use Rattle.app_words.specs.Words.{MayHaveAt, MayHaveExactly, MayHaveGive};
+ghost use Rattle.app_words.specs.Words.{HasPorts, IsGiveTurns, IsWho};
+ghost use Rattle.app_words.specs.Words.{MayHaveAt, MayHaveBoot, MayHaveExactly, MayHaveGive};
 ghost use Rattle.app_words.specs.Words.{MayHaveWire};
 ghost use Rattle.app_words.specs.declared.order.ViewEnd.{ViewEnd as EndOf};
 ghost use Rattle.app_words.specs.declared.order.ViewOrder.{ViewOrder as ViewOf};
+ghost use Rattle.app_words.specs.declared.view.ViewPorts.{ViewPorts as PortsOf};
 
 use crate::numbers::{
     is_named, is_text_given, number_in, optional_in, port_in, port_or_none, turns_in, until_in,
@@ -17,6 +18,14 @@ use crate::order::{ViewEnd, ViewOrder};
 use clap::ArgMatches;
 use x3d_values::MAX_INPUTS;
 
+/// The ports that `view` names.
+#[derive(Clone, Copy)]
+struct ViewPorts {
+    host: Option<u16>,
+    at: Option<u16>,
+    give: Option<u16>,
+}
+
 fn who_in(found: &ArgMatches<'_>) -> Option<u8>
     ensures some { IfSome result (λ n. IsWho (rows_of (found_of found.now)) n) }
     ensures none { IfNone result ((n : ℕ) → ¬ IsWho (rows_of (found_of found.now)) n) }
@@ -25,11 +34,12 @@ fn who_in(found: &ArgMatches<'_>) -> Option<u8>
     Some(who as u8)
 }
 
-fn boot_in(found: &ArgMatches<'_>) -> Option<u32>
-    ensures some { IfSome result (λ n. IsBoot (rows_of (found_of found.now)) n) }
-    ensures none { IfNone result ((n : ℕ) → ¬ IsBoot (rows_of (found_of found.now)) n) }
+fn boot_in(found: &ArgMatches<'_>) -> Option<Option<u32>>
+    ensures some { IfSome result (λ o. MayHaveBoot (rows_of (found_of found.now)) o) }
+    ensures none { IfNone result
+        ((o : Option ℕ) → ¬ MayHaveBoot (rows_of (found_of found.now)) o) }
 {
-    number_in(found, "boot", 1, u32::MAX)
+    optional_in(found, "boot", 1, u32::MAX)
 }
 
 fn exactly_in(found: &ArgMatches<'_>) -> Option<Option<u32>>
@@ -54,6 +64,25 @@ fn give_in(found: &ArgMatches<'_>) -> Option<Option<u16>>
         ((o : Option ℕ) → ¬ MayHaveGive (rows_of (found_of found.now)) o) }
 {
     port_or_none(found, "give")
+}
+
+/// Returns the port of the host, the viewer's own and the one that it gives to, each if it was
+/// given, or `None` if one is out of its range.
+fn ports_in(found: &ArgMatches<'_>) -> Option<ViewPorts>
+    ensures some { IfSome result (λ p. HasPorts (rows_of (found_of found.now)) p) }
+    ensures none { IfNone result
+        ((p : PortsOf) → ¬ HasPorts (rows_of (found_of found.now)) p) }
+{
+    let Some(host) = port_in(found) else {
+        return None;
+    };
+    let Some(at) = at_in(found) else {
+        return None;
+    };
+    let Some(give) = give_in(found) else {
+        return None;
+    };
+    Some(ViewPorts { host, at, give })
 }
 
 fn give_turns_in(found: &ArgMatches<'_>) -> Option<u32>
@@ -109,7 +138,7 @@ pub(crate) fn view_asked(found: &ArgMatches<'_>) -> Option<ViewOrder>
     ensures some { IfSome result (λ o. AsksView (rows_of (found_of found.now)) o) }
     ensures none { IfNone result ((o : ViewOf) → ¬ AsksView (rows_of (found_of found.now)) o) }
 {
-    let Some(port) = port_in(found) else {
+    let Some(ports) = ports_in(found) else {
         return None;
     };
     let Some(who) = who_in(found) else {
@@ -124,12 +153,6 @@ pub(crate) fn view_asked(found: &ArgMatches<'_>) -> Option<ViewOrder>
     let Some(turns) = turns_in(found) else {
         return None;
     };
-    let Some(at) = at_in(found) else {
-        return None;
-    };
-    let Some(give) = give_in(found) else {
-        return None;
-    };
     let Some(give_turns) = give_turns_in(found) else {
         return None;
     };
@@ -137,16 +160,17 @@ pub(crate) fn view_asked(found: &ArgMatches<'_>) -> Option<ViewOrder>
         return None;
     };
     Some(ViewOrder {
-        port,
+        port: ports.host,
         has_address: is_text_given(found, "host"),
         has_key: is_text_given(found, "key"),
+        has_world: is_text_given(found, "world"),
         is_open: is_named(found, "open"),
         who,
         boot,
         end,
         turns,
-        at,
-        give,
+        at: ports.at,
+        give: ports.give,
         give_turns,
         wire,
         join: is_named(found, "join"),

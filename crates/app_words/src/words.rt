@@ -6,12 +6,13 @@ ghost use Rattle.clap.specs.Words.{fault_of, kind_of, subcommand_of};
 ghost use Rattle.app_words.specs.Commands.{program};
 ghost use Rattle.app_words.specs.Words.{IsText, IsRefusal, text_named};
 ghost use Rattle.app_words.specs.Request.{IsRequest, RequestsNothing};
-ghost use Rattle.app_words.specs.declared.order.OrderFault.TheVariants as fault;
+ghost use Rattle.app_faults.specs.declared.fault.OrderFault.TheVariants as fault;
 ghost use Rattle.clap.specs.declared.error.kind.ErrorKind.TheVariants as error_kind;
 
 use crate::asked::{self, order_in};
 use crate::commands::program_command;
-use crate::order::{OrderFault, Request};
+use crate::order::Request;
+use app_faults::OrderFault;
 use clap::Error;
 use clap::error::ErrorKind;
 use std::alloc::Global;

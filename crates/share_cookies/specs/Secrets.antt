@@ -1,5 +1,6 @@
 -- The secrets that cookies are made by, and how long one is known (our choice).
-use Rattle.std.specs.Prelude.{◌≡◌, ◌<◌, ◌≤◌, ◌⊎◌, ℕ, ◌+◌, ◌*◌, ◌-◌, List, [], ◌∷◌, nat_lt, if◌then◌else◌}
+use Rattle.std.specs.Prelude.{◌≡◌, ◌<◌, ◌≤◌, ◌⊎◌, ℕ, ◌+◌, ◌*◌, ◌-◌, List, [], ◌∷◌}
+use Rattle.std.specs.Prelude.{Bool, nat_le, nat_lt, if◌then◌else◌}
 use Rattle.share_cookies.specs.Cookies.{cookie_of}
 use Rattle.share_cookies.specs.declared.secrets.Secrets.{Secrets}
 
@@ -14,6 +15,10 @@ begun first = record { current = first; former = first; age = 0 }
 abbrev pub IsKnown : Secrets → (cookie address : List ℕ) → (port who : ℕ) → Type 0
 IsKnown s cookie address port who =
     (cookie ≡ cookie_of s.current address port who) ⊎ (cookie ≡ cookie_of s.former address port who)
+
+-- a fresh secret is due once the current one is two minutes old
+abbrev pub is_due : Secrets → (millis : ℕ) → Bool
+is_due s millis = nat_le period (s.age + millis)
 
 -- once the current secret is two minutes old, a fresh one replaces it; if four minutes have passed,
 -- a fresh one replaces both

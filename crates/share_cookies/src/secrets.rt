@@ -43,7 +43,7 @@ fn at_age(secrets: &Secrets, age: u64, fresh: Secret) -> Secrets
 }
 
 impl Secrets {
-    ghost use Rattle.std.specs.Prelude.{◌≡◌, true};
+    ghost use Rattle.std.specs.Prelude.{◌≡◌, ℕ, List, false, true};
     ghost use Rattle.share_cookies.specs.Cookies.{cookie_of};
     ghost use Rattle.share_cookies.specs.Secrets as spec;
 
@@ -74,6 +74,21 @@ impl Secrets {
         let by_current = is_same(cookie, &cookie_of(&self.current, address, port, who));
         let by_former = is_same(cookie, &cookie_of(&self.former, address, port, who));
         by_current | by_former
+    }
+
+    /// Reports whether a fresh secret is due once these milliseconds have passed.
+    pub fn is_due(&self, millis: u64) -> bool
+        ensures { result ≡ spec.is_due self.now millis }
+    {
+        PERIOD_MILLIS <= self.age.saturating_add(millis)
+    }
+
+    /// Lets milliseconds pass, after which no fresh secret is due.
+    pub fn pass_early(&mut self, millis: u64)
+        requires { spec.is_due self.old millis ≡ false }
+        ensures { (fresh : List ℕ) → self.new ≡ spec.passed self.old millis fresh }
+    {
+        self.age = self.age.saturating_add(millis);
     }
 
     /// Lets milliseconds pass. Once the current secret is `PERIOD_MILLIS` old, `fresh` replaces it.

@@ -1,6 +1,5 @@
 -- What comes through a guarded port.
-use Rattle.std.proofs.Common.{◌≡◌, ◌++◌, ℕ, zero, suc, Bool, true, false, List, [], ◌∷◌, Option, None, Some, Result, Ok, Err, length, map, take, refl, sym, ap, subst, ◌∙◌}
-use Rattle.std.proofs.lemmas.List.{append_assoc}
+use Rattle.std.proofs.Common.{◌≡◌, ◌<◌, ◌-◌, ◌⊎◌, ℕ, zero, suc, Bool, true, false, List, [], ◌∷◌, Option, None, Some, Result, Ok, Err, length, take, refl, sym, ap, subst, ◌∙◌, inl, inr, arith}
 use Rattle.std.specs.declared.net.socket_addr.SocketAddr.{SocketAddr}
 use Rattle.share_session.specs.Decoding.{decoded}
 use Rattle.share_turns.specs.Told.{Grows}
@@ -14,7 +13,7 @@ use Rattle.share_guards.specs.declared.coming.Coming.{Coming}
 use Rattle.share_guards.specs.declared.coming.Coming.TheVariants as coming
 use Rattle.share_guards.specs.Guard.{after_came, after_take, dropping, hands_on, takes}
 use Rattle.share_guards.specs.Kinds.{kind_in}
-use Rattle.share_guards.specs.Passing.{Comes, ComesOne, DropsOne, Hands, OnlyDrops, coming_at, coming_if, drops}
+use Rattle.share_guards.specs.Passing.{Comes, ComesOne, DropsOne, EndsBy, HandsOne, IsCutShort, Moment, coming_at, coming_if}
 
 front : (n : ℕ) (xs : List ℕ) → take (length (take n xs)) xs ≡ take n xs
 front zero xs = refl
@@ -35,61 +34,75 @@ unhanded g peer (Some q) Strange count e = refl
 
 -- ---- one receive
 
-module _ (g h : Guard) (peer count : ℕ) (places : ℕ → Option SocketAddr) (a b : Option (List Traffic)) (into : List ℕ) where
-  abbrev bytes : List ℕ
-  bytes = take count into
+module _ {P : Type 0} (told : P → Option (List Traffic)) (place_of : P → ℕ → Option SocketAddr) where
+  module _ (a b : Moment P) (peer count : ℕ) (into : List ℕ) where
+    abbrev bytes : List ℕ
+    bytes = take count into
 
-  abbrev kind : Kind
-  kind = kind_in (decoded bytes)
+    abbrev kind : Kind
+    kind = kind_in (decoded bytes)
 
-  came_if : (t : Bool) → hands_on g peer (places peer) kind ≡ t → Grows a b (Received (record { peer = peer; bytes = bytes }) ∷ [])
-      → h ≡ after_came g peer (places peer) kind (length bytes) → ComesOne g h places a b into (Ok (coming_if t peer (length bytes)))
-  came_if true is grows new =
-      let here : Hands g h peer (places peer) bytes a b = record { dropped = []; told = grows; taken = is; new_is = new } in
-      subst (λ (l : List ℕ). Hands g h peer (places peer) l a b) (sym (front count into)) here
-  came_if false is grows new =
-      (record { peer = peer; bytes = bytes }, grows, new ∙ unhanded g peer (places peer) kind (length bytes) is)
+    abbrev place : Option SocketAddr
+    place = place_of b.port peer
 
-  pub came_one : (result : Coming) → Grows a b (Received (record { peer = peer; bytes = bytes }) ∷ [])
-      → result ≡ coming_at g peer (places peer) bytes → h ≡ after_came g peer (places peer) kind (length bytes)
-      → ComesOne g h places a b into (Ok result)
-  came_one result grows is new =
-      subst (λ (r : Coming). ComesOne g h places a b into (Ok r)) (sym is) (came_if (hands_on g peer (places peer) kind) refl grows new)
+    abbrev Arrived : Type 0
+    Arrived = Grows (told a.port) (told b.port) (Received (record { peer = peer; bytes = bytes }) ∷ [])
 
--- ---- one after another
+    came_if : (t : Bool) → hands_on a.guard peer place kind ≡ t → Arrived → b.guard ≡ after_came a.guard peer place kind (length bytes)
+        → ComesOne told place_of a b into (Ok (coming_if t peer (length bytes)))
+    came_if true is grows new = subst (λ (l : List ℕ). HandsOne told place_of a b peer l) (sym (front count into)) (grows, is, new)
+    came_if false is grows new = (record { peer = peer; bytes = bytes }, grows, is, new ∙ unhanded a.guard peer place kind (length bytes) is)
 
-grows_then : (a b c : Option (List Traffic)) (xs ys : List Traffic) → Grows a b xs → Grows b c ys → Grows a c (xs ++ ys)
-grows_then None b c xs ys h k = tt
-grows_then (Some os) None c xs ys h k = absurd h
-grows_then (Some os) (Some bs) None xs ys h k = absurd k
-grows_then (Some os) (Some bs) (Some cs) xs ys h k = k ∙ ap (λ (zs : List Traffic). zs ++ ys) h ∙ append_assoc os xs ys
+    pub came_one : (result : Coming) → Grows (told a.port) (told b.port) (Received (record { peer = peer; bytes = take count into }) ∷ [])
+        → result ≡ coming_at a.guard peer (place_of b.port peer) (take count into)
+        → b.guard ≡ after_came a.guard peer (place_of b.port peer) (kind_in (decoded (take count into))) (length (take count into))
+        → ComesOne told place_of a b into (Ok result)
+    came_one result grows is new =
+        subst (λ (r : Coming). ComesOne told place_of a b into (Ok r)) (sym is) (came_if (hands_on a.guard peer place kind) refl grows new)
 
-only_then : (g h k : Guard) → h ≡ dropping g → OnlyDrops h k → OnlyDrops g k
-only_then g h k e y = (suc y.0, y.1 ∙ ap (drops y.0) e)
+  -- ---- one after another
 
-hands_then : (g h k : Guard) (peer : ℕ) (place : Option SocketAddr) (bytes : List ℕ) (a b c : Option (List Traffic)) → DropsOne g h a b → Hands h k peer place bytes b c → Hands g k peer place bytes a c
-hands_then g h k peer place bytes a b c x y =
-    let same : drops (length y.dropped) h ≡ drops (suc (length y.dropped)) g = ap (drops (length y.dropped)) x.2 in
-    let last : List Traffic = Received (record { peer = peer; bytes = bytes }) ∷ [] in record {
-      dropped = x.0 ∷ y.dropped;
-      told = grows_then a b c (Received x.0 ∷ []) (map Received y.dropped ++ last) x.1 y.told;
-      taken = subst (λ (z : Guard). hands_on z peer place (kind_in (decoded bytes)) ≡ true) same y.taken;
-      new_is = y.new_is ∙ ap (λ (z : Guard). after_came z peer place (kind_in (decoded bytes)) (length bytes)) same;
-    }
+  ends_then : (n : ℕ) (a b z : Moment P) (into : List ℕ) (last : Result Coming PortFault) → DropsOne told place_of a b
+      → EndsBy told place_of n b z into last → EndsBy told place_of (suc n) a z into last
+  ends_then n a b z into last x y = (b ∷ y.0, (x, y.1), omega (arith, y.2), y.3)
 
-comes_then : (g h k : Guard) (places : ℕ → Option SocketAddr) (a b c : Option (List Traffic)) (into : List ℕ) (result : Result (Option (ℕ × ℕ)) PortFault)
-    → DropsOne g h a b → Comes h k places b c into result → Comes g k places a c into result
-comes_then g h k places a b c into (Ok None) x y = only_then g h k x.2 y
-comes_then g h k places a b c into (Ok (Some r)) x y = hands_then g h k r.0 (places r.0) (take r.1 into) a b c x y
-comes_then g h k places a b c into (Err fault) x y = only_then g h k x.2 y
+  cut_then : (n : ℕ) (a b z : Moment P) → DropsOne told place_of a b → IsCutShort told place_of n b z → IsCutShort told place_of (suc n) a z
+  cut_then n a b z x y = (b ∷ y.0, (x, y.1), ap suc y.2, y.3)
 
-pub dropped_then : (g h k : Guard) (old_places places : ℕ → Option SocketAddr) (a b c : Option (List Traffic)) (from into : List ℕ) (one : Result Coming PortFault) (came : Coming) (result : Result (Option (ℕ × ℕ)) PortFault)
-    → one ≡ Ok came → came ≡ coming.Dropped → ComesOne g h old_places a b from one → Comes h k places b c into result → Comes g k places a c into result
-dropped_then g h k old_places places a b c from into one came result is drops x y =
-    let first : DropsOne g h a b = subst (λ (r : Coming). ComesOne g h old_places a b from (Ok r)) drops (subst (λ (r : Result Coming PortFault). ComesOne g h old_places a b from r) is x) in
-    comes_then g h k places a b c into result first y
+  comes_then : (n : ℕ) (a b z : Moment P) (into : List ℕ) (result : Result (Option (ℕ × ℕ)) PortFault)
+      → DropsOne told place_of a b → Comes told place_of n b z into result → Comes told place_of (suc n) a z into result
+  comes_then n a b z into (Ok None) x (inl y) = inl (ends_then n a b z into (Ok coming.Nothing) x y)
+  comes_then n a b z into (Ok None) x (inr y) = inr (cut_then n a b z x y)
+  comes_then n a b z into (Ok (Some r)) x y = ends_then n a b z into (Ok (coming.Handed r.0 r.1)) x y
+  comes_then n a b z into (Err fault) x y = ends_then n a b z into (Err fault) x y
 
-pub handed_is : (g h : Guard) (places : ℕ → Option SocketAddr) (a b : Option (List Traffic)) (into : List ℕ) (one : Result Coming PortFault) (came : Coming) (peer count : ℕ)
-    → one ≡ Ok came → came ≡ coming.Handed peer count → ComesOne g h places a b into one → Hands g h peer (places peer) (take count into) a b
-handed_is g h places a b into one came peer count is handed x =
-    subst (λ (r : Coming). ComesOne g h places a b into (Ok r)) handed (subst (λ (r : Result Coming PortFault). ComesOne g h places a b into r) is x)
+  -- what came of one receive, by its answer
+  came_is : (a b : Moment P) (into : List ℕ) (one : Result Coming PortFault) (came other : Coming) → one ≡ Ok came → came ≡ other
+      → ComesOne told place_of a b into one → ComesOne told place_of a b into (Ok other)
+  came_is a b into one came other is same x =
+      subst (λ (r : Coming). ComesOne told place_of a b into (Ok r)) same
+      (subst (λ (r : Result Coming PortFault). ComesOne told place_of a b into r) is x)
+
+  pub dropped_then : (m : ℕ) (a b z : Moment P) (from into : List ℕ) (one : Result Coming PortFault) (came : Coming) (result : Result (Option (ℕ × ℕ)) PortFault)
+      → (m ≡ 0 → ⊥) → one ≡ Ok came → came ≡ coming.Dropped → ComesOne told place_of a b from one → Comes told place_of (m - 1) b z into result
+      → Comes told place_of m a z into result
+  dropped_then m a b z from into one came result some is drops x y =
+      let less : suc (m - 1) ≡ m = omega (arith, some) in
+      subst (λ (n : ℕ). Comes told place_of n a z into result) less
+      (comes_then (m - 1) a b z into result (came_is a b from one came coming.Dropped is drops x) y)
+
+  pub ended : (m : ℕ) (a b : Moment P) (into : List ℕ) (last : Result Coming PortFault) → (m ≡ 0 → ⊥) → ComesOne told place_of a b into last
+      → EndsBy told place_of m a b into last
+  ended m a b into last some x = ([], tt, omega (arith, some), x)
+
+  pub ended_by : (m : ℕ) (a b : Moment P) (into : List ℕ) (one : Result Coming PortFault) (came other : Coming) → (m ≡ 0 → ⊥) → one ≡ Ok came
+      → came ≡ other → ComesOne told place_of a b into one → EndsBy told place_of m a b into (Ok other)
+  ended_by m a b into one came other some is same x = ended m a b into (Ok other) some (came_is a b into one came other is same x)
+
+  pub failed_by : (m : ℕ) (a b : Moment P) (into : List ℕ) (one : Result Coming PortFault) (fault : PortFault) → (m ≡ 0 → ⊥) → one ≡ Err fault
+      → ComesOne told place_of a b into one → EndsBy told place_of m a b into (Err fault)
+  failed_by m a b into one fault some is x =
+      ended m a b into (Err fault) some (subst (λ (r : Result Coming PortFault). ComesOne told place_of a b into r) is x)
+
+  pub cut : (m : ℕ) (a : Moment P) → m ≡ 0 → IsCutShort told place_of m a a
+  cut m a none = ([], tt, sym none, refl)

@@ -2,7 +2,8 @@
 -- 8.1). An address is known at the number of a peer once a Hello from there brought back the cookie
 -- that a Welcome to it had. Only known addresses are answered otherwise than by a Welcome, and a
 -- Welcome to another one has no more bytes than the Hello that it answers.
-use Rattle.std.specs.Prelude.{ℕ, ◌+◌, ◌-◌, ◌^◌, min, ◌&&◌, ◌||◌, Bool, true, false, List, Option, None, Some, codes, nat_le, nat_eq, if◌then◌else◌}
+use Rattle.std.specs.Prelude.{ℕ, ◌+◌, ◌-◌, ◌^◌, min, ◌&&◌, ◌||◌, Bool, true, false, List}
+use Rattle.std.specs.Prelude.{Option, None, Some, codes, nat_le, nat_eq, if◌then◌else◌}
 use Rattle.std.specs.Cmp.Lexicographic.{pointwise}
 use Rattle.std.specs.Net.Socket.{socket_port}
 use Rattle.std.specs.declared.net.socket_addr.SocketAddr.{SocketAddr}
@@ -86,7 +87,7 @@ after_came g peer (Some place) kind count = after_came_at g peer place kind coun
 
 -- ---- what is sent
 
--- the last Hello that isn't answered is of this address, and had at least so many bytes
+-- the last Hello that isn't answered is of this address, and had at least `count` bytes
 abbrev pub has_room : Option Asked → SocketAddr → (count : ℕ) → Bool
 has_room None place count = false
 has_room (Some asked) place count = same_place asked.place place && nat_le count asked.room
@@ -116,9 +117,17 @@ after_sending g to (Some place) is_welcome count = after_sending_at g to place i
 
 -- ---- turns
 
+-- the secrets after these milliseconds, and the seed, of which one more secret was made if it was
+-- due
+abbrev pub secrets_passed : Guard → (millis : ℕ) → Secrets
+secrets_passed g millis = cookies.passed g.secrets millis (secret_after g.seed)
+
+abbrev pub seed_passed : Guard → (millis : ℕ) → List ℕ
+seed_passed g millis = if cookies.is_due g.secrets millis then seed_after g.seed else g.seed
+
 abbrev pub passed : Guard → (millis : ℕ) → Guard
 passed g millis = record g {
-  secrets = cookies.passed g.secrets millis (secret_after g.seed);
-  seed = seed_after g.seed;
+  secrets = secrets_passed g millis;
+  seed = seed_passed g millis;
   seats = seats.passed g.seats millis;
 }

@@ -1,14 +1,15 @@
 -- What holds of a guard, whatever comes and is to be sent (our choice, by RFC 9000, section 8.1).
-use Rattle.std.specs.Prelude.{◌≡◌, ◌≤◌, ◌⊎◌, ◌&&◌, ◌+◌, ℕ, Bool, true, false, List, [], ◌∷◌, Option, None, Some, ⊤, if◌then◌else◌}
+use Rattle.std.specs.Prelude.{◌≡◌, ◌≤◌, ◌⊎◌, ◌&&◌, ◌+◌, ℕ, Bool, true, List, [], ◌∷◌}
+use Rattle.std.specs.Prelude.{Option, None, Some, ⊤, if◌then◌else◌}
 use Rattle.std.specs.declared.net.socket_addr.SocketAddr.{SocketAddr}
 use Rattle.share_guards.specs.declared.guard.Guard.{Guard}
 use Rattle.share_guards.specs.declared.kind.Kind.{Kind}
 use Rattle.share_guards.specs.declared.kind.Kind.TheVariants.{Greets, Asks, Offers, Strange}
 use Rattle.share_guards.specs.Guard.{after_came, after_sending, allows, is_known_cookie, passed}
-use Rattle.share_guards.specs.Places.{known_at, knows, same_place}
+use Rattle.share_guards.specs.Places.{is_at, known_at, knows}
 
--- A datagram of this many bytes came from a peer, which had this address; one was to be sent; a turn
--- ended, after these milliseconds.
+-- A datagram of this many bytes came from a peer, which had this address; one was to be sent; a
+-- turn ended, after these milliseconds.
 pub data Event : Type 0 where
   came : (peer : ℕ) → Option SocketAddr → Kind → (count : ℕ) → Event
   sending : (to : ℕ) → Option SocketAddr → (is_welcome : Bool) → (count : ℕ) → Event
@@ -25,13 +26,9 @@ after_all g (e ∷ es) = after_all (after g e) es
 
 -- ---- the bytes of an address
 
-abbrev pub is_place : Option SocketAddr → SocketAddr → Bool
-is_place None p = false
-is_place (Some place) p = same_place place p
-
 -- the bytes that came from an address
 abbrev pub bytes_in : SocketAddr → Event → ℕ
-bytes_in p (came peer place kind count) = if is_place place p then count else 0
+bytes_in p (came peer place kind count) = if is_at place p then count else 0
 bytes_in p (sending to place is_welcome count) = 0
 bytes_in p (turned millis) = 0
 
@@ -43,7 +40,7 @@ all_in p (e ∷ es) = bytes_in p e + all_in p es
 abbrev pub bytes_out : SocketAddr → Guard → Event → ℕ
 bytes_out p g (came peer place kind count) = 0
 bytes_out p g (sending to place is_welcome count) =
-    if is_place place p && allows g to place is_welcome count then count else 0
+    if is_at place p && allows g to place is_welcome count then count else 0
 bytes_out p g (turned millis) = 0
 
 abbrev pub all_out : SocketAddr → Guard → List Event → ℕ
@@ -54,7 +51,7 @@ all_out p g (e ∷ es) = bytes_out p g e + all_out p (after g e) es
 abbrev pub IsWelcome : SocketAddr → Guard → Event → Type 0
 IsWelcome p g (came peer place kind count) = ⊤
 IsWelcome p g (sending to place is_welcome count) =
-    is_place place p ≡ true → allows g to place is_welcome count ≡ true → is_welcome ≡ true
+    is_at place p ≡ true → allows g to place is_welcome count ≡ true → is_welcome ≡ true
 IsWelcome p g (turned millis) = ⊤
 
 abbrev pub AreWelcomes : SocketAddr → Guard → List Event → Type 0
@@ -70,7 +67,8 @@ IsGreeting g place (Asks who) = ⊥
 IsGreeting g place (Offers who) = ⊥
 IsGreeting g place Strange = ⊥
 
-abbrev pub IsFrom : Guard → (peer : ℕ) → SocketAddr → (from : ℕ) → Option SocketAddr → Kind → Type 0
+abbrev pub IsFrom : Guard → (peer : ℕ) → SocketAddr → (from : ℕ) → Option SocketAddr → Kind
+    → Type 0
 IsFrom g peer p from None kind = ⊥
 IsFrom g peer p from (Some place) kind = (from ≡ peer) × (place ≡ p) × IsGreeting g place kind
 

@@ -1,6 +1,7 @@
 -- How much of each seat is taken (our choice). Of a seat, which is a viewer's number below 64, at
 -- most 8 datagrams are taken in one turn, and at most 64 offers in one second.
-use Rattle.std.specs.Prelude.{ℕ, ◌+◌, ◌&&◌, ◌||◌, not, min, Bool, List, get_or, slice_set, replicate, nat_lt, if◌then◌else◌}
+use Rattle.std.specs.Prelude.{ℕ, ◌+◌, ◌&&◌, ◌||◌, not, min, Bool, List, get_or, slice_set}
+use Rattle.std.specs.Prelude.{replicate, nat_lt, if◌then◌else◌}
 use Rattle.share_guards.specs.declared.seats.Seats.{Seats}
 
 abbrev pub none_taken : List ℕ
@@ -39,8 +40,8 @@ counted s who is_offer = record s {
 abbrev pub taken : Seats → (who : ℕ) → (is_offer : Bool) → Seats
 taken s who is_offer = if has_room s who is_offer then counted s who is_offer else s
 
--- a turn ends: no datagrams were taken in the next one. Once a second has passed, another begins, in
--- which no offers were taken.
+-- a turn ends: no datagrams were taken in the next one. Once a second has passed, another begins,
+-- in which no offers were taken.
 abbrev pub passed : Seats → (millis : ℕ) → Seats
 passed s millis =
     if nat_lt (s.age + millis) 1000

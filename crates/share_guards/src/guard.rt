@@ -78,23 +78,30 @@ fn seed_after(seed: &Secret) -> Secret
 }
 
 impl Guard {
-    ghost use Rattle.std.specs.Prelude.{◌≡◌, ℕ, IfOk, None, Some, false};
+    ghost use Rattle.std.specs.Prelude.{◌≡◌, ℕ, IfOk, None, Some, false, length};
     ghost use Rattle.share_cookies.specs.Secrets.{begun};
     ghost use Rattle.share_guards.specs.Guard as spec;
     ghost use Rattle.share_guards.specs.Places.{known_at, knows};
     ghost use Rattle.share_guards.specs.Seats.{no_seats};
 
-    /// Returns the guard of a host that knows no address. The secret and the seed are drawn at
-    /// random. Fails if memory is refused.
-    pub fn new(alloc: Global, secret: Secret, seed: Secret) -> Result<Guard, AllocError>
+    /// Returns the guard of a host that knows no address. Only peers whose numbers are below
+    /// `peers` become known. The secret and the seed are drawn at random. Fails if memory is
+    /// refused.
+    pub fn new(
+        alloc: Global,
+        peers: usize,
+        secret: Secret,
+        seed: Secret,
+    ) -> Result<Guard, AllocError>
         ensures unknown { IfOk result (λ g. (peer : ℕ) → known_at g.known peer ≡ None) }
+        ensures peers { IfOk result (λ g. length g.known ≡ peers) }
         ensures asked { IfOk result (λ g. g.asked ≡ None) }
         ensures secrets { IfOk result (λ g. g.secrets ≡ begun secret) }
         ensures seed { IfOk result (λ g. g.seed ≡ seed) }
         ensures seats { IfOk result (λ g. g.seats ≡ no_seats) }
         ensures dropped { IfOk result (λ g. g.dropped ≡ 0) }
     {
-        let known = Known::none(alloc)?;
+        let known = Known::none(alloc, peers)?;
         Ok(Guard {
             secrets: Secrets::new(secret),
             seed,
@@ -211,12 +218,26 @@ impl Guard {
         false
     }
 
+    /// Lets milliseconds pass for the secrets. One more is made only if it is due.
+    fn pass_secrets(&mut self, millis: u64)
+        ensures { self.new ≡ record self.old {
+          secrets = spec.secrets_passed self.old millis;
+          seed = spec.seed_passed self.old millis;
+        } }
+    {
+        if !self.secrets.is_due(millis) {
+            self.secrets.pass_early(millis);
+            return;
+        }
+        self.secrets.pass(millis, secret_after(&self.seed));
+        self.seed = seed_after(&self.seed);
+    }
+
     /// Ends a turn, after these milliseconds.
     pub fn pass(&mut self, millis: u64)
         ensures { self.new ≡ spec.passed self.old millis }
     {
-        self.secrets.pass(millis, secret_after(&self.seed));
-        self.seed = seed_after(&self.seed);
+        self.pass_secrets(millis);
         self.seats.pass(millis);
     }
 }

@@ -7,24 +7,20 @@ use std::alloc::{AllocError, Global};
 use std::marker::Model;
 use std::net::SocketAddr;
 
-/// How many peers there may be: one for each number.
-const PEERS: usize = 65_536;
-
-/// The address of each peer's number that brought back a cookie.
+/// The address of each peer's number that brought back a cookie. A peer of a number for which there
+/// is no place is never known.
 #[derive(Drop)]
 pub struct Known {
     places: Vec<Option<SocketAddr>>,
 }
 
 impl Model for Known {
-    ghost use Rattle.std.specs.Prelude.{◌≡◌, List, Option, length};
+    ghost use Rattle.std.specs.Prelude.{List, Option};
     ghost use Rattle.std.specs.declared.net.socket_addr.SocketAddr.{SocketAddr as Address};
 
     ghost Value = { List (Option Address) };
 
     ghost view = { λ k. k.places.items };
-
-    ghost invariant = { λ k. length k.places.items ≡ 65536 };
 }
 
 /// Reports whether two addresses are the same.
@@ -35,14 +31,16 @@ pub(crate) fn is_same(one: &SocketAddr, other: &SocketAddr) -> bool
 }
 
 impl Known {
-    ghost use Rattle.std.specs.Prelude.{◌≡◌, ℕ, IfOk, None};
+    ghost use Rattle.std.specs.Prelude.{◌≡◌, ℕ, IfOk, None, length};
     ghost use Rattle.share_guards.specs.Places as spec;
 
-    /// Returns what is known before any cookie came back. Fails if memory is refused.
-    pub(crate) fn none(alloc: Global) -> Result<Known, AllocError>
-        ensures { IfOk result (λ k. (peer : ℕ) → spec.known_at k peer ≡ None) }
+    /// Returns what is known before any cookie came back, of peers whose numbers are below `peers`.
+    /// Fails if memory is refused.
+    pub(crate) fn none(alloc: Global, peers: usize) -> Result<Known, AllocError>
+        ensures unknown { IfOk result (λ k. (peer : ℕ) → spec.known_at k peer ≡ None) }
+        ensures peers { IfOk result (λ k. length k ≡ peers) }
     {
-        let places = vec![in alloc; None; PEERS]?;
+        let places = vec![in alloc; None; peers]?;
         Ok(Known { places })
     }
 
@@ -50,14 +48,28 @@ impl Known {
     pub(crate) fn note(&mut self, peer: u16, place: &SocketAddr)
         ensures { self.new ≡ spec.noted self.old peer place.now }
     {
-        self.places[peer as usize] = Some(*place);
+        let number = peer as usize;
+        if number >= self.places.len() {
+            return;
+        }
+        self.places[number] = Some(*place);
+    }
+
+    /// Returns the address that brought back a cookie at the number of a peer, if one did.
+    fn at(&self, peer: u16) -> Option<SocketAddr>
+        ensures { result ≡ spec.known_at self.now peer }
+    {
+        match self.places.get(peer as usize) {
+            Some(place) => *place,
+            None => None,
+        }
     }
 
     /// Reports whether a peer is known at this address, which it has now.
     pub(crate) fn knows(&self, peer: u16, place: &SocketAddr) -> bool
         ensures { result ≡ spec.knows self.now peer place.now }
     {
-        is_at(&self.places[peer as usize], place)
+        is_at(&self.at(peer), place)
     }
 }
 

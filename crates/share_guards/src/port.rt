@@ -1,6 +1,6 @@
 //! A host's port that answers strangers with no more bytes than they sent.
 
-ghost use Rattle.std.specs.Prelude.{◌≡◌, IfOk};
+ghost use Rattle.std.specs.Prelude.{◌≡◌, IfOk, length};
 ghost use Rattle.share_cookies.specs.Secrets.{begun};
 ghost use Rattle.share_guards.specs.Laws.{IsNew};
 ghost use Rattle.share_guards.specs.Passing as spec;
@@ -37,23 +37,26 @@ pub struct GuardedPort<P> {
 }
 
 impl<P: Drop> GuardedPort<P> {
-    /// Returns the port of a host that knows no address. The secret and the seed are drawn at
-    /// random. Fails if memory is refused.
+    /// Returns the port of a host that knows no address. Only peers whose numbers are below
+    /// `peers` become known. The secret and the seed are drawn at random. Fails if memory is
+    /// refused.
     pub fn new(
         alloc: Global,
         port: P,
+        peers: usize,
         secret: Secret,
         seed: Secret,
     ) -> Result<GuardedPort<P>, AllocError>
         ensures port { IfOk result (λ p. p.port ≡ port) }
         ensures new { IfOk result (λ p. IsNew p.guard) }
+        ensures peers { IfOk result (λ p. length p.guard.known ≡ peers) }
         ensures secrets { IfOk result (λ p. p.guard.secrets ≡ begun secret) }
         ensures seed { IfOk result (λ p. p.guard.seed ≡ seed) }
         ensures seats { IfOk result (λ p. p.guard.seats ≡ no_seats) }
         ensures dropped { IfOk result (λ p. p.guard.dropped ≡ 0) }
         ensures failures { IfOk result (λ p. p.failed ≡ 0) }
     {
-        let guard = Guard::new(alloc, secret, seed)?;
+        let guard = Guard::new(alloc, peers, secret, seed)?;
         Ok(GuardedPort {
             port,
             guard,
@@ -71,6 +74,11 @@ impl<P> GuardedPort<P> {
         ensures { result.now ≡ self.now.port }
     {
         &self.port
+    }
+
+    /// Returns the inner port, to be given datagrams.
+    pub fn port_mut(&mut self) -> &mut P {
+        &mut self.port
     }
 
     /// Returns how many datagrams were dropped, up to 2^64 - 1.
@@ -118,16 +126,19 @@ impl<P: Port + Placed> GuardedPort<P> {
     ghost use Rattle.std.specs.Prelude.{Ok, Some, length, true};
     ghost use Rattle.share_turns.specs.Told.{Grows, counted, max_received};
     ghost use Rattle.share_turns.specs.declared.traffic.Traffic.TheVariants.{Sent};
+    ghost use Rattle.share_sealed.specs.Passing.{counted_if};
     ghost use Rattle.share_guards.specs.Guard.{after_sending, allows};
     ghost use Rattle.share_guards.specs.Passing as spec;
 
     /// Receives a datagram from below.
     fn receive_one(&mut self, into: &mut [u8; RECEIVED]) -> Result<Coming, PortFault>
-        ensures guard { spec.ComesOne self.old.guard self.new.guard
-            (P.place_of self.new.port)
-            (P.told self.old.port) (P.told self.new.port) into.new result }
+        ensures guard { spec.ComesOne P.told P.place_of
+            (spec.moment self.old.guard self.old.port) (spec.moment self.new.guard self.new.port)
+            into.new result }
         ensures most { IfOk result (λ came. spec.MostBytes came) }
         ensures failures { self.new.failed ≡ counted result self.old.failed }
+        ensures below { P.failure_count self.new.port
+            ≡ counted result (P.failure_count self.old.port) }
         ensures time { P.rested self.new.port ≡ P.rested self.old.port }
     {
         match self.port.receive(into) {
@@ -144,11 +155,13 @@ impl<P: Port + Placed> GuardedPort<P> {
         into: &mut [u8; RECEIVED],
         left: u32,
     ) -> Result<Option<(u16, usize)>, PortFault>
-        ensures guard { spec.Comes self.old.guard self.new.guard
-            (P.place_of self.new.port)
-            (P.told self.old.port) (P.told self.new.port) into.new result }
+        ensures guard { spec.Comes P.told P.place_of left
+            (spec.moment self.old.guard self.old.port) (spec.moment self.new.guard self.new.port)
+            into.new result }
         ensures most { IfOk result (λ came. IfSome came (λ r. r.1 ≤ max_received)) }
         ensures failures { self.new.failed ≡ counted result self.old.failed }
+        ensures below { P.failure_count self.new.port
+            ≡ counted result (P.failure_count self.old.port) }
         ensures time { P.rested self.new.port ≡ P.rested self.old.port }
     {
         if left == 0 {
@@ -176,6 +189,10 @@ impl<P: Port + Placed> GuardedPort<P> {
         ensures sent { OnOk result (Grows (P.told self.old.port) (P.told self.new.port)
             (Sent (record { peer = to; bytes = bytes.now }) ∷ [])) }
         ensures unsent { OnErr result (Grows (P.told self.old.port) (P.told self.new.port) []) }
+        // It fails only if the guard refuses it, or if the port below fails.
+        ensures below { P.failure_count self.new.port
+            ≡ counted_if (allows self.old.guard to place.now is_welcome (length bytes.now))
+            result (P.failure_count self.old.port) }
         ensures guard { self.new.guard
             ≡ after_sending self.old.guard to place.now is_welcome (length bytes.now) }
         ensures failures { self.new.failed ≡ counted result self.old.failed }
@@ -201,6 +218,11 @@ impl<P: Port + Placed> GuardedPort<P> {
             (spec.welcome_text (spec.welcome_at self.old.guard place.now welcome.now))
             (P.told self.old.port) (P.told self.new.port)) }
         ensures unsent { OnErr result (Grows (P.told self.old.port) (P.told self.new.port) []) }
+        // It fails only if the guard refuses it, or if the port below fails.
+        ensures below { P.failure_count self.new.port
+            ≡ counted_if (allows self.old.guard to place.now true (length
+            (spec.welcome_text (spec.welcome_at self.old.guard place.now welcome.now))))
+            result (P.failure_count self.old.port) }
         ensures guard { self.new.guard ≡ after_sending self.old.guard to place.now true
             (length (spec.welcome_text (spec.welcome_at self.old.guard place.now welcome.now))) }
         ensures failures { self.new.failed ≡ counted result self.old.failed }
@@ -217,6 +239,7 @@ impl<P: Port + Placed> Port for GuardedPort<P> {
     ghost use Rattle.share_turns.specs.Told.{Grows, counted, max_received};
     ghost use Rattle.share_turns.specs.declared.traffic.Traffic.TheVariants.{Nothing, Received};
     ghost use Rattle.share_turns.specs.declared.traffic.Traffic.TheVariants.{Sent};
+    ghost use Rattle.share_sealed.specs.Passing.{counted_if};
     ghost use Rattle.share_guards.specs.Guard.{passed};
     ghost use Rattle.share_guards.specs.Passing as spec;
 
@@ -238,6 +261,11 @@ impl<P: Port + Placed> Port for GuardedPort<P> {
         ensures sent { OnOk result (spec.Sends self.old.guard to (P.place_of self.old.port to)
             bytes.now (P.told self.old.port) (P.told self.new.port)) }
         ensures unsent { OnErr result (Grows (P.told self.old.port) (P.told self.new.port) []) }
+        // It fails only if the guard refuses it, or if the port below fails.
+        ensures below { P.failure_count self.new.port
+            ≡ counted_if
+            (spec.allows_bytes self.old.guard to (P.place_of self.old.port to) bytes.now)
+            result (P.failure_count self.old.port) }
         ensures guard { self.new.guard
             ≡ spec.after_send self.old.guard to (P.place_of self.old.port to) bytes.now }
     {
@@ -255,11 +283,14 @@ impl<P: Port + Placed> Port for GuardedPort<P> {
             (Received (record { peer = r.0; bytes = take r.1 into.new }) ∷ [])))
             (λ _. Grows spec.no_record spec.no_record []) }
         ensures failures { self.new.failed ≡ counted result self.old.failed }
+        ensures below { P.failure_count self.new.port
+            ≡ counted result (P.failure_count self.old.port) }
         ensures time { P.rested self.new.port ≡ P.rested self.old.port }
-        // What is handed on came below, and the guard took it.
-        ensures guard { spec.Comes self.old.guard self.new.guard
-            (P.place_of self.new.port)
-            (P.told self.old.port) (P.told self.new.port) into.new result }
+        // What is handed on came below, and the guard took it; what came before it was refused. If
+        // nothing is handed on, nothing arrived below in the end, or 64 were refused.
+        ensures guard { spec.Comes P.told P.place_of MOST_DROPPED
+            (spec.moment self.old.guard self.old.port) (spec.moment self.new.guard self.new.port)
+            into.new result }
     {
         self.receive_next(into, MOST_DROPPED)
     }

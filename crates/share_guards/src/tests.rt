@@ -12,6 +12,9 @@ use std::alloc::Global;
 use std::net::{Ipv4Addr, SocketAddr, SocketAddrV4};
 use std::test::Fail;
 
+/// Peers below this number become known.
+const PEERS: usize = 10;
+
 /// An ask of viewer 3 for the inputs from 1 on, in a session of sixteen bytes 9.
 const ASK: [u8; 31] = [
     b'X', b'3', b'D', b'S', 2, 3, 9, 9, 9, 9, 9, 9, 9, 9, 9, 9, 9, 9, 9, 9, 9, 9, 3, 0, 0, 0, 0, 0,
@@ -57,7 +60,7 @@ fn deliver(port: &mut FakePort, peer: u16, bytes: &[u8]) -> Result<(), Fail> {
 }
 
 fn guarded(alloc: Global, port: FakePort) -> Result<GuardedPort<FakePort>, Fail> {
-    match GuardedPort::new(alloc, port, [7; 32], [8; 32]) {
+    match GuardedPort::new(alloc, port, PEERS, [7; 32], [8; 32]) {
         Ok(port) => Ok(port),
         Err(_) => Err(Fail::from("memory was refused")),
     }
@@ -169,7 +172,7 @@ fn place(is_second: bool) -> Option<SocketAddr> {
 
 /// Returns a guard that knows the first address at number 1.
 fn knowing(alloc: Global) -> Result<Guard, Fail> {
-    let Ok(mut guard) = Guard::new(alloc, [7; 32], [8; 32]) else {
+    let Ok(mut guard) = Guard::new(alloc, PEERS, [7; 32], [8; 32]) else {
         return Err(Fail::from("memory was refused"));
     };
     let Some(first) = place(false) else {

@@ -1,10 +1,11 @@
 -- What holds of a table of addresses.
-use Rattle.std.proofs.Common.{◌≡◌, ◌<◌, ◌≤◌, ◌+◌, ◌-◌, ◌%◌, ◌∙◌, ℕ, zero, suc, List, Option, Some, None, true, false, nat_lt, length, replicate}
-use Rattle.std.proofs.Common.{◌⊎◌, get_or, slice_set, refl, sym, ap, subst, arith, inl, inr}
+use Rattle.std.proofs.Common.{◌≡◌, ◌<◌, ◌≤◌, ◌+◌, ◌-◌, ◌%◌, ◌∙◌, ℕ, zero, suc, List, Option, Some, None, true, false, nat_lt, nat_eq, length, replicate}
+use Rattle.std.proofs.Common.{◌⊎◌, get_or, slice_set, refl, sym, ap, subst, arith, inl, inr, ne_eqb}
 use Rattle.std.proofs.lemmas.Bool.{cases_Bool, cases_eq, ltb-true, ltb-false}
 use Rattle.std.proofs.lemmas.List.{get_or_past, get_or-set_same, get_or-set_other}
+use Rattle.std.proofs.Math.Nat.{add-mod_right, mod-eq_of_lt}
 use Rattle.std.specs.declared.net.socket_addr.SocketAddr.{SocketAddr}
-use Rattle.share_peers.specs.Table.{AllKept, AreDistinct, IsAt, address_at, is_kept, places}
+use Rattle.share_peers.specs.Table.{AllKept, AreDistinct, IsAt, address_at, is_kept}
 
 none_in : (n k : ℕ) → address_at (replicate n None) k ≡ None
 none_in zero zero = refl
@@ -47,26 +48,51 @@ not_at items n address below here k small at =
           here (subst (λ i. IsAt items i address) same at)
     ]
 
-abbrev pub KeptFrom : List ℕ → (next n : ℕ) → Type 0
-KeptFrom kept next n = (k : ℕ) → k < n → is_kept kept ((next + k) % places) ≡ true
+abbrev pub KeptFrom : List ℕ → (count next n : ℕ) → Type 0
+KeptFrom kept count next n = (k : ℕ) → k < n → is_kept kept ((next + k) % count) ≡ true
 
 -- one more place is kept
-pub kept_more : (kept : List ℕ) (next n : ℕ) → KeptFrom kept next n → is_kept kept ((next + n) % places) ≡ true → KeptFrom kept next (n + 1)
-kept_more kept next n before here k small =
+pub kept_more : (kept : List ℕ) (count next n : ℕ) → KeptFrom kept count next n → is_kept kept ((next + n) % count) ≡ true → KeptFrom kept count next (n + 1)
+kept_more kept count next n before here k small =
     elim (cases_Bool (nat_lt k n)) [
       | inl less ↦ before k (ltb-true k n less)
       | inr more ↦
           let same : n ≡ k = omega (arith, ltb-false k n more, small) in
-          subst (λ i. is_kept kept ((next + i) % places) ≡ true) same here
+          subst (λ i. is_kept kept ((next + i) % count) ≡ true) same here
+    ]
+
+-- how many places after `next` a place is, round the table
+steps_to : (count next k : ℕ) → next < count → k < count → (steps : ℕ) × (steps < count) × ((next + steps) % count ≡ k)
+steps_to count next k low small =
+    elim (cases_Bool (nat_lt k next)) [
+      | inl less ↦
+          let before : k < next = ltb-true k next less in
+          let same : next + (k + count - next) ≡ k + count = omega (arith, low, small) in
+          (k + count - next, omega (arith, before, low), ap (λ i. i % count) same ∙ add-mod_right k count ∙ mod-eq_of_lt small)
+      | inr more ↦
+          let after : next ≤ k = ltb-false k next more in
+          let same : next + (k - next) ≡ k = omega (arith, after) in
+          (k - next, omega (arith, small), ap (λ i. i % count) same ∙ mod-eq_of_lt small)
     ]
 
 -- all places are kept, once round the table
-pub round : (kept : List ℕ) (next n : ℕ) → next < places → places ≤ n → KeptFrom kept next n → AllKept kept
-round kept next n low all before k small =
-    let steps : ℕ = (k + 512 - next) % 512 in
-    let near : steps < n = omega (arith, all) in
-    let there : (next + steps) % 512 ≡ k = omega (arith, low, small) in
-    subst (λ i. is_kept kept i ≡ true) there (before steps near)
+pub round : (kept : List ℕ) (count next n : ℕ) → next < count → count ≤ n → KeptFrom kept count next n → AllKept kept count
+round kept count next n low all before k small =
+    let there = steps_to count next k low small in
+    subst (λ i. is_kept kept i ≡ true) there.2 (before there.0 (omega (arith, there.1, all)))
+
+-- ---- what is no number
+
+other : (count k : ℕ) → k < count → nat_eq count k ≡ false
+other count k small = ne_eqb count k (omega (arith, small))
+
+none_in_row : (n count k : ℕ) → k < count → is_kept (replicate n count) k ≡ false
+none_in_row zero count k small = refl
+none_in_row (suc n) count k small = rw (other count k small, none_in_row n count k small) refl
+
+-- a row of something that is no number keeps none
+pub none_kept : (n count : ℕ) (items : List ℕ) → items ≡ replicate n count → (k : ℕ) → k < count → is_kept items k ≡ false
+none_kept n count items e k small = ap (λ l. is_kept l k) e ∙ none_in_row n count k small
 
 -- ---- an address is added
 

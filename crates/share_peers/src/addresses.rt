@@ -1,31 +1,26 @@
 //! A table of addresses by number.
 
-use crate::finding::{free_place, place_of};
+use crate::finding::{free_place, place_after, place_of};
 use std::alloc::{AllocError, Global};
 use std::marker::Model;
 use std::net::SocketAddr;
 
-/// How many addresses a table has at most. They have the numbers from 0 on.
-pub(crate) const ADDRESSES: u16 = 512;
-
-/// How many addresses are kept at most.
-const KEPT: u16 = 128;
-
-/// The addresses of a socket's peers, each with a number below 512. Two addresses never
-/// have the same number. If all numbers are taken, a new address gets that of one that isn't kept,
-/// in turn. So an address that is kept has its number until 128 others were kept after it, however
-/// many addresses come.
+/// The addresses of a socket's peers, each with a number from 0 on. Two addresses never have the
+/// same number. If all numbers are taken, a new address gets that of one that isn't kept, in turn.
+/// So an address that is kept has its number until as many others were kept after it as a table
+/// keeps, however many addresses come.
 #[derive(Drop)]
 pub struct Addresses {
     places: Vec<Option<SocketAddr>>,
     next: u16,
+    /// The numbers that are kept, and others than a number where none was kept yet.
     kept: Vec<u16>,
     turn: u16,
 }
 
 impl Model for Addresses {
-    ghost use Rattle.std.specs.Prelude.{◌≡◌, ◌<◌, length};
-    ghost use Rattle.share_peers.specs.Table.{AreDistinct, Table, most_kept, places as all_places};
+    ghost use Rattle.std.specs.Prelude.{◌<◌, ◌^◌, length};
+    ghost use Rattle.share_peers.specs.Table.{AreDistinct, Table};
 
     ghost Value = { Table };
 
@@ -36,24 +31,33 @@ impl Model for Addresses {
       turn = a.turn;
     } };
 
-    ghost invariant = { λ a. (length a.places.items ≡ all_places) × (a.next < all_places)
-        × (length a.kept.items ≡ most_kept) × (a.turn < most_kept)
+    ghost invariant = { λ a. (length a.places.items < 2 ^ 16)
+        × (a.next < length a.places.items)
+        × (length a.kept.items < 2 ^ 16)
+        × (a.turn < length a.kept.items)
         × AreDistinct a.places.items };
 }
 
 impl Addresses {
-    ghost use Rattle.std.specs.Prelude.{◌≡◌, ℕ, IfOk, IfSome, IfNone, None, Some};
-    ghost use Rattle.share_peers.specs.Table.{AllKept, IsAdded, IsAt, address_at, is_kept, keeping};
+    ghost use Rattle.std.specs.Prelude.{◌≡◌, ◌<◌, ℕ, IfOk, IfSome, IfNone, None, Some, false};
+    ghost use Rattle.share_peers.specs.Table.{AllKept, IsAdded, IsAt, address_at, count_of};
+    ghost use Rattle.share_peers.specs.Table.{is_kept, keeping, most_kept};
     ghost use Rattle.std.specs.declared.net.socket_addr.SocketAddr.{SocketAddr as AddressOf};
 
-    /// Returns a table without an address. Fails if memory is refused.
-    pub fn new(alloc: Global) -> Result<Addresses, AllocError>
+    /// Returns a table without an address, of `count` numbers, which keeps `most` of them. That is
+    /// at least 1, and fewer than there are. Fails if memory is refused.
+    pub fn new(alloc: Global, count: u16, most: u16) -> Result<Addresses, AllocError>
+        requires some { 0 < most }
+        requires fewer { most < count }
         ensures none { IfOk result (λ t. (n : ℕ) → address_at t.addresses n ≡ None) }
+        ensures count { IfOk result (λ t. count_of t ≡ count) }
         ensures next { IfOk result (λ t. t.next ≡ 0) }
+        ensures free { IfOk result (λ t. (n : ℕ) → n < count → is_kept t.kept n ≡ false) }
+        ensures most { IfOk result (λ t. most_kept t ≡ most) }
         ensures turn { IfOk result (λ t. t.turn ≡ 0) }
     {
-        let places = vec![in alloc; None; ADDRESSES as usize]?;
-        let kept = vec![in alloc; ADDRESSES; KEPT as usize]?;
+        let places = vec![in alloc; None; count as usize]?;
+        let kept = vec![in alloc; count; most as usize]?;
         Ok(Addresses {
             places,
             next: 0,
@@ -80,14 +84,18 @@ impl Addresses {
             → (result ≡ Some n) × (self.new ≡ self.old) }
         ensures added { ((n : ℕ) → ¬ IsAt self.old.addresses n address)
             → IfSome result (λ n. IsAdded self.old address n self.new) }
-        ensures none { IfNone result (AllKept self.old.kept × (self.new ≡ self.old)) }
+        // The number has the address now.
+        ensures at { IfSome result (λ n. IsAt self.new.addresses n address) }
+        ensures none { IfNone result
+            (AllKept self.old.kept (count_of self.old) × (self.new ≡ self.old)) }
     {
         if let Some(place) = place_of(&self.places, &address) {
             return Some(place as u16);
         }
-        let place = free_place(&self.kept, self.next)?;
+        let count = self.places.len() as u16;
+        let place = free_place(&self.kept, count, self.next)?;
         self.places[place as usize] = Some(address);
-        self.next = (place + 1) % ADDRESSES;
+        self.next = place_after(place, 1, count);
         Some(place)
     }
 
@@ -98,14 +106,16 @@ impl Addresses {
         self.kept.contains(&number)
     }
 
-    /// Keeps the address with this number, until 128 others were kept after it.
+    /// Keeps the address with this number, until as many others were kept after it as the table
+    /// keeps.
     pub fn keep(&mut self, number: u16)
         ensures { self.new ≡ keeping self.old number }
     {
         if self.is_kept(number) {
             return;
         }
+        let most = self.kept.len() as u16;
         self.kept[self.turn as usize] = number;
-        self.turn = (self.turn + 1) % KEPT;
+        self.turn = place_after(self.turn, 1, most);
     }
 }

@@ -3,7 +3,8 @@ use Rattle.std.specs.Prelude.{◌≡◌, ℕ, true, Option, None, Some}
 use Rattle.share_keys.specs.Claims.{claimed}
 use Rattle.share_session.specs.Datagram.{datagram, message_fits}
 use Rattle.share_session.specs.declared.message.Body2.{Body2}
-use Rattle.share_session.specs.declared.message.Body2.TheVariants.{Input, Offer, Ask, Ack, Floor, Piece}
+use Rattle.share_session.specs.declared.message.Body2.TheVariants.{Input, Offer, Ask}
+use Rattle.share_session.specs.declared.message.Body2.TheVariants.{Ack, Floor, Piece}
 use Rattle.share_session.specs.declared.message.Message2.{Message2}
 use Rattle.share_session.specs.declared.message.Message2.TheVariants.{Said, Hello, Welcome}
 

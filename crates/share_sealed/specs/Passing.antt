@@ -1,20 +1,23 @@
 -- What passes through a port of sealed datagrams (our choice).
-use Rattle.std.specs.Prelude.{◌≡◌, ◌≤◌, ℕ, ⊤, ◌++◌, List, [], ◌∷◌, Option, None, Some, Result, Ok, Err, length, take, if◌then◌else◌}
+use Rattle.std.specs.Prelude.{◌≡◌, ◌≤◌, ℕ, ⊤, ◌++◌, ◌&&◌, Bool, true, false, List, [], ◌∷◌}
+use Rattle.std.specs.Prelude.{Option, None, Some, Result, Ok, Err, length, take, is_some, nat_le}
+use Rattle.std.specs.Prelude.{if◌then◌else◌}
 use Rattle.std.specs.Option.{option_map}
 use Rattle.share_keys.specs.Claims.{opened_in}
 use Rattle.share_keys.specs.Seal.{seal_of, unsealed_in}
 use Rattle.share_keys.specs.declared.sealing.Direction.{Direction}
 use Rattle.share_keys.specs.declared.sealing.Direction.TheVariants.{FromHost}
 use Rattle.share_keys.specs.declared.sealing.Key.{Key}
-use Rattle.share_turns.specs.Told.{max_received, one_more}
+use Rattle.share_turns.specs.Told.{counted, max_received, one_more}
 use Rattle.share_turns.specs.declared.port.PortFault.{PortFault}
 use Rattle.share_turns.specs.declared.traffic.Traffic.{Traffic}
 use Rattle.share_turns.specs.declared.traffic.Traffic.TheVariants.{Nothing, Received, Sent}
 use Rattle.share_sealed.specs.declared.coming.Coming.{Coming}
 use Rattle.share_sealed.specs.declared.coming.Coming.TheVariants as coming
 use Rattle.share_sealed.specs.declared.coming.Wrongs.{Wrongs}
-use Rattle.share_sealed.specs.Speakers.{noted}
-use Rattle.share_sealed.specs.Told.{IsPassed, Opening, all_opened, goes_on, row_opened, row_wrong, told_in}
+use Rattle.share_sealed.specs.Speakers.{key_to, noted}
+use Rattle.share_sealed.specs.Told.{IsPassed, Opening, all_opened, goes_on, row_opened, row_wrong}
+use Rattle.share_sealed.specs.Told.{told_in}
 
 -- the datagram to the host of the viewer that it says it is of, by that viewer's key
 abbrev pub host_opens : List (Option Key) → Opening
@@ -112,3 +115,17 @@ ViewerPasses key before after told_before told_after handed =
 abbrev pub sealed_to : (peer : ℕ) → (key : List ℕ) → Direction → List ℕ → List Traffic
 sealed_to peer key direction bytes =
     Sent (record { peer = peer; bytes = bytes ++ seal_of key direction bytes }) ∷ []
+
+-- there is room for a seal
+abbrev pub has_room : (bytes : List ℕ) → Bool
+has_room bytes = nat_le (length bytes) 273
+
+-- what a host may send to a peer: it heard that one, and there is room for a seal
+abbrev pub host_sends : List (Option Key) → (speakers : List (Option ℕ)) → (peer : ℕ)
+    → (bytes : List ℕ) → Bool
+host_sends keys speakers peer bytes = is_some (key_to keys speakers peer) && has_room bytes
+
+-- how often the port below has failed after a send with this answer, which was given to it or not
+abbrev pub counted_if : {A E : Type 0} → (given : Bool) → Result A E → ℕ → ℕ
+counted_if true result n = counted result n
+counted_if false result n = n

@@ -2,7 +2,8 @@
 -- datagram that came with a right seal is handed on without it, and one that is sent was given
 -- without its seal. Another datagram that came is counted, and not recorded; but after 64 of them
 -- in a row a receive ends, as if nothing had arrived.
-use Rattle.std.specs.Prelude.{◌≡◌, ℕ, ◌+◌, ◌==◌, ◌++◌, Bool, List, [], ◌∷◌, Option, None, Some, nat_lt, if◌then◌else◌}
+use Rattle.std.specs.Prelude.{◌≡◌, ℕ, ◌+◌, ◌==◌, ◌++◌, Bool, List, [], ◌∷◌, Option, None, Some}
+use Rattle.std.specs.Prelude.{nat_lt, if◌then◌else◌}
 use Rattle.share_keys.specs.Seal.{front_of}
 use Rattle.share_turns.specs.Told.{Grows, one_more}
 use Rattle.share_turns.specs.declared.traffic.Traffic.{Traffic}

@@ -64,6 +64,11 @@ impl<P> KeyedPort<P> {
         &self.port
     }
 
+    /// Returns the inner port, to be given datagrams.
+    pub fn port_mut(&mut self) -> &mut P {
+        &mut self.port
+    }
+
     /// Returns how many datagrams without a right seal came, up to 2^64 - 1.
     pub fn dropped(&self) -> u64
         ensures { result ≡ self.now.wrongs.all }
@@ -123,6 +128,8 @@ impl<P: Port> KeyedPort<P> {
             × (self.new.wrongs.row ≡ self.old.wrongs.row + 1) }
         ensures keys { self.new.keys ≡ self.old.keys }
         ensures failures { self.new.failed ≡ counted result self.old.failed }
+        ensures below { P.failure_count self.new.port
+            ≡ counted result (P.failure_count self.old.port) }
         ensures time { P.rested self.new.port ≡ P.rested self.old.port }
     {
         match self.port.receive(into) {
@@ -144,6 +151,8 @@ impl<P: Port> KeyedPort<P> {
         ensures most { IfOk result (λ came. IfSome came (λ r. r.1 ≤ max_received)) }
         ensures keys { self.new.keys ≡ self.old.keys }
         ensures failures { self.new.failed ≡ counted result self.old.failed }
+        ensures below { P.failure_count self.new.port
+            ≡ counted result (P.failure_count self.old.port) }
         ensures time { P.rested self.new.port ≡ P.rested self.old.port }
     {
         match self.receive_one(into) {
@@ -162,6 +171,8 @@ impl<P: Port> KeyedPort<P> {
         ensures err { OnErr result
             (Grows (P.told self.old.port) (P.told self.new.port) []) }
         ensures failures { self.new.failed ≡ counted result self.old.failed }
+        ensures below { P.failure_count self.new.port
+            ≡ counted result (P.failure_count self.old.port) }
         ensures time { P.rested self.new.port ≡ P.rested self.old.port }
         ensures keys { self.new.keys ≡ self.old.keys }
         ensures speakers { self.new.speakers ≡ self.old.speakers }
@@ -212,6 +223,10 @@ impl<P: Port> Port for KeyedPort<P> {
             (spec.sealed_to to key.bytes FromHost bytes.now)) }
         ensures unsent { OnErr result
             (Grows (P.told self.old.port) (P.told self.new.port) []) }
+        // It fails only if it isn't given to the port below, or if that one fails.
+        ensures below { P.failure_count self.new.port
+            ≡ spec.counted_if (spec.host_sends self.old.keys self.old.speakers to bytes.now)
+            result (P.failure_count self.old.port) }
         ensures keys { self.new.keys ≡ self.old.keys }
         ensures speakers { self.new.speakers ≡ self.old.speakers }
         ensures wrongs { self.new.wrongs ≡ self.old.wrongs }
@@ -238,6 +253,8 @@ impl<P: Port> Port for KeyedPort<P> {
             (λ _. Grows (spec.host_told self.old.keys self.old.wrongs (P.told self.old.port))
             (spec.host_told self.new.keys self.new.wrongs (P.told self.new.port)) []) }
         ensures failures { self.new.failed ≡ counted result self.old.failed }
+        ensures below { P.failure_count self.new.port
+            ≡ counted result (P.failure_count self.old.port) }
         ensures time { P.rested self.new.port ≡ P.rested self.old.port }
         // What came below, and who was heard.
         ensures passes { spec.HostPasses self.old.keys self.old.wrongs self.new.wrongs

@@ -100,6 +100,8 @@ impl<P: Port> SealedPort<P> {
             × (self.new.wrongs.row ≡ self.old.wrongs.row + 1) }
         ensures key { self.new.key ≡ self.old.key }
         ensures failures { self.new.failed ≡ counted result self.old.failed }
+        ensures below { P.failure_count self.new.port
+            ≡ counted result (P.failure_count self.old.port) }
         ensures time { P.rested self.new.port ≡ P.rested self.old.port }
     {
         match self.port.receive(into) {
@@ -120,6 +122,8 @@ impl<P: Port> SealedPort<P> {
         ensures most { IfOk result (λ came. IfSome came (λ r. r.1 ≤ max_received)) }
         ensures key { self.new.key ≡ self.old.key }
         ensures failures { self.new.failed ≡ counted result self.old.failed }
+        ensures below { P.failure_count self.new.port
+            ≡ counted result (P.failure_count self.old.port) }
         ensures time { P.rested self.new.port ≡ P.rested self.old.port }
     {
         match self.receive_one(into) {
@@ -138,6 +142,8 @@ impl<P: Port> SealedPort<P> {
         ensures err { OnErr result
             (Grows (P.told self.old.port) (P.told self.new.port) []) }
         ensures failures { self.new.failed ≡ counted result self.old.failed }
+        ensures below { P.failure_count self.new.port
+            ≡ counted result (P.failure_count self.old.port) }
         ensures time { P.rested self.new.port ≡ P.rested self.old.port }
         ensures key { self.new.key ≡ self.old.key }
         ensures wrongs { self.new.wrongs ≡ self.old.wrongs }
@@ -183,6 +189,10 @@ impl<P: Port> Port for SealedPort<P> {
             (spec.sealed_to to self.old.key.bytes ToHost bytes.now)) }
         ensures unsent { OnErr result
             (Grows (P.told self.old.port) (P.told self.new.port) []) }
+        // It fails only if it isn't given to the port below, or if that one fails.
+        ensures below { P.failure_count self.new.port
+            ≡ spec.counted_if (spec.has_room bytes.now)
+            result (P.failure_count self.old.port) }
         ensures key { self.new.key ≡ self.old.key }
         ensures wrongs { self.new.wrongs ≡ self.old.wrongs }
     {
@@ -205,6 +215,8 @@ impl<P: Port> Port for SealedPort<P> {
             (λ _. Grows (spec.viewer_told self.old.key.bytes self.old.wrongs (P.told self.old.port))
             (spec.viewer_told self.new.key.bytes self.new.wrongs (P.told self.new.port)) []) }
         ensures failures { self.new.failed ≡ counted result self.old.failed }
+        ensures below { P.failure_count self.new.port
+            ≡ counted result (P.failure_count self.old.port) }
         ensures time { P.rested self.new.port ≡ P.rested self.old.port }
         // What came below.
         ensures passes { spec.ViewerPasses self.old.key.bytes self.old.wrongs self.new.wrongs

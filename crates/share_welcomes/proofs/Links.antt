@@ -1,9 +1,9 @@
 -- Entries with the chains before them: one more, and the one of a number.
-use Rattle.std.proofs.Common.{◌≡◌, ℕ, zero, suc, ◌-◌, ◌+◌, ◌<◌, Bool, true, false, cond, eqb, List, [], ◌∷◌, ◌++◌, map, length, take, drop, get_or, Option, Some, None, refl, sym, ap, ◌∙◌, arith}
-use Rattle.std.specs.Prelude.{slice_get, unwrap_or}
+use Rattle.std.proofs.Common.{◌≡◌, ℕ, zero, suc, ◌-◌, ◌+◌, ◌<◌, ◌≤◌, Bool, true, false, cond, eqb, List, [], ◌∷◌, ◌++◌, map, length, take, drop, get_or, Option, Some, None, refl, sym, ap, ◌∙◌, arith}
+use Rattle.std.specs.Prelude.{nat_le, slice_get, unwrap_or}
 use Rattle.std.specs.Option.{option_map}
-use Rattle.std.proofs.lemmas.Bool.{cond-false}
-use Rattle.std.proofs.lemmas.List.{map-append, length-take-le}
+use Rattle.std.proofs.lemmas.Bool.{cond-false, cond-true, le-leb}
+use Rattle.std.proofs.lemmas.List.{map-append, length-take-le, take_all}
 use Rattle.std.proofs.lemmas.Option.{slice_get_read, slice_get_within}
 use Rattle.std.proofs.lemmas.List.Sums.{fold_push}
 use Rattle.share_entries.specs.Entry.{EntryView}
@@ -11,7 +11,7 @@ use Rattle.share_entries.specs.Chain.{link, chain_after}
 use Rattle.share_session.specs.declared.message.Input2.{Input2}
 use Rattle.share_session.specs.Follows.{IsOfLog}
 use Rattle.share_welcomes.specs.declared.learned.Link.{Link}
-use Rattle.share_welcomes.specs.Learned.{boot_noted, boots_after, entries_of, input_at, input_of, linked, no_boots}
+use Rattle.share_welcomes.specs.Learned.{IsChainAt, boot_noted, boots_after, chain_at, entries_of, input_at, input_of, linked, no_boots}
 
 some_is : {A : Type 0} (x y : A) → Some x ≡ Some y → x ≡ y
 some_is x y e = ap (λ o. unwrap_or o x) e
@@ -79,6 +79,23 @@ split (x ∷ xs) (suc n) e h = ap (λ (l : List EntryView). x ∷ l) (split xs n
 nonzero : (n : ℕ) → eqb n 0 ≡ false → n ≡ suc (n - 1)
 nonzero zero h = absurd cc
 nonzero (suc n) h = omega arith
+
+-- ---- the chain after the first entries
+
+pub chain_is : (run : List ℕ) (es : List EntryView) (n : ℕ) (chain : List ℕ) → IsChainAt run es n chain → Some chain ≡ chain_at run es n
+chain_is run es n chain is =
+    ap (λ (c : List ℕ). Some c) is.1
+    ∙ sym (cond-true (nat_le n (length es)) (Some (chain_after run (take n es))) None (le-leb n (length es) is.0))
+
+pub chain_of_link : (run : List ℕ) (es : List EntryView) (links : List Link) (n : ℕ) (l : Link) → links ≡ linked run es → n ≤ length es → slice_get links n ≡ Some l → IsChainAt run es n l.chain
+chain_of_link run es links n l are within got =
+    let there : Found run es n l = found run es n l (sym (ap (λ (z : List Link). slice_get z n) are) ∙ got) in
+    (within, there.chained)
+
+-- no link is there: these are all entries
+pub chain_of_all : (run : List ℕ) (es : List EntryView) (n : ℕ) (chain : List ℕ) → n ≤ length es → length es ≤ n → chain ≡ chain_after run es → IsChainAt run es n chain
+chain_of_all run es n chain within past e =
+    (within, e ∙ ap (λ (l : List EntryView). chain_after run l) (sym (take_all n es past)))
 
 module _ (run : List ℕ) (es : List EntryView) (links : List Link) (number sent : ℕ) (l : Link) (is_sent : sent ≡ number) (are : links ≡ linked run es) (some : eqb number 0 ≡ false) (got : slice_get links (number - 1) ≡ Some l) where
   its : Found run es (number - 1) l

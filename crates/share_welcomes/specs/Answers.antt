@@ -7,29 +7,49 @@ use Rattle.share_wire.specs.declared.fault.WireFault.{WireFault}
 use Rattle.share_wire.specs.declared.message.Body.{Body}
 use Rattle.share_wire.specs.declared.message.Body.TheVariants as body
 use Rattle.share_wire.specs.declared.message.Message.{Message}
+use Rattle.share_wire.specs.Messages.{PieceView}
 use Rattle.share_session.specs.Datagram as two_bytes
 use Rattle.share_session.specs.Decoding as two
 use Rattle.share_session.specs.Follows.{IsOfLog}
 use Rattle.share_session.specs.Heard.{heard, lifted}
+use Rattle.share_session.specs.Messages.{PieceView2}
 use Rattle.share_session.specs.declared.message.Body2.{Body2}
 use Rattle.share_session.specs.declared.message.Body2.TheVariants.{Input, Offer, Ask, Ack, Floor, Piece}
 use Rattle.share_session.specs.declared.message.Message2.{Message2}
 use Rattle.share_session.specs.declared.message.Message2.TheVariants.{Said, Hello, Welcome}
 use Rattle.share_welcomes.specs.declared.host_run.HostRun.{HostRun}
 use Rattle.share_welcomes.specs.Coming as coming
-use Rattle.share_welcomes.specs.Learned.{LearnedView, input_at}
+use Rattle.share_welcomes.specs.Learned.{IsChainAt, LearnedView, chain_at, input_at}
 
 abbrev pub is_same : (bytes other : List ℕ) → Bool
 is_same bytes other = coming.is_same bytes other
 
--- the body of version 2; an input is that of the log
+-- the piece, with the chain of its snapshot's world
+abbrev pub chained : PieceView → (chain : List ℕ) → PieceView2
+chained p chain =
+    record {
+      head = record {
+        chain = chain;
+        boot = p.boot;
+        applied = p.applied;
+        size = p.length;
+        index = p.index;
+      };
+      bytes = p.bytes;
+    }
+
+abbrev pub piece_in_two : LearnedView → PieceView → Option PieceView2
+piece_in_two l p = option_map (chained p) (chain_at l.run l.entries p.applied)
+
+-- the body of version 2; an input is that of the log, and a piece has the chain of the log after
+-- its snapshot's inputs
 abbrev pub body_in_two : LearnedView → Body → Option Body2
 body_in_two l (body.Input s) = option_map Input (input_at l.run l.entries s.number)
 body_in_two l (body.Offer o) = lifted (body.Offer o)
 body_in_two l (body.Ask a) = lifted (body.Ask a)
 body_in_two l (body.Ack a) = lifted (body.Ack a)
 body_in_two l (body.Floor f) = lifted (body.Floor f)
-body_in_two l (body.Piece p) = lifted (body.Piece p)
+body_in_two l (body.Piece p) = option_map Piece (piece_in_two l p)
 
 -- a peer of the run hears what these bytes say in version 1
 abbrev pub is_said : Option Message → (bytes : List ℕ) → Bool
@@ -65,14 +85,18 @@ abbrev pub sent_as : (is_two : Bool) → HostRun → LearnedView → (bytes : Li
 sent_as is_two r l bytes =
     if is_two then option_map two_bytes.datagram (in_two r l bytes) else plain bytes
 
--- an input is that of the log
+-- a piece has the chain of the log after its snapshot's inputs
+abbrev pub IsPieceOfLog : LearnedView → PieceView2 → Type 0
+IsPieceOfLog l p = IsChainAt l.run l.entries p.head.applied p.head.chain
+
+-- an input is that of the log, and so is the chain of a piece
 abbrev pub IsOfItsLog : LearnedView → Body2 → Type 0
 IsOfItsLog l (Input i) = IsOfLog l.run l.entries i
 IsOfItsLog l (Offer o) = ⊤
 IsOfItsLog l (Ask a) = ⊤
 IsOfItsLog l (Ack a) = ⊤
 IsOfItsLog l (Floor n) = ⊤
-IsOfItsLog l (Piece p) = ⊤
+IsOfItsLog l (Piece p) = IsPieceOfLog l p
 
 abbrev pub IsOfOurLog : LearnedView → Message2 → Type 0
 IsOfOurLog l (Said session body) = IsOfItsLog l body

@@ -1,5 +1,5 @@
 -- The entries that a port has learned of a log, with their chains.
-use Rattle.std.specs.Prelude.{ℕ, ◌-◌, ◌==◌, List, [], ◌∷◌, map, take, replicate, slice_get, slice_set, get_or, Option, None, Some, if◌then◌else◌}
+use Rattle.std.specs.Prelude.{◌≡◌, ◌≤◌, ℕ, ◌-◌, ◌==◌, List, [], ◌∷◌, length, map, take, replicate, nat_le, slice_get, slice_set, get_or, Option, None, Some, if◌then◌else◌}
 use Rattle.std.specs.List.{fold}
 use Rattle.share_entries.specs.Entry.{EntryView}
 use Rattle.share_entries.specs.declared.entry.Source.{Source}
@@ -28,6 +28,17 @@ abbrev pub input_at : (run : List ℕ) → List EntryView → (number : ℕ) →
 input_at run entries number =
     if number == 0 then None
     else input_of run entries number (slice_get entries (number - 1))
+
+-- ---- chains
+
+-- the chain after the first n entries, if there are that many
+abbrev pub chain_at : (run : List ℕ) → List EntryView → (n : ℕ) → Option (List ℕ)
+chain_at run entries n =
+    if nat_le n (length entries) then Some (chain_after run (take n entries)) else None
+
+abbrev pub IsChainAt : (run : List ℕ) → List EntryView → (n : ℕ) → (chain : List ℕ) → Type 0
+IsChainAt run entries n chain =
+    (n ≤ length entries) × (chain ≡ chain_after run (take n entries))
 
 -- ---- boots
 

@@ -1,5 +1,5 @@
 -- Which peers are answered in version 2 (our choice): those whose last datagram was of it. A peer
--- is its port.
+-- is its number; of one beyond the list nothing is noted.
 use Rattle.std.specs.Prelude.{ℕ, Bool, false, List, slice_set, get_or}
 
 abbrev pub noted : List Bool → (peer : ℕ) → Bool → List Bool

@@ -10,13 +10,42 @@ ghost use Rattle.share_welcomes.specs.Answers as spec;
 
 use crate::host_run::HostRun;
 use crate::learned::Learned;
+use share_entries::Chain;
 use share_session::{
-    Body2, Message2, Packet2, decode as decode_two, encode as encode_two, heard, lifted,
+    Body2, Message2, Packet2, Piece2, PieceHead, decode as decode_two, encode as encode_two, heard,
+    lifted,
 };
-use share_wire::{Body, Message, decode, encode};
+use share_wire::{Body, Message, Piece, decode, encode};
 
-/// Returns the body of version 2 of a body of version 1. `None` for a piece, and for an input whose
-/// entry isn't known.
+/// Returns the piece of version 2 of a piece of version 1.
+fn chained(piece: &Piece, chain: Chain) -> Piece2
+    ensures { result ≡ spec.chained piece.now chain }
+{
+    let bytes = piece.bytes();
+    let head = PieceHead {
+        chain,
+        boot: piece.boot(),
+        applied: u64::from(piece.applied()),
+        size: piece.size(),
+        index: piece.index(),
+    };
+    Piece2::new(head, bytes)
+}
+
+/// Returns the piece of version 2 of a piece of version 1. `None` if its snapshot has more inputs
+/// than are known.
+fn piece_in_two(learned: &Learned, piece: &Piece) -> Option<Piece2>
+    ensures value { result ≡ spec.piece_in_two learned.now piece.now }
+    ensures log { IfSome result (spec.IsPieceOfLog learned.now) }
+{
+    match learned.chain(piece.applied()) {
+        Some(chain) => Some(chained(piece, chain)),
+        None => None,
+    }
+}
+
+/// Returns the body of version 2 of a body of version 1. `None` for an input whose entry isn't
+/// known, and for a piece of a snapshot with more inputs than are known.
 fn body_in_two(learned: &Learned, body: &Body) -> Option<Body2>
     ensures value { result ≡ spec.body_in_two learned.now body.now }
     ensures log { IfSome result (spec.IsOfItsLog learned.now) }
@@ -24,6 +53,10 @@ fn body_in_two(learned: &Learned, body: &Body) -> Option<Body2>
     match body {
         Body::Input(input) => match learned.input(input.number()) {
             Some(input) => Some(Body2::Input(input)),
+            None => None,
+        },
+        Body::Piece(piece) => match piece_in_two(learned, piece) {
+            Some(piece) => Some(Body2::Piece(piece)),
             None => None,
         },
         _ => lifted(body),

@@ -117,6 +117,21 @@ impl Learned {
         }
     }
 
+    /// Returns the chain after the first `count` entries, if there are that many.
+    pub fn chain(&self, count: u32) -> Option<Chain>
+        ensures value { result ≡ spec.chain_at self.now.run self.now.entries count }
+        ensures log { IfSome result (spec.IsChainAt self.now.run self.now.entries count) }
+    {
+        let count = count as usize;
+        if count > self.len() {
+            return None;
+        }
+        match self.links.get(count) {
+            Some(known) => Some(known.chain),
+            None => Some(self.next),
+        }
+    }
+
     /// Returns the input of this number, as the host of the log sends it.
     pub fn input(&self, number: u32) -> Option<Input2>
         ensures value { result ≡ spec.input_at self.now.run self.now.entries number }

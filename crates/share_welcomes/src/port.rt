@@ -1,6 +1,6 @@
 //! The port of a host in its run.
 
-ghost use Rattle.std.specs.Prelude.{◌≡◌, ℕ, IfOk, false};
+ghost use Rattle.std.specs.Prelude.{◌≡◌, ℕ, IfOk, false, length};
 ghost use Rattle.share_turns.specs.Told.{one_more};
 ghost use Rattle.share_welcomes.specs.Versions.{is_two};
 
@@ -22,7 +22,7 @@ use std::alloc::{AllocError, Global};
 ///
 /// A send fails if the port below fails, and also if there is nothing to send: the bytes aren't a
 /// datagram of version 1, or the peer is answered in version 2 and the port hasn't learned the
-/// input's entry.
+/// input's entry, or not all entries of a piece's snapshot.
 #[derive(Drop)]
 pub struct HostPort<P> {
     port: P,
@@ -33,12 +33,14 @@ pub struct HostPort<P> {
 }
 
 impl<P: Drop> HostPort<P> {
-    /// Returns the port of a host that begins with these entries of its run's log. Fails if memory
-    /// is refused.
+    /// Returns the port of a host that begins with these entries of its run's log. The numbers of
+    /// its peers are below `peers`; another peer is answered in version 1. Fails if memory is
+    /// refused.
     pub fn begin(
         alloc: Global,
         port: P,
         run: HostRun,
+        peers: usize,
         entries: &[Entry],
     ) -> Result<HostPort<P>, AllocError>
         ensures port { IfOk result (λ p. p.port ≡ port) }
@@ -46,10 +48,11 @@ impl<P: Drop> HostPort<P> {
         ensures learned { IfOk result
             (λ p. p.learned ≡ record { run = run.run; entries = entries.now }) }
         ensures versions { IfOk result (λ p. (peer : ℕ) → is_two p.versions peer ≡ false) }
+        ensures peers { IfOk result (λ p. length p.versions ≡ peers) }
     {
         let mut learned = Learned::none(alloc, run.run);
         learned.learn(entries)?;
-        let versions = Versions::unheard(alloc)?;
+        let versions = Versions::unheard(alloc, peers)?;
         Ok(HostPort {
             port,
             run,
@@ -66,6 +69,11 @@ impl<P> HostPort<P> {
         ensures { result.now ≡ self.now.port }
     {
         &self.port
+    }
+
+    /// Returns the inner port, to be given datagrams.
+    pub fn port_mut(&mut self) -> &mut P {
+        &mut self.port
     }
 
     fn fail(&mut self) -> PortFault

@@ -64,7 +64,7 @@ fn port_with(alloc: Global, bytes: &[u8]) -> Result<HostPort<FakePort>, Fail> {
     if inner.deliver(Datagram { peer: 9, bytes }).is_err() {
         return Err(Fail::from("memory was refused"));
     }
-    let Ok(mut port) = HostPort::begin(alloc, inner, host_run()?, &[]) else {
+    let Ok(mut port) = HostPort::begin(alloc, inner, host_run()?, 10, &[]) else {
         return Err(Fail::from("memory was refused"));
     };
     if port.learn(&[Entry::new(5, Source::Clock)]).is_err() {

@@ -3,34 +3,32 @@
 use std::alloc::{AllocError, Global};
 use std::marker::Model;
 
-/// How many peers there may be: one for each port.
-const PEERS: usize = 65_536;
-
-/// Which peers are answered in version 2: those whose last datagram was of it.
+/// Which peers are answered in version 2: those whose last datagram was of it. Of a peer beyond the
+/// number of peers nothing is noted.
 #[derive(Drop)]
 pub struct Versions {
     twos: Vec<bool>,
 }
 
 impl Model for Versions {
-    ghost use Rattle.std.specs.Prelude.{◌≡◌, List, Bool, length};
+    ghost use Rattle.std.specs.Prelude.{List, Bool};
 
     ghost Value = { List Bool };
 
     ghost view = { λ v. v.twos.items };
-
-    ghost invariant = { λ v. length v.twos.items ≡ 65536 };
 }
 
 impl Versions {
-    ghost use Rattle.std.specs.Prelude.{◌≡◌, IfOk, ℕ, false};
+    ghost use Rattle.std.specs.Prelude.{◌≡◌, IfOk, ℕ, false, length};
     ghost use Rattle.share_welcomes.specs.Versions as spec;
 
-    /// Returns what is known before any datagram came. Fails if memory is refused.
-    pub fn unheard(alloc: Global) -> Result<Versions, AllocError>
-        ensures { IfOk result (λ v. (peer : ℕ) → spec.is_two v peer ≡ false) }
+    /// Returns what is known of this many peers before any datagram came. Fails if memory is
+    /// refused.
+    pub fn unheard(alloc: Global, peers: usize) -> Result<Versions, AllocError>
+        ensures none { IfOk result (λ v. (peer : ℕ) → spec.is_two v peer ≡ false) }
+        ensures peers { IfOk result (λ v. length v ≡ peers) }
     {
-        let twos = vec![in alloc; false; PEERS]?;
+        let twos = vec![in alloc; false; peers]?;
         Ok(Versions { twos })
     }
 
@@ -38,13 +36,19 @@ impl Versions {
     pub fn note(&mut self, peer: u16, is_two: bool)
         ensures { self.new ≡ spec.noted self.old peer is_two }
     {
-        self.twos[peer as usize] = is_two;
+        let place = peer as usize;
+        if place < self.twos.len() {
+            self.twos[place] = is_two;
+        }
     }
 
     /// Reports whether a peer is answered in version 2.
     pub fn is_two(&self, peer: u16) -> bool
         ensures { result ≡ spec.is_two self.now peer }
     {
-        self.twos[peer as usize]
+        match self.twos.get(peer as usize) {
+            Some(is_two) => *is_two,
+            None => false,
+        }
     }
 }

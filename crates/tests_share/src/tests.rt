@@ -26,6 +26,7 @@ mod loading;
 mod meeting;
 mod pacing;
 mod runs;
+mod starting;
 mod stored;
 mod storing;
 mod turning;

@@ -4,10 +4,8 @@ ghost use Rattle.std.specs.Prelude.{◌≤◌};
 ghost use Rattle.x3d_values.specs.Ranges.{max_viewers};
 ghost use Rattle.app_words.specs.Words.{HostInRange};
 
+use app_serve::VIEWERS;
 use app_words::HostOrder;
-
-/// How many viewers a host has by default.
-pub const VIEWERS: u8 = 2;
 
 /// How many turns a host without a log takes by default.
 const TURNS: u32 = 1_000_000;

@@ -1,15 +1,16 @@
 //! The socket of a host, and the keys by which it is reached.
 
-use crate::end::End;
-use crate::key_files::host_keys;
-use crate::places::{Place, may_be_reached, place_of};
 use app_commands::{AddressedPort, TimedPort, bound, number_of};
 use app_program::ShareFault;
+use app_serve::{End, Place, host_keys, may_be_reached, place_of};
 use app_words::HostOrder;
+use script_host::Behaviour;
 use share_guards::GuardedPort;
+use share_keeping::KeepingPort;
 use share_keys::Keys;
 use share_sealed::{KeyedPort, SealedPort};
 use share_turns::UdpPort;
+use share_welcomes::HostPort;
 
 /// The texts of a host's options, if they were given.
 #[derive(Clone, Copy)]
@@ -42,6 +43,13 @@ pub struct Door<'a> {
     pub keys: Option<Keys>,
 }
 
+impl Way {
+    /// Reports whether the host has keys.
+    pub fn has_keys(&self) -> bool {
+        self.keys.is_some()
+    }
+}
+
 impl<'a> Socket<'a> {
     /// Returns the port that the socket is bound to. Fails with `Port` if the system doesn't say
     /// it.
@@ -64,6 +72,12 @@ pub trait OverSocket {
     /// Returns how many datagrams of strangers, or beyond a viewer's limits, were dropped, up to
     /// 2^64 - 1.
     fn strange(&self) -> u64 {
+        0
+    }
+
+    /// Returns at how many rests a host that keeps its world gave less, as a send failed, up to
+    /// 2^64 - 1.
+    fn cut_short(&self) -> u64 {
         0
     }
 }
@@ -129,6 +143,38 @@ impl<P: OverSocket> OverSocket for GuardedPort<P> {
 
     fn strange(&self) -> u64 {
         self.dropped()
+    }
+}
+
+impl<P: OverSocket> OverSocket for HostPort<P> {
+    fn has_numbers(&self) -> bool {
+        self.port().has_numbers()
+    }
+
+    fn unsealed(&self) -> u64 {
+        self.port().unsealed()
+    }
+
+    fn strange(&self) -> u64 {
+        self.port().strange()
+    }
+}
+
+impl<B: Behaviour, P: OverSocket> OverSocket for KeepingPort<B, P> {
+    fn cut_short(&self) -> u64 {
+        self.lost()
+    }
+
+    fn has_numbers(&self) -> bool {
+        self.port().has_numbers()
+    }
+
+    fn unsealed(&self) -> u64 {
+        self.port().unsealed()
+    }
+
+    fn strange(&self) -> u64 {
+        self.port().strange()
     }
 }
 

@@ -173,3 +173,41 @@ pub fn tell_view_end<R: Eprint>(rt: &R, verbose: bool, inputs: u32, counts: Coun
         let _told = rt.eprintln(ViewEnd { inputs, counts });
     }
 }
+
+/// How many inputs the world has that a host keeps, in words.
+#[derive(Drop)]
+struct KeptWorld(u32);
+
+impl fmt::Display for KeptWorld {
+    fn fmt<W: fmt::Write>(&self, f: &mut fmt::Formatter<W>) -> fmt::Result {
+        write!(f, "keeps its world, of {} inputs", self.0)
+    }
+}
+
+/// Reports how many inputs the world has that a host keeps, if `verbose` is set.
+pub fn tell_kept<R: Eprint>(rt: &R, verbose: bool, inputs: u32) {
+    if verbose {
+        let _told = rt.eprintln(KeptWorld(inputs));
+    }
+}
+
+/// At how many rests a host gave less of its world, in words.
+#[derive(Drop)]
+struct GaveLess(u64);
+
+impl fmt::Display for GaveLess {
+    fn fmt<W: fmt::Write>(&self, f: &mut fmt::Formatter<W>) -> fmt::Result {
+        write!(
+            f,
+            "gave less of its world {} times, as a send failed",
+            self.0
+        )
+    }
+}
+
+/// Reports at how many rests a host gave less of its world, if `verbose` is set and it did.
+pub fn tell_cut_short<R: Eprint>(rt: &R, verbose: bool, rests: u64) {
+    if verbose && rests > 0 {
+        let _told = rt.eprintln(GaveLess(rests));
+    }
+}

@@ -4,36 +4,54 @@
 ghost use Rattle.app_words.specs.Words.{HostInRange};
 
 use crate::defaults::{turns_of, viewers_of};
-use crate::doors::{Door, HostTexts, OverSocket, Socket, opened, way_of};
-use crate::end::End;
-use crate::ends::{tell_host_end, tell_port, tell_strange, tell_unsealed};
-use crate::files::drawn_run;
-use crate::key_files::drawn_bytes;
-use app_commands::{PatientPort, Peer, SharedJob, TellingPort, TimedPort, Watch, shared_job};
+use crate::doors::{Door, HostTexts, OverSocket, Socket, Way, opened, way_of};
+use crate::ends::{
+    tell_cut_short, tell_host_end, tell_kept, tell_port, tell_strange, tell_unsealed,
+};
+use crate::host_job::{HostJob, job_in};
+use app_commands::{
+    ADDRESSES, PatientPort, Peer, SharedJob, TellingPort, TimedPort, Watch, shared_job,
+};
 use app_logs::{
-    AppendFault, Beat, Entry, Head, Log, LogFault, LogPlan, LoggedFault, LoggedHost, MemoryLog,
-    RunFault as LogRunFault, append_fault_of, is_viewer_count, log_run, resume, times_after,
+    Beat, Entry, Head, Log, LogFault, LogPlan, LoggedHost, MemoryLog, RunFault as LogRunFault,
+    is_viewer_count, log_run, resume, times_after,
 };
 use app_program::{RunFault, ShareFault, read_whole};
+use app_serve::{End, drawn_bytes, drawn_run};
 use app_words::{HostOrder, Order};
+use cascade_core::Stage;
+use script_boxes::StockScript;
 use share_guards::{GuardedPort, Placed};
+use share_keeping::KeepingPort;
 use share_keys::Keys;
+use share_logged::Learns;
 use share_sealed::KeyedPort;
-use share_turns::{HostPlan, Port, TurnFault};
+use share_turns::{HostPlan, Port};
 use share_welcomes::{HostPort, HostRun};
 use std::alloc::Global;
+
+/// How many peers a socket of this machine has: one for each port.
+const PORTS: usize = 65_536;
+
+/// What a host turns with.
+#[derive(Drop)]
+pub struct Turning {
+    /// That of its log.
+    pub head: Head,
+    pub hosting: LoggedHost,
+    /// The clocks of its job that are still to be numbered, in microseconds.
+    pub clocks: Vec<i64>,
+    pub plan: LogPlan,
+}
 
 /// What a host begins with.
 #[derive(Drop)]
 pub struct Starting {
-    /// That of its log.
-    pub head: Head,
-    pub hosting: LoggedHost,
+    pub turning: Turning,
     /// Those of its log.
     pub entries: Vec<Entry>,
-    /// The clocks of its job that are still to be numbered, in microseconds.
-    pub clocks: Vec<i64>,
-    pub plan: LogPlan,
+    /// That of its scene, if it keeps the world.
+    pub stage: Option<Stage<StockScript>>,
 }
 
 /// Returns what a host does that goes on after an input at time `last`, in at most `turns` turns.
@@ -59,22 +77,11 @@ pub fn read_clocks(rt: &HostRuntime, order: &Order) -> Result<SharedJob, End> {
     }
 }
 
-/// Returns why turns ended early.
-fn turn_end(fault: TurnFault) -> End {
-    match fault {
-        TurnFault::Port => End::from(ShareFault::Port),
-        TurnFault::Spoiled => End::from(ShareFault::Spoiled),
-        TurnFault::Memory => End::from(ShareFault::Memory),
-    }
-}
-
 /// Returns why the turns of a host ended early.
 fn run_end(fault: LogRunFault) -> End {
     match fault {
         LogRunFault::TurnsUsedUp => End::from(ShareFault::TurnsUsedUp),
-        LogRunFault::Turn(LoggedFault::Turn(fault)) => turn_end(fault),
-        LogRunFault::Turn(LoggedFault::Log(AppendFault::InDoubt)) => End::InDoubt,
-        LogRunFault::Turn(LoggedFault::Log(fault)) => End::Log(append_fault_of(fault)),
+        LogRunFault::Turn(fault) => End::from(fault),
     }
 }
 
@@ -88,31 +95,27 @@ fn port_in_run<P: Drop>(
     if !is_viewer_count(head.viewers) {
         return Err(End::Log(LogFault::BadHead));
     }
-    match HostPort::begin(alloc, bound, HostRun::of_head(head), entries) {
+    match HostPort::begin(alloc, bound, HostRun::of_head(head), PORTS, entries) {
         Ok(port) => Ok(port),
         Err(_refused) => Err(End::from(ShareFault::Memory)),
     }
 }
 
-/// Runs a host over its log at a port, which answers each datagram in the version in which it came.
-fn run_over<L: Log, P: Port + OverSocket + Drop>(
+/// Takes the turns of a host over its log at a port.
+fn run_turns<L: Log, P: Learns + OverSocket + Drop>(
     rt: &HostRuntime,
-    starting: Starting,
+    turning: Turning,
     verbose: bool,
     log: &mut L,
-    bound: P,
+    port: P,
 ) -> Result<(), End> {
-    let Starting {
+    let Turning {
         head,
         hosting,
-        entries,
         clocks,
         plan,
-    } = starting;
-    let has_numbers = bound.has_numbers();
-    let port = port_in_run(rt.alloc(), bound, &head, &entries)?;
-    drop(entries);
-    let watch = Watch::new(head.mark, Peer::Host(head.viewers), has_numbers);
+    } = turning;
+    let watch = Watch::new(head.mark, Peer::Host(head.viewers), port.has_numbers());
     let mut port = PatientPort::new(TellingPort::new(port, rt, verbose, watch), rt);
     if !log.takes_appends() {
         return Err(End::InDoubt);
@@ -120,12 +123,74 @@ fn run_over<L: Log, P: Port + OverSocket + Drop>(
     let before = log.len();
     let done = log_run(hosting, &clocks, &plan, log, &mut port);
     let numbered = log.len().saturating_sub(before);
-    tell_unsealed(rt, verbose, port.port().port().port().unsealed());
-    tell_strange(rt, verbose, port.port().port().port().strange());
+    tell_unsealed(rt, verbose, port.port().port().unsealed());
+    tell_strange(rt, verbose, port.port().port().strange());
+    tell_cut_short(rt, verbose, port.port().port().cut_short());
     tell_host_end(rt, verbose, clocks.len(), numbered, port.port().counts());
     match done {
         Ok(()) => Ok(()),
         Err(fault) => Err(run_end(fault)),
+    }
+}
+
+/// Runs a host over its log at a port, and keeps its world. The log's entries are those of a host,
+/// so only memory may be refused to them.
+fn run_keeping<L: Log, P: Learns + OverSocket + Drop>(
+    rt: &HostRuntime,
+    turning: Turning,
+    verbose: bool,
+    log: &mut L,
+    port: P,
+    stage: Stage<StockScript>,
+    entries: &[Entry],
+) -> Result<(), End> {
+    match KeepingPort::begin(port, stage, turning.head.mark, entries) {
+        Ok(port) => {
+            tell_kept(rt, verbose, port.stage().applied());
+            run_turns(rt, turning, verbose, log, port)
+        }
+        Err(_refused) => {
+            drop(turning);
+            Err(End::from(ShareFault::Memory))
+        }
+    }
+}
+
+/// Runs a host over its log at a port, which answers each datagram in the version in which it came.
+fn run_in_run<L: Log, P: Port + OverSocket + Drop>(
+    rt: &HostRuntime,
+    starting: Starting,
+    verbose: bool,
+    log: &mut L,
+    port: HostPort<P>,
+) -> Result<(), End> {
+    let Starting {
+        turning,
+        entries,
+        stage,
+    } = starting;
+    let done = match stage {
+        Some(stage) => run_keeping(rt, turning, verbose, log, port, stage, &entries),
+        None => run_turns(rt, turning, verbose, log, port),
+    };
+    drop(entries);
+    done
+}
+
+/// Runs a host over its log at a port, in the run of its log.
+fn run_over<L: Log, P: Port + OverSocket + Drop>(
+    rt: &HostRuntime,
+    starting: Starting,
+    verbose: bool,
+    log: &mut L,
+    bound: P,
+) -> Result<(), End> {
+    match port_in_run(rt.alloc(), bound, &starting.turning.head, &starting.entries) {
+        Ok(port) => run_in_run(rt, starting, verbose, log, port),
+        Err(end) => {
+            drop(starting);
+            Err(end)
+        }
     }
 }
 
@@ -139,8 +204,13 @@ fn run_guarded<L: Log, P: Port + Placed + OverSocket + Drop>(
 ) -> Result<(), End> {
     let secret = drawn_bytes(rt)?;
     let seed = drawn_bytes(rt)?;
+    let peers = if bound.has_numbers() {
+        ADDRESSES as usize
+    } else {
+        PORTS
+    };
     let timed = TimedPort::new(bound, rt);
-    match GuardedPort::new(rt.alloc(), timed, secret, seed) {
+    match GuardedPort::new(rt.alloc(), timed, peers, secret, seed) {
         Ok(guarded) => run_over(rt, starting, verbose, log, guarded),
         Err(_refused) => Err(End::from(ShareFault::Memory)),
     }
@@ -185,48 +255,73 @@ pub fn run_at<L: Log>(
 /// Returns what a host of a job begins with that has no log, in this run.
 fn without_log(
     alloc: Global,
-    job: &SharedJob,
+    job: HostJob,
     asked: &HostOrder,
     run: [u8; 16],
 ) -> Result<Starting, ShareFault>
     requires { HostInRange asked.now }
 {
     let viewers = viewers_of(asked);
-    let Ok(hosting) = resume(alloc, job.mark, viewers, &[]) else {
-        return Err(ShareFault::Memory);
-    };
-    let Ok(clocks) = times_after(alloc, 0, job.inputs.as_slice()) else {
-        return Err(ShareFault::Memory);
-    };
     let mark = job.mark;
     let head = Head { viewers, mark, run };
     let plan = plan_of(asked, 0, u64::from(turns_of(asked)));
-    Ok(Starting {
+    let Ok(clocks) = times_after(alloc, 0, job.inputs.as_slice()) else {
+        drop(job);
+        return Err(ShareFault::Memory);
+    };
+    let Ok(hosting) = resume(alloc, mark, viewers, &[]) else {
+        drop(job);
+        return Err(ShareFault::Memory);
+    };
+    let turning = Turning {
         head,
         hosting,
-        entries: Vec::new(alloc),
         clocks,
         plan,
+    };
+    let HostJob {
+        inputs: _,
+        mark: _,
+        stage,
+    } = job;
+    let entries = Vec::new(alloc);
+    Ok(Starting {
+        turning,
+        entries,
+        stage,
     })
 }
 
-/// Runs the host of a job at a port, with a log in memory and a run drawn at random.
-fn hosted(
-    rt: &HostRuntime,
-    job: &SharedJob,
-    asked: &HostOrder,
-    texts: &HostTexts<'_>,
-) -> Result<(), End>
+/// Runs the host of a job at a door, with a log in memory and a run drawn at random.
+fn hosted_at(rt: &HostRuntime, job: HostJob, asked: &HostOrder, door: Door<'_>) -> Result<(), End>
     requires { HostInRange asked.now }
 {
-    let way = way_of(rt, asked, texts)?;
-    let door = opened(rt, asked, way)?;
-    let run = drawn_run(rt)?;
+    let run = match drawn_run(rt) {
+        Ok(run) => run,
+        Err(fault) => {
+            drop(job);
+            return Err(End::from(fault));
+        }
+    };
     let starting = without_log(rt.alloc(), job, asked, run)?;
     let Ok(mut memory) = MemoryLog::new(rt.alloc(), 1, Vec::new(rt.alloc())) else {
+        drop(starting);
         return Err(End::from(ShareFault::Memory));
     };
     run_at(rt, starting, asked.verbose, &mut memory.handle(0), door)
+}
+
+/// Binds the socket of a job's host, and runs it with a log in memory.
+fn hosted(rt: &HostRuntime, job: HostJob, asked: &HostOrder, way: Way) -> Result<(), End>
+    requires { HostInRange asked.now }
+{
+    match opened(rt, asked, way) {
+        Ok(door) => hosted_at(rt, job, asked, door),
+        Err(end) => {
+            drop(job);
+            Err(end)
+        }
+    }
 }
 
 /// Reads a job of clocks, and runs its host without a log.
@@ -239,7 +334,14 @@ pub fn host(
     requires { HostInRange asked.now }
 {
     let job = read_clocks(rt, order)?;
-    let done = hosted(rt, &job, asked, texts);
-    drop(job);
-    done
+    match way_of(rt, asked, texts) {
+        Ok(way) => {
+            let job = job_in(rt.alloc(), job, &way)?;
+            hosted(rt, job, asked, way)
+        }
+        Err(end) => {
+            drop(job);
+            Err(end)
+        }
+    }
 }

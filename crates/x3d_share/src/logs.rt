@@ -1,56 +1,16 @@
 //! The commands of a log: a host that makes one or goes on with one, and the inputs of a log as the
 //! steps of a job.
 
-use crate::defaults::VIEWERS;
-use crate::doors::{Door, HostTexts, opened, way_of};
-use crate::end::End;
+use crate::doors::{Door, HostTexts, Way, opened, way_of};
 use crate::ends::tell_log;
-use crate::files::{LogDisk, disk_at, drawn_run};
-use crate::hosts::{Starting, plan_of, read_clocks, run_at};
-use app_commands::SharedJob;
-use app_logs::{
-    Begun, Expected, Head, Log, LogFault, go_on, is_viewer_count, make_log, recalled,
-    recalled_info, times_after,
-};
+use crate::host_job::{HostJob, job_in};
+use crate::hosts::{Starting, Turning, plan_of, read_clocks, run_at};
+use app_logs::{Begun, Log, LogFault, recalled, recalled_info, times_after};
 use app_program::{RunFault, read_whole, write_whole};
+use app_serve::{End, LogDisk, VIEWERS, disk_at, gone_on, made};
 use app_words::{HostOrder, LogUse, Order};
-use sqlite_disk::Disk;
 use std::alloc::Global;
 use std::io;
-
-/// Makes a log with a run drawn at random.
-fn made(
-    rt: &HostRuntime,
-    disk: LogDisk,
-    mark: [u8; 32],
-    viewers: u8,
-) -> Result<Begun<LogDisk>, LogFault> {
-    let run = drawn_run(rt)?;
-    if !disk.may_be_used() || !is_viewer_count(viewers) {
-        return Err(LogFault::Device);
-    }
-    let head = Head { viewers, mark, run };
-    match make_log(rt.alloc(), disk, &head) {
-        Ok(begun) => Ok(begun),
-        Err((fault, _disk)) => Err(fault),
-    }
-}
-
-/// Goes on with a log.
-fn gone_on(
-    alloc: Global,
-    disk: LogDisk,
-    mark: [u8; 32],
-    viewers: Option<u8>,
-) -> Result<Begun<LogDisk>, LogFault> {
-    if !disk.may_be_used() {
-        return Err(LogFault::Device);
-    }
-    match go_on(alloc, disk, &Expected { mark, viewers }) {
-        Ok(begun) => Ok(begun),
-        Err((fault, _disk)) => Err(fault),
-    }
-}
 
 /// Begins the host of a job's scene in the file of a log.
 fn begun_in(
@@ -76,7 +36,7 @@ fn turns_over_log(asked: &HostOrder) -> u64 {
 /// Runs a host over its log at a port.
 fn run_over_log(
     rt: &HostRuntime,
-    job: &SharedJob,
+    job: HostJob,
     asked: &HostOrder,
     begun: Begun<LogDisk>,
     door: Door<'_>,
@@ -89,34 +49,59 @@ fn run_over_log(
         last,
         entries,
     } = begun;
-    let Ok(clocks) = times_after(rt.alloc(), last, job.inputs.as_slice()) else {
+    let HostJob {
+        inputs,
+        mark: _,
+        stage,
+    } = job;
+    let Ok(clocks) = times_after(rt.alloc(), last, inputs.as_slice()) else {
         return Err(End::Log(LogFault::Memory));
     };
     tell_log(rt, asked.verbose, log.len(), cut, clocks.len());
     let plan = plan_of(asked, last, turns_over_log(asked));
-    let starting = Starting {
+    let turning = Turning {
         head,
         hosting,
-        entries,
         clocks,
         plan,
     };
+    let starting = Starting {
+        turning,
+        entries,
+        stage,
+    };
     run_at(rt, starting, asked.verbose, &mut log, door)
+}
+
+/// Opens the file of a log, binds the socket, and begins the host.
+fn begun_at<'a>(
+    rt: &'a HostRuntime,
+    mark: [u8; 32],
+    asked: &HostOrder,
+    way: Way,
+    file: &str,
+) -> Result<(Begun<LogDisk>, Door<'a>), End> {
+    let disk = disk_at(rt, file, asked.log)?;
+    let door = opened(rt, asked, way)?;
+    let begun = begun_in(rt, disk, mark, asked)?;
+    Ok((begun, door))
 }
 
 /// Opens the file of a log, binds the socket, and runs the host.
 fn hosted(
     rt: &HostRuntime,
-    job: &SharedJob,
+    job: HostJob,
     asked: &HostOrder,
-    texts: &HostTexts<'_>,
+    way: Way,
     file: &str,
 ) -> Result<(), End> {
-    let way = way_of(rt, asked, texts)?;
-    let disk = disk_at(rt, file, asked.log)?;
-    let door = opened(rt, asked, way)?;
-    let begun = begun_in(rt, disk, job.mark, asked)?;
-    run_over_log(rt, job, asked, begun, door)
+    match begun_at(rt, job.mark, asked, way, file) {
+        Ok((begun, door)) => run_over_log(rt, job, asked, begun, door),
+        Err(end) => {
+            drop(job);
+            Err(end)
+        }
+    }
 }
 
 /// Reads a job of clocks, and runs its host over the log of a file.
@@ -128,9 +113,16 @@ pub fn host_over_log(
     file: &str,
 ) -> Result<(), End> {
     let job = read_clocks(rt, order)?;
-    let done = hosted(rt, &job, asked, texts, file);
-    drop(job);
-    done
+    match way_of(rt, asked, texts) {
+        Ok(way) => {
+            let job = job_in(rt.alloc(), job, &way)?;
+            hosted(rt, job, asked, way, file)
+        }
+        Err(end) => {
+            drop(job);
+            Err(end)
+        }
+    }
 }
 
 /// Returns the inputs of a log, or the first of them, as the steps of a job; or with `info` what

@@ -3,38 +3,38 @@
 
 mod defaults;
 mod doors;
-mod end;
 mod ends;
-mod files;
+mod host_job;
 mod hosts;
-mod key_files;
 mod logs;
 mod meets;
 mod parts;
 mod peers;
-mod places;
 mod refused;
+mod seated;
+mod serving;
 mod stack;
 mod viewer;
 
 ghost use Rattle.app_words.specs.Words.{HostInRange, IsInRange, ViewInRange};
 
 use crate::doors::HostTexts;
-use crate::end::{End, refuse};
 use crate::hosts::host;
-use crate::key_files::make_keys;
 use crate::logs::{host_over_log, recall};
 use crate::parts::part;
 use crate::peers::{agree, rehearse};
 use crate::refused::{refused_job, refused_scene};
+use crate::serving::serve_folder;
 use crate::stack::has_room;
 use crate::viewer::{ViewTexts, view};
 use app_program::{
     Failure, RunFault, RunOutput, StreamFault, check_text, format_text, read_whole, run_job,
     write_whole,
 };
+use app_serve::{End, make_keys, refuse};
 use app_words::{
-    HostOrder, LogUse, Order, OrderFault, Request, ViewOrder, hint_of, request_of, text_of,
+    HostOrder, LogUse, Order, OrderFault, Request, ServeOrder, ViewOrder, hint_of, request_of,
+    text_of,
 };
 use std::alloc::{AllocError, Global};
 use std::io::{self, Eprint};
@@ -130,8 +130,18 @@ fn view_as(rt: &HostRuntime, words: &[&str], order: &Order, asked: &ViewOrder) -
     let texts = ViewTexts {
         host: text_of(rt.alloc(), words, "host")?,
         key: text_of(rt.alloc(), words, "key")?,
+        world: text_of(rt.alloc(), words, "world")?,
     };
     view(rt, order, asked, &texts)
+}
+
+/// Serves the worlds of the folder that the words name.
+fn serve_as(rt: &HostRuntime, words: &[&str], asked: &ServeOrder) -> Result<(), End> {
+    let Some(folder) = text_of(rt.alloc(), words, "folder")? else {
+        return Err(End::from(OrderFault::Words));
+    };
+    let listen = text_of(rt.alloc(), words, "listen")?;
+    serve_folder(rt, folder, listen, asked)
 }
 
 /// Makes the files of keys in the folder that the words name.
@@ -154,6 +164,7 @@ fn obey(rt: &HostRuntime, words: &[&str], order: Order) -> Result<(), End>
         Order::Agree { viewers, turns } => agree(rt, &order, viewers, turns)?,
         Order::Host(asked) => host_as(rt, words, &order, &asked)?,
         Order::View(asked) => view_as(rt, words, &order, &asked)?,
+        Order::Serve(asked) => serve_as(rt, words, &asked)?,
         Order::Recall { until, info } => recall(rt, until, info)?,
         Order::Part { list } => part(rt, list, text_of(rt.alloc(), words, "keep-names")?)?,
         Order::Key { viewers } => key_as(rt, words, viewers)?,

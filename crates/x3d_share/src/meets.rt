@@ -36,19 +36,38 @@ fn draw<R: RandomSource>(rt: &R) -> Result<Drawn, Failure> {
     Ok(Drawn { nonce, seed })
 }
 
-/// Reports whether a viewer speaks version 2 alone.
-fn demands_run(asked: &ViewOrder) -> bool {
-    asked.wire == Some(2) || asked.has_key || asked.has_address
+/// A world, and the peer that is its host. A host that has one world answers to the empty name.
+#[derive(Clone, Copy)]
+pub struct WorldAt {
+    pub host: u16,
+    pub world: WorldName,
 }
 
-/// Returns how a viewer of the scene with this mark meets its host, a peer with this number. A host
-/// that has one world answers to the empty name.
-fn meeting_of(mark: [u8; 32], asked: &ViewOrder, host: u16, drawn: &Drawn) -> Option<Meeting>
+/// The port of a viewer.
+#[derive(Drop)]
+pub struct MetPort<P> {
+    pub port: ViewerPort<P>,
+    /// The last boot that its host knows of the viewer, or 0; `None` if no host welcomed it.
+    pub kept: Option<u32>,
+}
+
+/// Returns the port of a viewer that speaks version 1.
+fn plain<P: Drop>(port: P) -> MetPort<P> {
+    MetPort {
+        port: ViewerPort::Plain(port),
+        kept: None,
+    }
+}
+
+/// Reports whether a viewer speaks version 2 alone.
+fn demands_run(asked: &ViewOrder) -> bool {
+    asked.wire == Some(2) || asked.has_key || asked.has_address || asked.has_world
+}
+
+/// Returns how a viewer of the scene with this mark meets its host.
+fn meeting_of(mark: [u8; 32], asked: &ViewOrder, there: WorldAt, drawn: &Drawn) -> Meeting
     requires { ViewInRange asked.now }
 {
-    let Some(name) = WorldName::new(b"") else {
-        return None;
-    };
     let nonce = drawn.nonce;
     let seed = drawn.seed;
     let hello = Hello {
@@ -56,19 +75,19 @@ fn meeting_of(mark: [u8; 32], asked: &ViewOrder, host: u16, drawn: &Drawn) -> Op
         who: SeatNumber::new(asked.who),
         cookie: [0; 8],
         nonce,
-        name,
+        name: there.world,
     };
     let most = if demands_run(asked) {
         MOST_MILLIS_IN_RUN
     } else {
         MOST_MILLIS
     };
-    Some(Meeting {
-        host,
+    Meeting {
+        host: there.host,
         hello,
         seed,
         most,
-    })
+    }
 }
 
 /// Returns the port of a viewer that was welcomed to a run.
@@ -78,25 +97,28 @@ fn in_run<P: Drop>(
     meeting: &Meeting,
     hello: &Hello,
     welcome: &Welcome,
-) -> Result<ViewerPort<P>, Failure> {
+) -> Result<MetPort<P>, Failure> {
     let Ok(run) = ViewerRun::new(alloc, hello.mark, welcome.run) else {
         return Err(Failure::Share(ShareFault::Memory));
     };
     let greetings = met(hello, &meeting.seed, welcome);
-    Ok(ViewerPort::InRun(ViewPort::new(port, meeting.host, run, greetings)))
+    Ok(MetPort {
+        port: ViewerPort::InRun(ViewPort::new(port, meeting.host, run, greetings)),
+        kept: Some(welcome.kept),
+    })
 }
 
 /// Returns the port of a viewer that no host welcomed: by version 1, if the viewer may speak it.
-fn alone<P: Drop>(port: P, asked: &ViewOrder) -> Result<ViewerPort<P>, Failure> {
+fn alone<P: Drop>(port: P, asked: &ViewOrder) -> Result<MetPort<P>, Failure> {
     if demands_run(asked) {
         Err(Failure::Share(ShareFault::NoWelcome))
     } else {
-        Ok(ViewerPort::Plain(port))
+        Ok(plain(port))
     }
 }
 
 /// Returns the port of a viewer of the scene with this mark, over `port`: in the run that its host,
-/// the peer `host`, welcomes it to, or by version 1.
+/// `there`, welcomes it to, or by version 1.
 ///
 /// Fails with `NoWelcome` if the viewer demands a run and no host welcomes it, with `Port` if a
 /// send or a receive fails, with `Device` if the system has no random bytes, and with `Memory`.
@@ -104,18 +126,16 @@ pub fn met_port<R: AllocGlobal + RandomSource + Clock, P: Port + Drop>(
     rt: &R,
     mark: [u8; 32],
     asked: &ViewOrder,
-    host: u16,
+    there: WorldAt,
     port: P,
-) -> Result<ViewerPort<P>, Failure>
+) -> Result<MetPort<P>, Failure>
     requires { ViewInRange asked.now }
 {
     if asked.wire == Some(1) {
-        return Ok(ViewerPort::Plain(port));
+        return Ok(plain(port));
     }
     let drawn = draw(rt)?;
-    let Some(meeting) = meeting_of(mark, asked, host, &drawn) else {
-        return alone(port, asked);
-    };
+    let meeting = meeting_of(mark, asked, there, &drawn);
     let mut port = port;
     match meet(&mut port, rt, &meeting) {
         Ok(Some(met)) => in_run(rt.alloc(), port, &meeting, &met.hello, &met.welcome),

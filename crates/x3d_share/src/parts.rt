@@ -1,8 +1,8 @@
 //! The command that prints the part of a text.
 
-use crate::end::End;
 use app_part::{PartTexts, read_part, read_part_keeping};
 use app_program::{RunFault, write_whole};
+use app_serve::End;
 use app_words::OrderFault;
 use std::fs;
 use std::io::{self, Eprint};

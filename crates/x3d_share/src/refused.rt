@@ -1,8 +1,8 @@
 //! A refusal of a scene, and the instance that it is about.
 
-use crate::end::End;
 use app_jobs::JobFault;
 use app_program::{Failure, job_of};
+use app_serve::End;
 use proto_blame::instance_line;
 use std::alloc::Global;
 

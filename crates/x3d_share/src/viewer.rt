@@ -3,21 +3,20 @@
 ghost use Rattle.app_words.specs.Words.{ViewInRange};
 
 use crate::doors::OverSocket;
-use crate::end::End;
 use crate::ends::{tell_others, tell_port, tell_unsealed, tell_view_end};
-use crate::key_files::viewer_key;
-use crate::meets::met_port;
-use crate::places::{Place, may_be_reached, place_of};
+use crate::meets::{WorldAt, met_port};
+use crate::seated::{Seated, read_seated, rise};
 use app_commands::{
-    AddressedPort, AskingPort, ExactPort, PatientPort, Peer, Seat, TellingPort, TimedPort,
-    ViewerPort, Watch, bound, first_boot, give_job, number_of, seated_job, view_job,
+    AddressedPort, AskingPort, ExactPort, KnockingPort, PatientPort, Peer, Seat, TellingPort,
+    TimedPort, ViewerPort, Watch, bound, give_job, number_of, view_job,
 };
-use app_jobs::JobFault;
-use app_program::{Failure, RunFault, ShareFault, read_whole, write_whole};
+use app_program::{Failure, RunFault, ShareFault, write_whole};
+use app_serve::{End, Place, may_be_reached, place_of, viewer_key, world_of};
 use app_words::{Order, ViewEnd, ViewOrder};
 use share_keys::Key;
 use share_peers::{local_address, own_address};
 use share_sealed::SealedPort;
+use share_session::WorldName;
 use share_turns::{Port, ViewPlan};
 use std::alloc::Global;
 use std::io::{self, Eprint};
@@ -35,6 +34,15 @@ pub struct ViewTexts<'a> {
     pub host: Option<&'a str>,
     /// That of `--key`.
     pub key: Option<&'a str>,
+    /// That of `--world`.
+    pub world: Option<&'a str>,
+}
+
+/// How a viewer reaches its host.
+#[derive(Clone, Copy)]
+struct Door {
+    key: Option<Key>,
+    world: WorldName,
 }
 
 /// The peers that a viewer speaks to, by their numbers at its port.
@@ -45,26 +53,13 @@ struct Peers {
     give: Option<u16>,
 }
 
-/// Reads a job of points, and makes its viewer.
-fn read_seated<R: AllocGlobal + Input>(
-    rt: &R,
-    order: &Order,
-    asked: &ViewOrder,
-) -> Result<Seat, JobFault>
-    requires { ViewInRange asked.now }
-{
-    let bytes = read_whole(rt.alloc(), &mut rt.reader())?;
-    let boot = first_boot(asked.boot, asked.join);
-    seated_job(rt.alloc(), bytes.as_slice(), order, asked.who, boot)
-}
-
-/// Returns what a viewer is asked to do before it gives.
-fn view_plan(asked: &ViewOrder) -> ViewPlan {
+/// Returns what a viewer with this boot is asked to do before it gives.
+fn view_plan(asked: &ViewOrder, boot: u32) -> ViewPlan {
     let until = match asked.end {
         ViewEnd::Until(until) => until,
         ViewEnd::Exactly(until) => until,
     };
-    let join = if asked.join { Some(asked.boot) } else { None };
+    let join = if asked.join { Some(boot) } else { None };
     ViewPlan {
         until,
         turns: asked.turns,
@@ -147,37 +142,41 @@ fn unsealed_at<P: OverSocket>(port: &ViewerPort<P>) -> u64 {
     }
 }
 
+/// Returns what is watched for a viewer with this boot.
+fn watch_of(seat: &Seat, asked: &ViewOrder, boot: u32) -> Watch {
+    Watch::new(seat.viewer.mark(), Peer::Viewer(boot), asked.has_address)
+}
+
 /// Runs a viewer at its port, which offers its points to a host, and prints its trace and its
 /// scene. Then it gives its snapshot, if it is asked to.
 fn viewed_at<R: AllocGlobal + Print + Eprint + Clock, P: Port + OverSocket + Drop>(
     rt: &R,
-    seat: &mut Seat,
+    viewer: &mut Seated<'_>,
     asked: &ViewOrder,
     peers: Peers,
     own: ViewerPort<P>,
 ) -> Result<(), Failure> {
-    let watch = Watch::new(
-        seat.viewer.mark(),
-        Peer::Viewer(asked.boot),
-        asked.has_address,
-    );
-    let telling = TellingPort::new(own, rt, asked.verbose, watch);
-    let mut port = PatientPort::new(ExactPort::new(telling, last_input(asked)), rt);
-    let plan = view_plan(asked);
+    let plan = view_plan(asked, viewer.boot);
+    let seat = &mut viewer.seat;
+    let telling = TellingPort::new(own, rt, asked.verbose, watch_of(seat, asked, viewer.boot));
+    let exact = ExactPort::new(telling, last_input(asked));
+    let knocks = asked.join && asked.has_key;
+    let knocking = KnockingPort::new(exact, rt, peers.host, seat.viewer.ask(), knocks);
+    let mut port = PatientPort::new(knocking, rt);
     let text = view_job(rt.alloc(), seat, peers.host, &plan, &mut port);
     let mut port = port.into_port();
-    let text = ended(text, port.port().port());
+    let text = ended(text, port.port().port().port());
     let done = printed(rt, seat, peers.host, text, &mut port);
     let asking = AskingPort::new(port, rt, peers.host, seat.viewer.ask());
     let mut port = PatientPort::new(asking, rt);
     let done = match done {
         Ok(()) => {
             let given = given(rt.alloc(), seat, asked, peers, &mut port);
-            ended(given, port.port().port().port().port())
+            ended(given, port.port().port().port().port().port())
         }
         Err(failure) => Err(failure),
     };
-    let telling = port.port().port().port();
+    let telling = port.port().port().port().port();
     let counts = telling.counts();
     tell_others(rt, asked.verbose, telling.port().others());
     tell_unsealed(rt, asked.verbose, unsealed_at(telling.port()));
@@ -188,41 +187,51 @@ fn viewed_at<R: AllocGlobal + Print + Eprint + Clock, P: Port + OverSocket + Dro
 /// Comes into the run of a viewer's host over its port, and runs the viewer.
 fn met_and_viewed<P: Port + OverSocket + Drop>(
     rt: &HostRuntime,
-    seat: &mut Seat,
+    viewer: &mut Seated<'_>,
     asked: &ViewOrder,
+    world: WorldName,
     peers: Peers,
     port: P,
 ) -> Result<(), Failure>
     requires { ViewInRange asked.now }
 {
     let timed = TimedPort::new(port, rt);
-    let own = met_port(rt, seat.viewer.mark(), asked, peers.host, timed)?;
-    viewed_at(rt, seat, asked, peers, own)
+    let host = peers.host;
+    let met = met_port(
+        rt,
+        viewer.seat.viewer.mark(),
+        asked,
+        WorldAt { host, world },
+        timed,
+    )?;
+    rise(rt.alloc(), viewer, asked, met.kept)?;
+    viewed_at(rt, viewer, asked, peers, met.port)
 }
 
-/// Runs a viewer over its port, with its key if it has one.
+/// Runs a viewer over its port, with its key if it has one, in its world.
 fn sealed_and_viewed<P: Port + OverSocket + Drop>(
     rt: &HostRuntime,
-    seat: &mut Seat,
+    viewer: &mut Seated<'_>,
     asked: &ViewOrder,
-    key: Option<Key>,
+    door: Door,
     peers: Peers,
     port: P,
 ) -> Result<(), Failure>
     requires { ViewInRange asked.now }
 {
-    match key {
-        Some(key) => met_and_viewed(rt, seat, asked, peers, SealedPort::new(port, key)),
-        None => met_and_viewed(rt, seat, asked, peers, port),
+    let world = door.world;
+    match door.key {
+        Some(key) => { met_and_viewed(rt, viewer, asked, world, peers, SealedPort::new(port, key)) }
+        None => met_and_viewed(rt, viewer, asked, world, peers, port),
     }
 }
 
 /// Runs a viewer whose host is at this port of 127.0.0.1.
 fn viewed_here(
     rt: &HostRuntime,
-    seat: &mut Seat,
+    viewer: &mut Seated<'_>,
     asked: &ViewOrder,
-    key: Option<Key>,
+    door: Door,
     host: u16,
 ) -> Result<(), Failure>
     requires { ViewInRange asked.now }
@@ -233,7 +242,7 @@ fn viewed_here(
         host,
         give: asked.give,
     };
-    sealed_and_viewed(rt, seat, asked, key, peers, bound)
+    sealed_and_viewed(rt, viewer, asked, door, peers, bound)
 }
 
 /// Returns the numbers of the peers of a viewer whose host is at this address.
@@ -253,9 +262,9 @@ fn peers_at<R: Eprint>(
 /// Runs a viewer whose host is at this address.
 fn viewed_there(
     rt: &HostRuntime,
-    seat: &mut Seat,
+    viewer: &mut Seated<'_>,
     asked: &ViewOrder,
-    key: Option<Key>,
+    door: Door,
     host: &SocketAddr,
 ) -> Result<(), Failure>
     requires { ViewInRange asked.now }
@@ -266,7 +275,7 @@ fn viewed_there(
     let Some(peers) = peers_at(&mut bound, asked, host) else {
         return Err(Failure::Share(ShareFault::Port));
     };
-    sealed_and_viewed(rt, seat, asked, key, peers, bound)
+    sealed_and_viewed(rt, viewer, asked, door, peers, bound)
 }
 
 /// Returns the key of the file that `--key` names, if it does.
@@ -280,18 +289,20 @@ fn key_of(rt: &HostRuntime, file: Option<&str>, who: u8) -> Result<Option<Key>, 
 /// Looks up the host of a viewer, reads its key, and runs it.
 fn viewed(
     rt: &HostRuntime,
-    seat: &mut Seat,
+    viewer: &mut Seated<'_>,
     asked: &ViewOrder,
     texts: &ViewTexts<'_>,
 ) -> Result<(), End>
     requires { ViewInRange asked.now }
 {
+    let world = world_of(texts.world)?;
     let place = place_of(rt, asked.port, texts.host)?;
     let key = key_of(rt, texts.key, asked.who)?;
     may_be_reached(&place, key.is_some(), asked.is_open)?;
+    let door = Door { key, world };
     match place {
-        Place::Port(port) => Ok(viewed_here(rt, seat, asked, key, port)?),
-        Place::Address(host) => Ok(viewed_there(rt, seat, asked, key, &host)?),
+        Place::Port(port) => Ok(viewed_here(rt, viewer, asked, door, port)?),
+        Place::Address(host) => Ok(viewed_there(rt, viewer, asked, door, &host)?),
     }
 }
 
@@ -305,12 +316,12 @@ pub fn view(
 ) -> Result<(), End>
     requires { ViewInRange asked.now }
 {
-    let mut seat = match read_seated(rt, order, asked) {
-        Ok(seat) => seat,
+    let mut viewer = match read_seated(rt, order, asked) {
+        Ok(viewer) => viewer,
         Err(fault) => return Err(End::from(fault)),
     };
-    let done = viewed(rt, &mut seat, asked, texts);
-    // For the prover: an explicit call. The drop of a seat would be proved at each exit.
-    seat.close();
+    let done = viewed(rt, &mut viewer, asked, texts);
+    // For the prover: an explicit call. The drop of a viewer would be proved at each exit.
+    viewer.close();
     done
 }

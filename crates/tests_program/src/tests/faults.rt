@@ -23,7 +23,7 @@ impl Row for Told {
     }
 }
 
-static TOLD: [Told; 15] = [
+static TOLD: [Told; 16] = [
     Told(
         Failure::Order(OrderFault::Memory),
         5,
@@ -104,6 +104,12 @@ static TOLD: [Told; 15] = [
         3,
         "refused TurnsUsedUp",
         "all turns were used up",
+    ),
+    Told(
+        Failure::Share(ShareFault::BootsSpent),
+        2,
+        "refused BootsSpent",
+        "no boot is left for this viewer",
     ),
     Told(
         Failure::Share(ShareFault::OtherRun),

@@ -1,7 +1,7 @@
 use Rattle.std.proofs.Common.{rules}
-use Rattle.app_words.specs.Commands.{recall_app, part_app, key_app}
+use Rattle.app_words.specs.Commands.{serve_app, recall_app, part_app, key_app}
 use Rattle.app_words.proofs.commands.file_commands.Goals as goal
 
 pub returns : goal.returns
-unfolding recall_app part_app key_app
+unfolding serve_app recall_app part_app key_app
 returns c = search rules

@@ -1,7 +1,8 @@
 use Rattle.app_words.proofs.view.view_asked.Goals as goal
 
 pub returns-in_default-clause-none : goal.returns-in_default-clause-none
-returns-in_default-clause-none c = λ o h. c.in_default.ensures.none o.port h.port
+returns-in_default-clause-none c = λ o h.
+    c.in_default.ensures.none (record { host = o.port; at = o.at; give = o.give }) (record { host = h.port; at = h.at; give = h.give })
 
 pub returns-in_default-who_in-clause-none : goal.returns-in_default-who_in-clause-none
 returns-in_default-who_in-clause-none c = λ o h. c.in_default-who_in.ensures.none o.who h.who
@@ -14,12 +15,6 @@ returns-in_default-end_in-clause-none c = λ o h. c.in_default-end_in.ensures.no
 
 pub returns-in_default-turns_in-clause-none : goal.returns-in_default-turns_in-clause-none
 returns-in_default-turns_in-clause-none c = λ o h. c.in_default-turns_in.ensures.none o.turns h.turns
-
-pub returns-in_default-at_in-clause-none : goal.returns-in_default-at_in-clause-none
-returns-in_default-at_in-clause-none c = λ o h. c.in_default-at_in.ensures.none o.at h.at
-
-pub returns-in_default-give_in-clause-none : goal.returns-in_default-give_in-clause-none
-returns-in_default-give_in-clause-none c = λ o h. c.in_default-give_in.ensures.none o.give h.give
 
 pub returns-in_default-give_turns_in-clause-none : goal.returns-in_default-give_turns_in-clause-none
 returns-in_default-give_turns_in-clause-none c = λ o h. c.in_default-give_turns_in.ensures.none o.give_turns h.give_turns

@@ -2,5 +2,5 @@ use Rattle.std.proofs.Common.{rules}
 use Rattle.share_guards.proofs.Unknown.{unknown}
 use Rattle.share_guards.proofs.known.Known.none.Goals as goal
 
-pub returns : goal.returns
-returns c = unknown 65536 c.in_ok-places.places.items (c.in_ok-places.ensures.items_if_clones_equal (search rules))
+pub returns-clause-unknown : goal.returns-clause-unknown
+returns-clause-unknown c = unknown c.args.peers c.in_ok-places.places.items (c.in_ok-places.ensures.items_if_clones_equal (search rules))

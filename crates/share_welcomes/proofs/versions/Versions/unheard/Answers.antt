@@ -2,5 +2,5 @@ use Rattle.std.proofs.Common.{rules}
 use Rattle.share_welcomes.proofs.Unheard.{unheard}
 use Rattle.share_welcomes.proofs.versions.Versions.unheard.Goals as goal
 
-pub returns : goal.returns
-returns c = unheard 65536 c.in_ok-twos.twos.items (c.in_ok-twos.ensures.items_if_clones_equal (search rules))
+pub returns-clause-none : goal.returns-clause-none
+returns-clause-none c = unheard c.args.peers c.in_ok-twos.twos.items (c.in_ok-twos.ensures.items_if_clones_equal (search rules))

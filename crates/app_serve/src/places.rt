@@ -1,8 +1,9 @@
-//! Where a host is, on this machine or at an address, and who may come there.
+//! Where a host is, on this machine or at an address, who may come there, and the name of a world.
 
 use crate::end::End;
 use app_words::OrderFault;
 use share_peers::may_be_used;
+use share_session::WorldName;
 use std::io;
 use std::net::{Net, SocketAddr, ToSocketAddrs};
 
@@ -53,5 +54,14 @@ pub fn may_be_reached(place: &Place, has_keys: bool, is_open: bool) -> Result<()
     match place {
         Place::Address(address) if !may_be_used(address, has_keys, is_open) => Err(End::NoKeys),
         _ => Ok(()),
+    }
+}
+
+/// Returns the name of a world by the text of `--world`, or else the empty name. Fails with
+/// `NoWorldName`.
+pub fn world_of(text: Option<&str>) -> Result<WorldName, End> {
+    match WorldName::new(text.unwrap_or("").as_bytes()) {
+        Some(name) => Ok(name),
+        None => Err(End::NoWorldName),
     }
 }

@@ -1,0 +1,213 @@
+//! How a world is opened.
+
+use crate::beginning::{gone_on, made};
+use crate::end::End;
+use crate::files::{LogDisk, disk_at};
+use crate::key_files::{drawn_bytes, host_keys};
+use crate::names::path_of;
+use crate::places::may_be_reached;
+use crate::serving::{Serving, VIEWERS};
+use crate::stack::Stack;
+use crate::world::World;
+use app_commands::{SharedJob, shared_job};
+use app_logs::{Begun, Entry, Head, LogFault, first_due, is_viewer_count, times_after};
+use app_program::{RunFault, ShareFault, read_whole};
+use app_words::{HostOrder, LogUse, Order};
+use share_guards::{GuardedPort, Placed};
+use share_keys::Keys;
+use share_sealed::KeyedPort;
+use share_session::{ViewerCount, WorldName, session_of};
+use share_turns::Port;
+use share_welcomes::{HostPort, HostRun};
+use share_worlds::{WorldPort, peers_of};
+use std::fs::{self, File};
+
+/// The command by which the job of a world is read.
+fn as_host(serving: &Serving) -> Order {
+    Order::Host(HostOrder {
+        port: None,
+        has_address: true,
+        has_keys: false,
+        is_open: serving.is_open,
+        log: LogUse::GoesOn,
+        viewers: serving.viewers,
+        turns: None,
+        keep: serving.keep,
+        every: serving.every,
+        until: None,
+        verbose: serving.verbose,
+    })
+}
+
+/// What is kept of a job.
+#[derive(Drop)]
+struct Steps {
+    mark: [u8; 32],
+    /// The times of its clocks in microseconds that are later than the log's last input.
+    clocks: Vec<i64>,
+}
+
+fn job_at(rt: &HostRuntime, path: &str, serving: &Serving) -> Result<SharedJob, End> {
+    let Ok(mut file) = File::open(rt, path) else {
+        return Err(End::from(RunFault::Device));
+    };
+    match read_whole(rt.alloc(), &mut file) {
+        Ok(bytes) => Ok(shared_job(rt.alloc(), bytes.as_slice(), &as_host(serving))?),
+        Err(fault) => Err(End::from(RunFault::from(fault))),
+    }
+}
+
+/// Returns the keys of a world, if there is a file of them.
+fn keys_at(rt: &HostRuntime, path: &str) -> Result<Option<Keys>, End> {
+    match fs::metadata(rt, path) {
+        Ok(_) => Ok(Some(host_keys(rt, path)?)),
+        Err(_) => Ok(None),
+    }
+}
+
+/// Reports whether a file has bytes.
+fn has_bytes(rt: &HostRuntime, path: &str) -> bool {
+    match fs::metadata(rt, path) {
+        Ok(found) => found.len() > 0,
+        Err(_) => false,
+    }
+}
+
+/// Begins the log of a file: goes on with it, or makes it where there is none, or where its making
+/// was cut off.
+fn begun_at(
+    rt: &HostRuntime,
+    path: &str,
+    mark: [u8; 32],
+    serving: &Serving,
+) -> Result<Begun<LogDisk>, LogFault> {
+    if has_bytes(rt, path) {
+        let disk = disk_at(rt, path, LogUse::GoesOn)?;
+        match gone_on(rt.alloc(), disk, mark, serving.viewers) {
+            Err(LogFault::BadHead) => {}
+            done => return done,
+        }
+    }
+    let disk = disk_at(rt, path, LogUse::Makes)?;
+    match made(rt, disk, mark, serving.viewers.unwrap_or(VIEWERS)) {
+        Err(LogFault::NotEmpty) => Err(LogFault::BadHead),
+        done => done,
+    }
+}
+
+/// Returns the run of the world with this name, whose log has this head.
+fn run_of(head: &Head, name: &WorldName) -> Result<HostRun, End> {
+    if !is_viewer_count(head.viewers) {
+        return Err(End::Log(LogFault::BadHead));
+    }
+    Ok(HostRun::new(head.mark, head.run, *name, ViewerCount::new(head.viewers)))
+}
+
+/// Returns the port of a host, over one that knows the addresses of its peers.
+fn hosted<P: Port + Placed + Drop>(
+    rt: &HostRuntime,
+    port: P,
+    run: HostRun,
+    peers: usize,
+    entries: &[Entry],
+) -> Result<HostPort<GuardedPort<P>>, End> {
+    let secret = drawn_bytes(rt)?;
+    let seed = drawn_bytes(rt)?;
+    let Ok(guarded) = GuardedPort::new(rt.alloc(), port, peers, secret, seed) else {
+        return Err(End::from(ShareFault::Memory));
+    };
+    match HostPort::begin(rt.alloc(), guarded, run, peers, entries) {
+        Ok(port) => Ok(port),
+        Err(_) => Err(End::from(ShareFault::Memory)),
+    }
+}
+
+/// Returns the ports of a world.
+fn stack_of(
+    rt: &HostRuntime,
+    run: HostRun,
+    viewers: u8,
+    keys: Option<Keys>,
+    entries: &[Entry],
+) -> Result<Stack, End> {
+    let Ok(port) = WorldPort::new(rt.alloc(), viewers) else {
+        return Err(End::from(ShareFault::Memory));
+    };
+    let peers = usize::from(peers_of(viewers));
+    let Some(keys) = keys else {
+        return Ok(Stack::Open(hosted(rt, port, run, peers, entries)?));
+    };
+    match KeyedPort::new(rt.alloc(), port, keys) {
+        Ok(keyed) => Ok(Stack::Keyed(hosted(rt, keyed, run, peers, entries)?)),
+        Err(_) => Err(End::from(ShareFault::Memory)),
+    }
+}
+
+/// Returns the world of a log that has begun.
+fn world_of(
+    rt: &HostRuntime,
+    name: &WorldName,
+    begun: Begun<LogDisk>,
+    clocks: Vec<i64>,
+    keys: Option<Keys>,
+    now: u64,
+    serving: &Serving,
+) -> Result<World, End> {
+    let Begun {
+        log,
+        hosting,
+        head,
+        cut: _,
+        last,
+        entries,
+    } = begun;
+    let run = run_of(&head, name)?;
+    let stack = stack_of(rt, run, head.viewers, keys, entries.as_slice())?;
+    Ok(World {
+        session: session_of(&head.mark, &head.run),
+        log,
+        hosting: Some(hosting),
+        stack,
+        clocks,
+        taken: 0,
+        base: last,
+        due: first_due(serving.every),
+        turned: now,
+        settles: serving.keep.map(|_| now),
+    })
+}
+
+/// Reads the job of a world, and begins its log.
+fn read(
+    rt: &HostRuntime,
+    folder: &str,
+    name: &WorldName,
+    serving: &Serving,
+) -> Result<(Begun<LogDisk>, Vec<i64>), End> {
+    let job = job_at(
+        rt,
+        path_of(rt.alloc(), folder, name, ".job")?.as_str(),
+        serving,
+    )?;
+    let log = path_of(rt.alloc(), folder, name, ".x3dlog")?;
+    let begun = begun_at(rt, log.as_str(), job.mark, serving)?;
+    match times_after(rt.alloc(), begun.last, job.inputs.as_slice()) {
+        Ok(clocks) => Ok((begun, clocks)),
+        Err(_) => Err(End::Log(LogFault::Memory)),
+    }
+}
+
+/// Opens the world with this name. Fails with what is wrong with its job, its keys or its log, or
+/// with `NoKeys`.
+pub fn open_world(
+    rt: &HostRuntime,
+    folder: &str,
+    name: &WorldName,
+    serving: &Serving,
+    now: u64,
+) -> Result<World, End> {
+    let keys = keys_at(rt, path_of(rt.alloc(), folder, name, ".keys")?.as_str())?;
+    may_be_reached(&serving.place, keys.is_some(), serving.is_open)?;
+    let (begun, clocks) = read(rt, folder, name, serving)?;
+    world_of(rt, name, begun, clocks, keys, now, serving)
+}

@@ -1,0 +1,169 @@
+//! What is printed of an end, on standard error.
+
+use crate::end::End;
+use crate::names::text_of;
+use app_logs::{LogFault, log_refusal_line, log_status_of};
+use app_program::{Failure, refusal_line, status_of};
+use proto_blame::instance_words;
+use share_key_files::KeyFileFault;
+use share_session::WorldName;
+use std::fmt;
+use std::io::Eprint;
+use std::process::ExitCode;
+
+/// A line, after the name of the world that it is about, if it is about one.
+#[derive(Drop)]
+struct Line<'a, T> {
+    world: Option<&'a WorldName>,
+    text: T,
+}
+
+impl<T: fmt::Display> fmt::Display for Line<'_, T> {
+    fn fmt<W: fmt::Write>(&self, f: &mut fmt::Formatter<W>) -> fmt::Result {
+        match self.world {
+            Some(name) => write!(f, "{}: {}", text_of(name), self.text),
+            None => write!(f, "{}", self.text),
+        }
+    }
+}
+
+/// Prints a line on standard error. A standard error that fails affects nothing.
+fn tell<R: Eprint, T: fmt::Display + Drop>(rt: &R, world: Option<&WorldName>, text: T) {
+    let _told = rt.eprintln(Line { world, text });
+}
+
+/// Prints the line of a refusal of a log, and returns its status.
+fn refuse_log<R: Eprint>(rt: &R, world: Option<&WorldName>, fault: LogFault) -> ExitCode {
+    tell(rt, world, log_refusal_line(fault).as_str());
+    ExitCode::from(log_status_of(fault))
+}
+
+fn refuse_failure<R: Eprint>(rt: &R, world: Option<&WorldName>, failure: &Failure) -> ExitCode {
+    tell(rt, world, refusal_line(failure).as_str());
+    ExitCode::from(status_of(failure))
+}
+
+/// The line of a file of keys that is refused, in words.
+#[derive(Drop)]
+struct KeyFileRefused(KeyFileFault);
+
+impl fmt::Display for KeyFileRefused {
+    fn fmt<W: fmt::Write>(&self, f: &mut fmt::Formatter<W>) -> fmt::Result {
+        write!(f, "refused {} line {}", self.0.kind.name(), self.0.line)
+    }
+}
+
+/// Prints the line of a refusal that says what is wrong with the words, and returns its status.
+fn refuse_words_of<R: Eprint>(rt: &R, world: Option<&WorldName>, line: &str) -> ExitCode {
+    tell(rt, world, line);
+    ExitCode::from(2)
+}
+
+/// Prints the line of a refusal on standard error, and a second one where there is more to say,
+/// each after the name of the world that it is about. Returns its status.
+fn refuse_in<R: Eprint>(rt: &R, world: Option<&WorldName>, end: &End) -> ExitCode {
+    match end {
+        End::Failure(failure) => refuse_failure(rt, world, failure),
+        End::Instance(failure, line) => {
+            let status = refuse_failure(rt, world, failure);
+            tell(rt, world, instance_words(*line).as_str());
+            status
+        }
+        End::Log(fault) => refuse_log(rt, world, *fault),
+        End::InDoubt => {
+            let status = refuse_log(rt, world, LogFault::Device);
+            tell(
+                rt,
+                world,
+                "the log is in doubt: start the host again with --log",
+            );
+            status
+        }
+        End::NoAddress => refuse_words_of(rt, world, "refused NoAddress"),
+        End::KeyFileOpen => refuse_words_of(rt, world, "refused KeyFileOpen"),
+        End::KeyFileShared => {
+            let status = refuse_words_of(rt, world, "refused KeyFileOpen");
+            tell(rt, world, "others may use the file of keys: chmod 600 it");
+            status
+        }
+        End::KeyFile(fault) => {
+            tell(rt, world, KeyFileRefused(*fault));
+            ExitCode::from(2)
+        }
+        End::WrongViewer => refuse_words_of(rt, world, "refused WrongViewer"),
+        End::NoKeys => refuse_words_of(rt, world, "refused NoKeys"),
+        End::NoWorldName => {
+            let status = refuse_words_of(rt, world, "refused NoWorldName");
+            tell(
+                rt,
+                world,
+                "up to 64 letters, digits, '-', '_' and '.' name a world",
+            );
+            status
+        }
+        End::KeyFileThere => refuse_words_of(rt, world, "refused KeyFileThere"),
+        End::NoFolder => refuse_words_of(rt, world, "refused NoFolder"),
+        End::NoNames => refuse_words_of(rt, world, "refused NoNames"),
+        End::NameLost => ExitCode::from(1),
+    }
+}
+
+/// Prints the line of a refusal on standard error, and a second one where there is more to say.
+/// Returns its status.
+pub fn refuse<R: Eprint>(rt: &R, end: &End) -> ExitCode {
+    refuse_in(rt, None, end)
+}
+
+/// Prints why a world isn't served, in the same words after its name.
+pub fn tell_refused<R: Eprint>(rt: &R, name: &WorldName, end: &End) {
+    let _status = refuse_in(rt, Some(name), end);
+}
+
+/// How many inputs the log of a world has, in words.
+#[derive(Drop)]
+struct Opened(u64);
+
+impl fmt::Display for Opened {
+    fn fmt<W: fmt::Write>(&self, f: &mut fmt::Formatter<W>) -> fmt::Result {
+        write!(f, "{} inputs in the log", self.0)
+    }
+}
+
+/// Prints how many inputs a world has that was opened.
+pub fn tell_opened<R: Eprint>(rt: &R, name: &WorldName, inputs: u64) {
+    tell(rt, Some(name), Opened(inputs));
+}
+
+/// That a world was closed, and how many of its datagrams were lost for lack of room, in words.
+#[derive(Drop)]
+struct Closed(u64);
+
+impl fmt::Display for Closed {
+    fn fmt<W: fmt::Write>(&self, f: &mut fmt::Formatter<W>) -> fmt::Result {
+        if self.0 == 0 {
+            f.write_str("closed")
+        } else {
+            write!(f, "closed, {} datagrams lost for lack of room", self.0)
+        }
+    }
+}
+
+/// Prints that a world was closed, and how many of its datagrams were lost, if some were.
+pub fn tell_closed<R: Eprint>(rt: &R, name: &WorldName, lost: u64) {
+    tell(rt, Some(name), Closed(lost));
+}
+
+/// The port that a socket is bound to, in words.
+#[derive(Drop)]
+struct BoundAt(u16);
+
+impl fmt::Display for BoundAt {
+    fn fmt<W: fmt::Write>(&self, f: &mut fmt::Formatter<W>) -> fmt::Result {
+        write!(f, "bound to port {}", self.0)
+    }
+}
+
+/// Prints the port that a socket is bound to.
+pub fn tell_bound<R: Eprint>(rt: &R, port: u16) {
+    tell(rt, None, BoundAt(port));
+}

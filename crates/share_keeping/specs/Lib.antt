@@ -1,0 +1,6 @@
+pub mod Said
+pub mod Joiners
+pub mod Applying
+pub mod Shots
+pub mod Giving
+pub mod Keeping

@@ -1,0 +1,21 @@
+//! The port of a host that keeps its world: it gives a snapshot of the world to viewers that join.
+//!
+//! | Modules | Content |
+//! |---|---|
+//! | `said` | what a datagram says of joining |
+//! | `joiners` | the viewers that join |
+//! | `applying` | a log's entries, applied to a stage |
+//! | `shot` | the snapshot that is given |
+//! | `giving` | the pieces that are sent |
+//! | `port` | the port |
+#![tactic(auto)]
+
+mod applying;
+mod giving;
+mod joiners;
+mod port;
+mod said;
+mod shot;
+
+pub use joiners::{Joiner, Joiners};
+pub use port::KeepingPort;

@@ -1,0 +1,120 @@
+//! The snapshot that is given.
+
+ghost use Rattle.std.specs.Prelude.{◌≡◌, IfSome, length};
+ghost use Rattle.share_keeping.specs.Keeping.{IsRenewed, ready};
+ghost use Rattle.share_keeping.specs.Shots as spec;
+
+use crate::joiners::Joiners;
+use cascade_core::Stage;
+use script_host::Behaviour;
+use share_core::piece_count;
+use snapshot_core::save;
+use std::marker::Model;
+
+/// The boot of the snapshot: a viewer that joins has a later one.
+const BOOT: u32 = 1;
+
+/// A snapshot of a stage.
+#[derive(Drop)]
+pub(crate) struct Shot {
+    bytes: Vec<u8>,
+    /// How many inputs its world has.
+    inputs: u32,
+    /// How many pieces it has: none if it has more than 2^26 bytes.
+    count: u32,
+}
+
+impl Model for Shot {
+    ghost use Rattle.std.specs.Prelude.{◌≡◌};
+    ghost use Rattle.share_keeping.specs.Shots.{ShotView, pieces_in};
+
+    ghost Value = { ShotView };
+
+    ghost view = { λ s. record { bytes = s.bytes.items; inputs = s.inputs } };
+
+    ghost invariant = { λ s. s.count ≡ pieces_in s.bytes.items };
+}
+
+fn pieces_in(bytes: &[u8]) -> u32
+    ensures { result ≡ spec.pieces_in bytes.now }
+{
+    match piece_count(bytes) {
+        Some(count) => count,
+        None => 0,
+    }
+}
+
+impl Shot {
+    ghost use Rattle.std.specs.Prelude.{◌≡◌};
+    ghost use Rattle.share_keeping.specs.Shots as spec;
+
+    fn of(bytes: Vec<u8>, inputs: u32) -> Shot
+        ensures { result ≡ record { bytes = bytes.items; inputs = inputs } }
+    {
+        let count = pieces_in(&bytes);
+        Shot {
+            bytes,
+            inputs,
+            count,
+        }
+    }
+
+    pub(crate) fn bytes(&self) -> &[u8]
+        ensures { result.now ≡ self.now.bytes }
+    {
+        &self.bytes
+    }
+
+    /// Returns how many inputs its world has.
+    pub(crate) fn inputs(&self) -> u32
+        ensures { result ≡ self.now.inputs }
+    {
+        self.inputs
+    }
+
+    /// Returns how many pieces it has.
+    pub(crate) fn count(&self) -> u32
+        ensures { result ≡ spec.pieces_in self.now.bytes }
+    {
+        self.count
+    }
+}
+
+/// Takes a snapshot of a stage, with the mark of its scene. Returns `None` if the stage is spoiled,
+/// or memory is refused.
+pub(crate) fn taken<B: Behaviour>(stage: &Stage<B>, mark: &[u8; 32]) -> Option<Shot>
+    ensures { IfSome result (spec.IsTaken mark.now stage.now) }
+{
+    let mut bytes = Vec::new(stage.allocator());
+    if save(stage, mark, BOOT, &mut bytes).is_err() {
+        drop(bytes);
+        return None;
+    }
+    Some(Shot::of(bytes, stage.applied()))
+}
+
+/// Reports whether a snapshot is too old for a viewer whose host has inputs from `floor` on.
+pub(crate) fn is_too_old(shot: &Option<Shot>, floor: u32) -> bool
+    ensures { result ≡ spec.is_too_old shot.now floor }
+{
+    match shot {
+        Some(shot) => u64::from(floor) > u64::from(shot.inputs()) + 1,
+        None => false,
+    }
+}
+
+/// Takes a snapshot if there is none, of which each viewer that joins gets the first pieces next.
+pub(crate) fn renew<B: Behaviour>(
+    stage: &Stage<B>,
+    mark: &[u8; 32],
+    shot: &mut Option<Shot>,
+    joiners: &mut Joiners,
+)
+    ensures shot { IsRenewed mark.now stage.now shot.old shot.new }
+    ensures joiners { joiners.new ≡ ready shot.old joiners.old }
+{
+    if shot.is_none() {
+        joiners.restart();
+        *shot = taken(stage, mark);
+    }
+}
