@@ -11,15 +11,21 @@ use crate::stack::Stack;
 use crate::world::World;
 use app_commands::{SharedJob, shared_job};
 use app_logs::{Begun, Entry, Head, LogFault, first_due, is_viewer_count, times_after};
-use app_program::{RunFault, ShareFault, read_whole};
+use app_program::{
+    JobFault, JobInputs, OpenedScene, RunFault, ShareFault, fresh_stage, read_whole,
+};
 use app_words::{HostOrder, LogUse, Order};
+use cascade_core::Stage;
+use script_boxes::StockScript;
 use share_guards::{GuardedPort, Placed};
+use share_keeping::KeepingPort;
 use share_keys::Keys;
 use share_sealed::KeyedPort;
 use share_session::{ViewerCount, WorldName, session_of};
 use share_turns::Port;
 use share_welcomes::{HostPort, HostRun};
 use share_worlds::{WorldPort, peers_of};
+use std::alloc::Global;
 use std::fs::{self, File};
 
 /// The command by which the job of a world is read.
@@ -39,11 +45,28 @@ fn as_host(serving: &Serving) -> Order {
     })
 }
 
+/// The keys of a world, and a stage of its scene.
+#[derive(Drop)]
+struct Keyed {
+    keys: Keys,
+    stage: Stage<StockScript>,
+}
+
 /// What is kept of a job.
 #[derive(Drop)]
-struct Steps {
+struct Kept {
     mark: [u8; 32],
-    /// The times of its clocks in microseconds that are later than the log's last input.
+    inputs: JobInputs,
+    /// If it has keys.
+    keyed: Option<Keyed>,
+}
+
+/// A world whose log has begun.
+#[derive(Drop)]
+struct Opened {
+    begun: Begun<LogDisk>,
+    run: HostRun,
+    /// The times of its job's clocks in microseconds that are later than the log's last input.
     clocks: Vec<i64>,
 }
 
@@ -122,37 +145,83 @@ fn hosted<P: Port + Placed + Drop>(
     }
 }
 
-/// Returns the ports of a world.
-fn stack_of(
+/// Returns the port of a host with keys.
+fn keyed_port(
     rt: &HostRuntime,
     run: HostRun,
     viewers: u8,
-    keys: Option<Keys>,
+    keys: Keys,
+    entries: &[Entry],
+) -> Result<HostPort<GuardedPort<KeyedPort<WorldPort>>>, End> {
+    let Ok(port) = WorldPort::new(rt.alloc(), viewers) else {
+        return Err(End::from(ShareFault::Memory));
+    };
+    let peers = usize::from(peers_of(viewers));
+    match KeyedPort::new(rt.alloc(), port, peers, keys) {
+        Ok(keyed) => hosted(rt, keyed, run, peers, entries),
+        Err(_) => Err(End::from(ShareFault::Memory)),
+    }
+}
+
+/// Returns the ports of a world with keys. The log's entries are those of a host, so only memory may
+/// be refused to them.
+fn keyed_stack(
+    rt: &HostRuntime,
+    run: HostRun,
+    head: &Head,
+    keyed: Keyed,
+    entries: &[Entry],
+) -> Result<Stack, End> {
+    let Keyed { keys, stage } = keyed;
+    match keyed_port(rt, run, head.viewers, keys, entries) {
+        Ok(port) => match KeepingPort::begin(port, stage, head.mark, entries) {
+            Ok(keeping) => Ok(Stack::Keyed(keeping)),
+            Err(_refused) => Err(End::from(ShareFault::Memory)),
+        },
+        Err(end) => {
+            drop(stage);
+            Err(end)
+        }
+    }
+}
+
+/// Returns the ports of a world without keys.
+fn open_stack(
+    rt: &HostRuntime,
+    run: HostRun,
+    viewers: u8,
     entries: &[Entry],
 ) -> Result<Stack, End> {
     let Ok(port) = WorldPort::new(rt.alloc(), viewers) else {
         return Err(End::from(ShareFault::Memory));
     };
     let peers = usize::from(peers_of(viewers));
-    let Some(keys) = keys else {
-        return Ok(Stack::Open(hosted(rt, port, run, peers, entries)?));
-    };
-    match KeyedPort::new(rt.alloc(), port, keys) {
-        Ok(keyed) => Ok(Stack::Keyed(hosted(rt, keyed, run, peers, entries)?)),
-        Err(_) => Err(End::from(ShareFault::Memory)),
+    Ok(Stack::Open(hosted(rt, port, run, peers, entries)?))
+}
+
+/// Returns the ports of a world.
+fn stack_of(
+    rt: &HostRuntime,
+    run: HostRun,
+    head: &Head,
+    keyed: Option<Keyed>,
+    entries: &[Entry],
+) -> Result<Stack, End> {
+    match keyed {
+        Some(keyed) => keyed_stack(rt, run, head, keyed, entries),
+        None => open_stack(rt, run, head.viewers, entries),
     }
 }
 
 /// Returns the world of a log that has begun.
 fn world_of(
     rt: &HostRuntime,
-    name: &WorldName,
-    begun: Begun<LogDisk>,
-    clocks: Vec<i64>,
-    keys: Option<Keys>,
+    opened: Opened,
+    keyed: Option<Keyed>,
     now: u64,
     serving: &Serving,
 ) -> Result<World, End> {
+    let Opened { begun, run, clocks } = opened;
     let Begun {
         log,
         hosting,
@@ -161,8 +230,7 @@ fn world_of(
         last,
         entries,
     } = begun;
-    let run = run_of(&head, name)?;
-    let stack = stack_of(rt, run, head.viewers, keys, entries.as_slice())?;
+    let stack = stack_of(rt, run, &head, keyed, entries.as_slice())?;
     Ok(World {
         session: session_of(&head.mark, &head.run),
         log,
@@ -177,28 +245,73 @@ fn world_of(
     })
 }
 
-/// Reads the job of a world, and begins its log.
-fn read(
-    rt: &HostRuntime,
-    folder: &str,
-    name: &WorldName,
-    serving: &Serving,
-) -> Result<(Begun<LogDisk>, Vec<i64>), End> {
-    let job = job_at(
-        rt,
-        path_of(rt.alloc(), folder, name, ".job")?.as_str(),
-        serving,
-    )?;
-    let log = path_of(rt.alloc(), folder, name, ".x3dlog")?;
-    let begun = begun_at(rt, log.as_str(), job.mark, serving)?;
-    match times_after(rt.alloc(), begun.last, job.inputs.as_slice()) {
-        Ok(clocks) => Ok((begun, clocks)),
-        Err(_) => Err(End::Log(LogFault::Memory)),
+/// Returns what is kept of a job whose world has these keys.
+fn kept_of(alloc: Global, job: SharedJob, keys: Option<Keys>) -> Result<Kept, JobFault> {
+    let SharedJob {
+        inputs,
+        mark,
+        scene,
+        routes,
+    } = job;
+    let opened = OpenedScene { scene, routes };
+    let Some(keys) = keys else {
+        drop(opened);
+        return Ok(Kept {
+            mark,
+            inputs,
+            keyed: None,
+        });
+    };
+    match fresh_stage(alloc, opened) {
+        Ok(stage) => Ok(Kept {
+            mark,
+            inputs,
+            keyed: Some(Keyed { keys, stage }),
+        }),
+        Err(fault) => {
+            drop(inputs);
+            Err(fault)
+        }
     }
 }
 
-/// Opens the world with this name. Fails with what is wrong with its job, its keys or its log, or
-/// with `NoKeys`.
+/// Reads the job of a world, and its keys if it has some.
+fn read(rt: &HostRuntime, folder: &str, name: &WorldName, serving: &Serving) -> Result<Kept, End> {
+    let keys = keys_at(rt, path_of(rt.alloc(), folder, name, ".keys")?.as_str())?;
+    may_be_reached(&serving.place, keys.is_some(), serving.is_open)?;
+    let path = path_of(rt.alloc(), folder, name, ".job")?;
+    let job = job_at(rt, path.as_str(), serving)?;
+    Ok(kept_of(rt.alloc(), job, keys)?)
+}
+
+/// Begins the log of a world with this job.
+fn opened(
+    rt: &HostRuntime,
+    folder: &str,
+    name: &WorldName,
+    job: &Kept,
+    serving: &Serving,
+) -> Result<Opened, End> {
+    let path = path_of(rt.alloc(), folder, name, ".x3dlog")?;
+    let begun = begun_at(rt, path.as_str(), job.mark, serving)?;
+    let run = match run_of(&begun.head, name) {
+        Ok(run) => run,
+        Err(end) => {
+            drop(begun);
+            return Err(end);
+        }
+    };
+    match times_after(rt.alloc(), begun.last, job.inputs.as_slice()) {
+        Ok(clocks) => Ok(Opened { begun, run, clocks }),
+        Err(_refused) => {
+            drop(begun);
+            Err(End::Log(LogFault::Memory))
+        }
+    }
+}
+
+/// Opens the world with this name. Fails with what is wrong with its keys, with `NoKeys`, or with
+/// what is wrong with its job or its log.
 pub fn open_world(
     rt: &HostRuntime,
     folder: &str,
@@ -206,8 +319,20 @@ pub fn open_world(
     serving: &Serving,
     now: u64,
 ) -> Result<World, End> {
-    let keys = keys_at(rt, path_of(rt.alloc(), folder, name, ".keys")?.as_str())?;
-    may_be_reached(&serving.place, keys.is_some(), serving.is_open)?;
-    let (begun, clocks) = read(rt, folder, name, serving)?;
-    world_of(rt, name, begun, clocks, keys, now, serving)
+    let job = read(rt, folder, name, serving)?;
+    match opened(rt, folder, name, &job, serving) {
+        Ok(opened) => {
+            let Kept {
+                mark: _,
+                inputs,
+                keyed,
+            } = job;
+            drop(inputs);
+            world_of(rt, opened, keyed, now, serving)
+        }
+        Err(end) => {
+            drop(job);
+            Err(end)
+        }
+    }
 }

@@ -6,7 +6,11 @@ use app_logs::{FileLog, LoggedHost};
 use share_session::Session;
 use share_worlds::{Wants, moment_of};
 
-/// A world that runs. Of its job only the clocks are kept that are still to be numbered.
+/// How many milliseconds pass until viewers that join get their next pieces.
+const GIVING: u64 = 10;
+
+/// A world that runs. Of its job the clocks are kept that are still to be numbered, and with keys a
+/// stage of its scene.
 #[derive(Drop)]
 pub struct World {
     pub session: Session,
@@ -43,6 +47,15 @@ impl World {
         Some(self.turned.saturating_add(left))
     }
 
+    /// Returns when viewers that join get their next pieces, if some join.
+    fn gives(&self) -> Option<u64> {
+        if self.stack.has_joiners() {
+            Some(self.turned.saturating_add(GIVING))
+        } else {
+            None
+        }
+    }
+
     /// Returns when the world is due, in milliseconds, if it isn't only once something arrives.
     pub fn moment(&self, every: Option<u32>) -> Option<u64> {
         moment_of(&Wants {
@@ -50,6 +63,7 @@ impl World {
             has_clocks: self.has_clocks(),
             beat: self.beat(every),
             settles: self.settles,
+            gives: self.gives(),
         })
     }
 }

@@ -4,8 +4,8 @@ use Rattle.std.specs.Prelude.{ℕ, ◌+◌, ◌%◌, ◌==◌, min, Bool, true, 
 use Rattle.std.specs.List.{list_any}
 use Rattle.share_keeping.specs.declared.joiners.Joiner.{Joiner}
 
-abbrev pub nobody : List (Option Joiner)
-nobody = replicate 64 None
+abbrev pub no_joiners : List (Option Joiner)
+no_joiners = replicate 64 None
 
 -- ---- asks
 

@@ -1,4 +1,4 @@
--- What a port of a host that keeps its world gives, and to whom.
+-- What a port of a host that keeps its world gives, and to which viewers.
 use Rattle.std.specs.Prelude.{◌≡◌, ℕ, ◌&&◌, Bool, true, false, List, [], Option, None, Some, IfSome, if◌then◌else◌}
 use Rattle.cascade_core.specs.Held.{StageView}
 use Rattle.share_logged.specs.Notes.{IsSentInTurn}
@@ -61,7 +61,7 @@ pub record IsGiven (mark : List ℕ) (stage : StageView) (whole : Bool)
   pub joiners : after ≡ advanced_in shot (ready shot_before js)
   pub sent : IsSentInTurn whole told_before told_after (given_of mark shot (ready shot_before js))
 
--- nobody joins: there is no snapshot, and nothing is sent
+-- no viewer joins: there is no snapshot, and nothing is sent
 pub record IsQuiet (js after : List (Option Joiner)) (shot : Option ShotView)
     (told_before told_after : Option (List Traffic)) : Type 0 where
   pub dropped : shot ≡ None

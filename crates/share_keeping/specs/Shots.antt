@@ -16,7 +16,7 @@ count_or_none (Some n) = n
 abbrev pub pieces_in : (bytes : List ℕ) → ℕ
 pieces_in bytes = count_or_none (count_of bytes)
 
--- the snapshot of boot 1 of a stage as it stands
+-- the snapshot of boot 1 of a stage
 abbrev pub IsTaken : (mark : List ℕ) → StageView → ShotView → Type 0
 IsTaken mark stage s =
     IfSpoiled stage.held ⊥

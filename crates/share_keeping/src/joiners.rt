@@ -191,8 +191,8 @@ impl Joiners {
     ghost use Rattle.share_keeping.specs.Joiners as spec;
 
     /// Returns the seats while no viewer joins.
-    pub fn nobody() -> Joiners
-        ensures { result ≡ spec.nobody }
+    pub fn none() -> Joiners
+        ensures { result ≡ spec.no_joiners }
     {
         Joiners {
             seats: [None; SEATS],

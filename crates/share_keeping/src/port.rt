@@ -3,13 +3,13 @@
 ghost use Rattle.std.specs.Prelude.{◌≡◌, ◌⊎◌, IfErr, IfOk, None, OnOk, Some};
 ghost use Rattle.share_turns.specs.Told.{one_more};
 ghost use Rattle.share_keeping.specs.Applying.{after_entries, refusal_in};
-ghost use Rattle.share_keeping.specs.Joiners.{nobody};
+ghost use Rattle.share_keeping.specs.Joiners.{no_joiners};
 
 use crate::applying::apply_all;
 use crate::giving::give;
 use crate::joiners::Joiners;
 use crate::said::{Said, says};
-use crate::shot::{Shot, is_too_old, renew};
+use crate::shot::{Shot, note_sent, renew};
 use cascade_core::{ApplyFault, Stage};
 use script_host::Behaviour;
 use share_entries::Entry;
@@ -48,7 +48,7 @@ impl<B: Behaviour, P: Drop> KeepingPort<B, P> {
         ensures port { IfOk result (λ p. p.port ≡ port) }
         ensures stage { IfOk result (λ p. p.stage ≡ after_entries stage entries.now) }
         ensures mark { IfOk result (λ p. p.mark ≡ mark) }
-        ensures joiners { IfOk result (λ p. p.joiners ≡ nobody) }
+        ensures joiners { IfOk result (λ p. p.joiners ≡ no_joiners) }
         ensures shot { IfOk result (λ p. p.shot ≡ None) }
         ensures taken { OnOk result (refusal_in stage entries.now ≡ None) }
         ensures err { IfErr result (λ fault. (fault ≡ ApplyFault.Memory)
@@ -63,7 +63,7 @@ impl<B: Behaviour, P: Drop> KeepingPort<B, P> {
             port,
             stage,
             mark,
-            joiners: Joiners::nobody(),
+            joiners: Joiners::none(),
             shot: None,
             failed: 0,
             lost: 0,
@@ -76,6 +76,7 @@ impl<B: Behaviour, P> KeepingPort<B, P> {
     ghost use Rattle.cascade_core.specs.Held.{spoiled};
     ghost use Rattle.share_turns.specs.Told.{one_more};
     ghost use Rattle.share_wire.specs.Decoding.{decoded};
+    ghost use Rattle.share_keeping.specs.Joiners.{are_some};
     ghost use Rattle.share_keeping.specs.Keeping as spec;
     ghost use Rattle.share_keeping.specs.Said.{said_in};
 
@@ -84,6 +85,18 @@ impl<B: Behaviour, P> KeepingPort<B, P> {
         ensures { result.now ≡ self.now.port }
     {
         &self.port
+    }
+
+    /// Returns the inner port, to be given datagrams.
+    pub fn port_mut(&mut self) -> &mut P {
+        &mut self.port
+    }
+
+    /// Reports whether viewers join.
+    pub fn has_joiners(&self) -> bool
+        ensures { result ≡ are_some self.now.joiners }
+    {
+        self.joiners.are_some()
     }
 
     /// Returns the stage, to read the world.
@@ -132,32 +145,6 @@ impl<B: Behaviour, P> KeepingPort<B, P> {
         }
     }
 
-    /// Notes that a floor is sent.
-    fn note_floor(&mut self, to: u16, floor: u32)
-        ensures { self.new ≡ record self.old {
-          shot = spec.shot_after (Said.HasFrom floor) to self.old.joiners self.old.shot;
-        } }
-    {
-        if self.joiners.is_joined(to) && is_too_old(&self.shot, floor) {
-            self.shot = None;
-        }
-    }
-
-    /// Notes that a datagram is sent.
-    fn note_sent(&mut self, to: u16, bytes: &[u8])
-        ensures { self.new ≡ record self.old {
-          shot = spec.shot_after (said_in self.old.mark (decoded bytes.now)) to self.old.joiners
-              self.old.shot;
-        } }
-    {
-        match says(&self.mark, bytes) {
-            Said::HasFrom(floor) => self.note_floor(to, floor),
-            Said::Joins(_) => {}
-            Said::GoesOn(_) => {}
-            Said::Nothing => {}
-        }
-    }
-
     /// Counts a rest that a failed send ended.
     fn note_lost(&mut self, is_whole: bool)
         ensures { self.new ≡ record self.old { lost = spec.lost_after is_whole self.old.lost } }
@@ -188,7 +175,7 @@ impl<B: Behaviour, P: Port> KeepingPort<B, P> {
         give(&self.mark, &self.shot, &mut self.joiners, &mut self.port)
     }
 
-    /// Gives pieces to those that join, or drops the snapshot if nobody does. Returns whether no
+    /// Gives pieces to those that join, or drops the snapshot if none does. Returns whether no
     /// send failed.
     fn give_if_joined(&mut self) -> bool
         ensures given { spec.IsRestOf (are_some self.old.joiners) self.old.mark self.old.stage
@@ -243,7 +230,7 @@ impl<B: Behaviour, P: Port> Port for KeepingPort<B, P> {
         ensures mark { self.new.mark ≡ self.old.mark }
         ensures lost { self.new.lost ≡ self.old.lost }
     {
-        self.note_sent(to, bytes);
+        note_sent(&self.mark, to, bytes, &self.joiners, &mut self.shot);
         match self.port.send(to, bytes) {
             Ok(()) => Ok(()),
             Err(_failed) => Err(self.fail()),

@@ -1,10 +1,13 @@
 //! The snapshot that is given.
 
 ghost use Rattle.std.specs.Prelude.{◌≡◌, IfSome, length};
-ghost use Rattle.share_keeping.specs.Keeping.{IsRenewed, ready};
+ghost use Rattle.share_wire.specs.Decoding.{decoded};
+ghost use Rattle.share_keeping.specs.Keeping.{IsRenewed, ready, shot_after};
+ghost use Rattle.share_keeping.specs.Said.{said_in};
 ghost use Rattle.share_keeping.specs.Shots as spec;
 
 use crate::joiners::Joiners;
+use crate::said::{Said, says};
 use cascade_core::Stage;
 use script_host::Behaviour;
 use share_core::piece_count;
@@ -116,5 +119,32 @@ pub(crate) fn renew<B: Behaviour>(
     if shot.is_none() {
         joiners.restart();
         *shot = taken(stage, mark);
+    }
+}
+
+/// Notes that a floor is sent: it ends a snapshot that is too old for a viewer that joins.
+fn note_floor(to: u16, floor: u32, joiners: &Joiners, shot: &mut Option<Shot>)
+    ensures { shot.new ≡ shot_after (Said.HasFrom floor) to joiners.now shot.old }
+{
+    if joiners.is_joined(to) && is_too_old(shot, floor) {
+        *shot = None;
+    }
+}
+
+/// Notes that a datagram is sent by the host of the scene with this mark.
+pub(crate) fn note_sent(
+    mark: &[u8; 32],
+    to: u16,
+    bytes: &[u8],
+    joiners: &Joiners,
+    shot: &mut Option<Shot>,
+)
+    ensures { shot.new ≡ shot_after (said_in mark.now (decoded bytes.now)) to joiners.now shot.old }
+{
+    match says(mark, bytes) {
+        Said::HasFrom(floor) => note_floor(to, floor, joiners, shot),
+        Said::Joins(_) => {}
+        Said::GoesOn(_) => {}
+        Said::Nothing => {}
     }
 }

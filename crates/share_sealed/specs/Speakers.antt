@@ -1,9 +1,10 @@
--- Which viewer each peer was last heard to be (our choice). A peer is its port.
+-- Which viewer each peer was last heard to be (our choice). A peer is a number.
 use Rattle.std.specs.Prelude.{ℕ, List, Option, None, Some, get_or, slice_set}
 use Rattle.byte_codec.specs.Codec.{◌>>?◌}
 use Rattle.share_keys.specs.Table.{key_at}
 use Rattle.share_keys.specs.declared.sealing.Key.{Key}
 
+-- a peer for whose number the list has no place is never heard to be a viewer
 abbrev pub noted : List (Option ℕ) → (peer who : ℕ) → List (Option ℕ)
 noted speakers peer who = slice_set speakers peer (Some who)
 

@@ -1,6 +1,6 @@
 //! The port of a host with keys.
 
-ghost use Rattle.std.specs.Prelude.{◌≡◌, ℕ, IfOk, None};
+ghost use Rattle.std.specs.Prelude.{◌≡◌, ℕ, IfOk, None, length};
 ghost use Rattle.share_turns.specs.Told.{one_more};
 ghost use Rattle.share_sealed.specs.Speakers.{who_at};
 ghost use Rattle.share_sealed.specs.Passing.{no_wrongs};
@@ -19,8 +19,8 @@ const SEAL: usize = 16;
 /// counted and changes nothing else; a receive takes at most 64 of those in a row. What is sent to
 /// a peer is sealed by the key of the viewer that the peer was last heard to be.
 ///
-/// A send fails if the port below fails, if the peer never brought a right seal, or if there is no
-/// room for the seal: at more than 273 bytes.
+/// A send fails if the port below fails, if the peer never brought a right seal or has no place, or
+/// if there is no room for the seal: at more than 273 bytes.
 #[derive(Drop)]
 pub struct KeyedPort<P> {
     port: P,
@@ -31,15 +31,17 @@ pub struct KeyedPort<P> {
 }
 
 impl<P: Drop> KeyedPort<P> {
-    /// Returns the port of a host with these keys. Fails if memory is refused.
-    pub fn new(alloc: Global, port: P, keys: Keys) -> Result<KeyedPort<P>, AllocError>
+    /// Returns the port of a host with these keys. Only peers whose numbers are below `peers` have a
+    /// place. Fails if memory is refused.
+    pub fn new(alloc: Global, port: P, peers: usize, keys: Keys) -> Result<KeyedPort<P>, AllocError>
         ensures port { IfOk result (λ p. p.port ≡ port) }
         ensures keys { IfOk result (λ p. p.keys ≡ keys) }
         ensures unheard { IfOk result (λ p. (peer : ℕ) → who_at p.speakers peer ≡ None) }
+        ensures peers { IfOk result (λ p. length p.speakers ≡ peers) }
         ensures wrongs { IfOk result (λ p. p.wrongs ≡ no_wrongs) }
         ensures failures { IfOk result (λ p. p.failed ≡ 0) }
     {
-        let speakers = Speakers::unheard(alloc)?;
+        let speakers = Speakers::unheard(alloc, peers)?;
         Ok(KeyedPort {
             port,
             keys,

@@ -3,34 +3,32 @@
 use std::alloc::{AllocError, Global};
 use std::marker::Model;
 
-/// How many peers there may be: one for each port.
-const PEERS: usize = 65_536;
-
-/// Which viewer each peer was last heard to be, by a datagram with its right seal.
+/// Which viewer each peer was last heard to be, by a datagram with its right seal. A peer of a
+/// number for which there is no place is never heard to be one.
 #[derive(Drop)]
 pub struct Speakers {
     whos: Vec<Option<u8>>,
 }
 
 impl Model for Speakers {
-    ghost use Rattle.std.specs.Prelude.{◌≡◌, ℕ, List, Option, length};
+    ghost use Rattle.std.specs.Prelude.{ℕ, List, Option};
 
     ghost Value = { List (Option ℕ) };
 
     ghost view = { λ s. s.whos.items };
-
-    ghost invariant = { λ s. length s.whos.items ≡ 65536 };
 }
 
 impl Speakers {
-    ghost use Rattle.std.specs.Prelude.{◌≡◌, IfOk, ℕ, None};
+    ghost use Rattle.std.specs.Prelude.{◌≡◌, IfOk, ℕ, None, length};
     ghost use Rattle.share_sealed.specs.Speakers as spec;
 
-    /// Returns what is known before any datagram came. Fails if memory is refused.
-    pub(crate) fn unheard(alloc: Global) -> Result<Speakers, AllocError>
-        ensures { IfOk result (λ s. (peer : ℕ) → spec.who_at s peer ≡ None) }
+    /// Returns what is known before any datagram came, of peers whose numbers are below `peers`.
+    /// Fails if memory is refused.
+    pub(crate) fn unheard(alloc: Global, peers: usize) -> Result<Speakers, AllocError>
+        ensures unheard { IfOk result (λ s. (peer : ℕ) → spec.who_at s peer ≡ None) }
+        ensures peers { IfOk result (λ s. length s ≡ peers) }
     {
-        let whos = vec![in alloc; None; PEERS]?;
+        let whos = vec![in alloc; None; peers]?;
         Ok(Speakers { whos })
     }
 
@@ -38,13 +36,20 @@ impl Speakers {
     pub(crate) fn note(&mut self, peer: u16, who: u8)
         ensures { self.new ≡ spec.noted self.old peer who }
     {
-        self.whos[peer as usize] = Some(who);
+        let number = peer as usize;
+        if number >= self.whos.len() {
+            return;
+        }
+        self.whos[number] = Some(who);
     }
 
     /// Returns the viewer that a peer was last heard to be, if it was heard.
     pub(crate) fn who(&self, peer: u16) -> Option<u8>
         ensures { result ≡ spec.who_at self.now peer }
     {
-        self.whos[peer as usize]
+        match self.whos.get(peer as usize) {
+            Some(who) => *who,
+            None => None,
+        }
     }
 }

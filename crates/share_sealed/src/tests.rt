@@ -52,7 +52,7 @@ fn deliver(port: &mut FakePort, peer: u16, bytes: &[u8]) -> Result<(), Fail> {
 fn keyed(alloc: Global, port: FakePort) -> Result<KeyedPort<FakePort>, Fail> {
     let mut keys = Keys::none();
     keys.put(3, KEY);
-    match KeyedPort::new(alloc, port, keys) {
+    match KeyedPort::new(alloc, port, 65_536, keys) {
         Ok(port) => Ok(port),
         Err(_) => Err(Fail::from("memory was refused")),
     }

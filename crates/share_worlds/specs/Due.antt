@@ -10,9 +10,9 @@ earlier (Some m) None = Some m
 earlier (Some m) (Some n) = Some (min m n)
 
 -- at once if datagrams wait for it or clocks of its job are left; else at the next clock of its
--- beat, or when it may give up viewers
+-- beat, when it may give up viewers, or when those that join get pieces
 abbrev pub moment_of : Wants → Option ℕ
-moment_of w = if w.has_arrived || w.has_clocks then Some 0 else earlier w.beat w.settles
+moment_of w = if w.has_arrived || w.has_clocks then Some 0 else earlier w.beat (earlier w.settles w.gives)
 
 abbrev pub is_due : Option ℕ → (now : ℕ) → Bool
 is_due None now = false

@@ -55,7 +55,7 @@ IsTaken (Ok (Some r)) into old new table addresses =
     (p : Parcel) × (old ≡ p ∷ new) × (take r.1 into ≡ p.bytes) × IsAt addresses r.0 p.address
 IsTaken (Err fault) into old new table addresses = ⊥
 
--- the milliseconds that a rest takes: those that passed since the last one, as far as they can be
--- counted
+-- the milliseconds that a rest takes: those that passed since the last one, at most as many as can
+-- still be counted
 abbrev pub rest_of : (passed rested : ℕ) → ℕ
 rest_of passed rested = min passed (2 ^ 64 - 1 - rested)

@@ -14,6 +14,8 @@ pub struct Wants {
     pub beat: Option<u64>,
     /// When it may give up viewers that are silent, if it counts some.
     pub settles: Option<u64>,
+    /// When viewers that join get their next pieces, if some join.
+    pub gives: Option<u64>,
 }
 
 /// The longest wait, in milliseconds.
@@ -39,7 +41,7 @@ pub fn moment_of(wants: &Wants) -> Option<u64>
     if wants.has_arrived || wants.has_clocks {
         Some(0)
     } else {
-        earlier(wants.beat, wants.settles)
+        earlier(wants.beat, earlier(wants.settles, wants.gives))
     }
 }
 

@@ -33,7 +33,8 @@ fn waits_for_the_first(rt: HostRuntime) {
         has_arrived: false,
         has_clocks: false,
         beat: Some(50),
-        settles: None,
+        settles: Some(90),
+        gives: Some(60),
     };
     assert_eq!(rt; wait_for(&[None, moment_of(&wants)], 20), 30);
     assert_eq!(rt; wait_for(&[None], 20), 1000);

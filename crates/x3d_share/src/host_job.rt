@@ -16,6 +16,19 @@ pub struct HostJob {
     pub stage: Option<Stage<StockScript>>,
 }
 
+impl HostJob {
+    /// Drops all but the stage.
+    pub fn into_stage(self) -> Option<Stage<StockScript>> {
+        let HostJob {
+            inputs,
+            mark: _,
+            stage,
+        } = self;
+        drop(inputs);
+        stage
+    }
+}
+
 /// Returns the job of a host that is reached in this way. A host with keys keeps the world. Fails
 /// with the first fault of the scene's scripts if it does, or with `Memory` if memory is refused.
 pub fn job_in(alloc: Global, job: SharedJob, way: &Way) -> Result<HostJob, JobFault> {

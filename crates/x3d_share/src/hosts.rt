@@ -194,6 +194,30 @@ fn run_over<L: Log, P: Port + OverSocket + Drop>(
     }
 }
 
+/// Returns how many peers a port has.
+fn peers_at<P: OverSocket>(bound: &P) -> usize {
+    if bound.has_numbers() {
+        ADDRESSES as usize
+    } else {
+        PORTS
+    }
+}
+
+/// Returns a port that answers strangers with no more bytes than they sent.
+fn guarded_at<'a, P: Port + Placed + OverSocket + Drop>(
+    rt: &'a HostRuntime,
+    bound: P,
+) -> Result<GuardedPort<TimedPort<P, &'a HostRuntime>>, End> {
+    let secret = drawn_bytes(rt)?;
+    let seed = drawn_bytes(rt)?;
+    let peers = peers_at(&bound);
+    let timed = TimedPort::new(bound, rt);
+    match GuardedPort::new(rt.alloc(), timed, peers, secret, seed) {
+        Ok(guarded) => Ok(guarded),
+        Err(_refused) => Err(End::from(ShareFault::Memory)),
+    }
+}
+
 /// Runs a host over its log at a port that answers strangers with no more bytes than they sent.
 fn run_guarded<L: Log, P: Port + Placed + OverSocket + Drop>(
     rt: &HostRuntime,
@@ -202,17 +226,12 @@ fn run_guarded<L: Log, P: Port + Placed + OverSocket + Drop>(
     log: &mut L,
     bound: P,
 ) -> Result<(), End> {
-    let secret = drawn_bytes(rt)?;
-    let seed = drawn_bytes(rt)?;
-    let peers = if bound.has_numbers() {
-        ADDRESSES as usize
-    } else {
-        PORTS
-    };
-    let timed = TimedPort::new(bound, rt);
-    match GuardedPort::new(rt.alloc(), timed, peers, secret, seed) {
+    match guarded_at(rt, bound) {
         Ok(guarded) => run_over(rt, starting, verbose, log, guarded),
-        Err(_refused) => Err(End::from(ShareFault::Memory)),
+        Err(end) => {
+            drop(starting);
+            Err(end)
+        }
     }
 }
 
@@ -228,9 +247,13 @@ fn run_reached<L: Log, P: Port + Placed + OverSocket + Drop>(
     let Some(keys) = keys else {
         return run_guarded(rt, starting, verbose, log, bound);
     };
-    match KeyedPort::new(rt.alloc(), bound, keys) {
+    let peers = peers_at(&bound);
+    match KeyedPort::new(rt.alloc(), bound, peers, keys) {
         Ok(keyed) => run_guarded(rt, starting, verbose, log, keyed),
-        Err(_refused) => Err(End::from(ShareFault::Memory)),
+        Err(_refused) => {
+            drop(starting);
+            Err(End::from(ShareFault::Memory))
+        }
     }
 }
 
@@ -273,22 +296,15 @@ fn without_log(
         drop(job);
         return Err(ShareFault::Memory);
     };
-    let turning = Turning {
-        head,
-        hosting,
-        clocks,
-        plan,
-    };
-    let HostJob {
-        inputs: _,
-        mark: _,
-        stage,
-    } = job;
-    let entries = Vec::new(alloc);
     Ok(Starting {
-        turning,
-        entries,
-        stage,
+        turning: Turning {
+            head,
+            hosting,
+            clocks,
+            plan,
+        },
+        entries: Vec::new(alloc),
+        stage: job.into_stage(),
     })
 }
 

@@ -9,6 +9,8 @@ use app_logs::{Begun, Log, LogFault, recalled, recalled_info, times_after};
 use app_program::{RunFault, read_whole, write_whole};
 use app_serve::{End, LogDisk, VIEWERS, disk_at, gone_on, made};
 use app_words::{HostOrder, LogUse, Order};
+use cascade_core::Stage;
+use script_boxes::StockScript;
 use std::alloc::Global;
 use std::io;
 
@@ -33,10 +35,11 @@ fn turns_over_log(asked: &HostOrder) -> u64 {
     }
 }
 
-/// Runs a host over its log at a port.
+/// Runs a host over its log at a door. `clocks` are those of its job that are still to be numbered.
 fn run_over_log(
     rt: &HostRuntime,
-    job: HostJob,
+    stage: Option<Stage<StockScript>>,
+    clocks: Vec<i64>,
     asked: &HostOrder,
     begun: Begun<LogDisk>,
     door: Door<'_>,
@@ -49,42 +52,40 @@ fn run_over_log(
         last,
         entries,
     } = begun;
-    let HostJob {
-        inputs,
-        mark: _,
-        stage,
-    } = job;
-    let Ok(clocks) = times_after(rt.alloc(), last, inputs.as_slice()) else {
-        return Err(End::Log(LogFault::Memory));
-    };
     tell_log(rt, asked.verbose, log.len(), cut, clocks.len());
     let plan = plan_of(asked, last, turns_over_log(asked));
-    let turning = Turning {
-        head,
-        hosting,
-        clocks,
-        plan,
-    };
     let starting = Starting {
-        turning,
+        turning: Turning {
+            head,
+            hosting,
+            clocks,
+            plan,
+        },
         entries,
         stage,
     };
     run_at(rt, starting, asked.verbose, &mut log, door)
 }
 
-/// Opens the file of a log, binds the socket, and begins the host.
+/// Opens the file of a log, binds the socket, begins the host, and returns it with those of these
+/// clocks that are still to be numbered.
 fn begun_at<'a>(
     rt: &'a HostRuntime,
-    mark: [u8; 32],
+    job: &HostJob,
     asked: &HostOrder,
     way: Way,
     file: &str,
-) -> Result<(Begun<LogDisk>, Door<'a>), End> {
+) -> Result<(Begun<LogDisk>, Door<'a>, Vec<i64>), End> {
     let disk = disk_at(rt, file, asked.log)?;
     let door = opened(rt, asked, way)?;
-    let begun = begun_in(rt, disk, mark, asked)?;
-    Ok((begun, door))
+    let begun = begun_in(rt, disk, job.mark, asked)?;
+    match times_after(rt.alloc(), begun.last, job.inputs.as_slice()) {
+        Ok(clocks) => Ok((begun, door, clocks)),
+        Err(_refused) => {
+            drop(begun);
+            Err(End::Log(LogFault::Memory))
+        }
+    }
 }
 
 /// Opens the file of a log, binds the socket, and runs the host.
@@ -95,8 +96,10 @@ fn hosted(
     way: Way,
     file: &str,
 ) -> Result<(), End> {
-    match begun_at(rt, job.mark, asked, way, file) {
-        Ok((begun, door)) => run_over_log(rt, job, asked, begun, door),
+    match begun_at(rt, &job, asked, way, file) {
+        Ok((begun, door, clocks)) => {
+            run_over_log(rt, job.into_stage(), clocks, asked, begun, door)
+        }
         Err(end) => {
             drop(job);
             Err(end)
