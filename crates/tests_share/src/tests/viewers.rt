@@ -8,6 +8,7 @@ mod gathering;
 mod given;
 mod hosting;
 mod joins;
+mod keeping;
 mod memory;
 mod ports;
 mod snapshots;

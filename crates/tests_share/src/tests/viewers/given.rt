@@ -60,6 +60,14 @@ fn stage_of(alloc: Global, opened: OpenedScene) -> Result<Stage<StockScript>, Lo
     Stage::load(alloc, opened.scene, opened.routes, scripts)
 }
 
+/// Returns the stage of the scene with this text.
+pub(super) fn stage_in(alloc: Global, text: &str) -> Option<Stage<StockScript>> {
+    let Ok(opened) = open_scene(alloc, text.as_bytes()) else {
+        return None;
+    };
+    stage_of(alloc, opened).ok()
+}
+
 /// Returns viewer 0 of a scene, as its boot 1.
 pub(super) fn viewer_of(alloc: Global, text: &str) -> Result<Viewer<StockScript>, LoadFault> {
     let Ok(opened) = open_scene(alloc, text.as_bytes()) else {

@@ -1,0 +1,111 @@
+//! A host that keeps its world: what it gives to a viewer that joins.
+
+use super::given::{CLOCKED, MARK, stage_in};
+use script_boxes::StockScript;
+use share_entries::{Entry, Source};
+use share_keeping::KeepingPort;
+use share_logged::Learns;
+use share_turns::{Bytes, Datagram, FakePort, Port, RECEIVED, Traffic};
+use share_wire::{Ask, Body, Message, encode};
+use std::alloc::Global;
+use std::process::Abort;
+
+/// The peer from which a viewer joins.
+const PEER: u16 = 7;
+
+type Keeping = KeepingPort<StockScript, FakePort>;
+
+/// Returns the port of a host whose log has one clock. This call of the port below fails; none does
+/// if it is 0.
+fn keeping(alloc: Global, fails_at: u64) -> Option<Keeping> {
+    let stage = stage_in(alloc, CLOCKED)?;
+    let entries = [Entry::new(1_000_000, Source::Clock)];
+    KeepingPort::begin(FakePort::failing_at(alloc, fails_at), stage, MARK, &entries).ok()
+}
+
+/// The viewer at seat 1 asks for this input.
+fn asks(port: &mut Keeping, next: u32) -> bool {
+    let ask = encode(&Message {
+        mark: MARK,
+        body: Body::Ask(Ask::new(1, next)),
+    });
+    let datagram = Datagram {
+        peer: PEER,
+        bytes: Bytes::from_slice(ask.as_slice()),
+    };
+    let mut bytes = [0; RECEIVED];
+    port.port_mut().deliver(datagram).is_ok() && port.receive(&mut bytes).is_ok()
+}
+
+fn is_given(traffic: &Traffic) -> bool {
+    match traffic {
+        Traffic::Sent(datagram) => datagram.peer == PEER,
+        _ => false,
+    }
+}
+
+/// Returns how many datagrams were sent to the viewer after a rest.
+fn given_at_rest(port: &mut Keeping) -> usize {
+    let _millis = port.rest(true);
+    port.port()
+        .traffic()
+        .iter()
+        .filter(|it| is_given(it))
+        .count()
+}
+
+/// The snapshot has 314 bytes, so two pieces.
+#[test]
+fn a_viewer_joins_until_it_asks_on(rt: HostRuntime) {
+    let Some(mut port) = keeping(rt.alloc(), 0) else {
+        panic!(rt; "there is no port");
+    };
+    let before = (
+        port.stage().applied(),
+        port.has_joiners(),
+        given_at_rest(&mut port),
+    );
+    let joins = asks(&mut port, 1) && port.has_joiners();
+    let given = (given_at_rest(&mut port), given_at_rest(&mut port));
+    let leaves = asks(&mut port, 2) && !port.has_joiners();
+    let after = given_at_rest(&mut port);
+    drop(port);
+    assert!(rt; before == (1, false, 0));
+    assert!(rt; joins && leaves);
+    assert!(rt; given == (2, 4));
+    assert!(rt; after == 4);
+}
+
+/// Call 1 of the port below receives the ask, 2 and 3 send the pieces.
+#[test]
+fn a_send_that_fails_ends_a_rest(rt: HostRuntime) {
+    let Some(mut port) = keeping(rt.alloc(), 3) else {
+        panic!(rt; "there is no port");
+    };
+    let joins = asks(&mut port, 1);
+    let given = (
+        given_at_rest(&mut port),
+        port.lost(),
+        given_at_rest(&mut port),
+        port.lost(),
+    );
+    drop(port);
+    assert!(rt; joins);
+    assert!(rt; given == (1, 1, 3, 1));
+}
+
+#[test]
+fn a_world_goes_on_with_what_is_learned(rt: HostRuntime) {
+    let Some(mut port) = keeping(rt.alloc(), 0) else {
+        panic!(rt; "there is no port");
+    };
+    let learned = port.learn(&[Entry::new(2_000_000, Source::Clock)]).is_ok();
+    let applied = port.stage().applied();
+    // A log has no entry before the last.
+    let failed = port.learn(&[Entry::new(1_000_000, Source::Clock)]).is_err();
+    let spoiled = port.learn(&[Entry::new(3_000_000, Source::Clock)]).is_err();
+    let failures = port.failures();
+    drop(port);
+    assert!(rt; learned && applied == 2);
+    assert!(rt; failed && spoiled && failures == 2);
+}
