@@ -285,7 +285,7 @@ fn read(rt: &HostRuntime, folder: &str, name: &WorldName, serving: &Serving) -> 
 }
 
 /// Begins the log of a world with this job.
-fn opened(
+fn with_log(
     rt: &HostRuntime,
     folder: &str,
     name: &WorldName,
@@ -320,7 +320,7 @@ pub fn open_world(
     now: u64,
 ) -> Result<World, End> {
     let job = read(rt, folder, name, serving)?;
-    match opened(rt, folder, name, &job, serving) {
+    match with_log(rt, folder, name, &job, serving) {
         Ok(opened) => {
             let Kept {
                 mark: _,
