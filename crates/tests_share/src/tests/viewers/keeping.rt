@@ -23,11 +23,11 @@ fn keeping(alloc: Global, fails_at: u64) -> Option<Keeping> {
     KeepingPort::begin(FakePort::failing_at(alloc, fails_at), stage, MARK, &entries).ok()
 }
 
-/// The viewer at seat 1 asks for this input.
-fn asks(port: &mut Keeping, next: u32) -> bool {
+/// A viewer asks from its peer.
+fn asks(port: &mut Keeping, ask: Ask) -> bool {
     let ask = encode(&Message {
         mark: MARK,
-        body: Body::Ask(Ask::new(1, next)),
+        body: Body::Ask(ask),
     });
     let datagram = Datagram {
         peer: PEER,
@@ -65,9 +65,9 @@ fn a_viewer_joins_until_it_asks_on(rt: HostRuntime) {
         port.has_joiners(),
         given_at_rest(&mut port),
     );
-    let joins = asks(&mut port, 1) && port.has_joiners();
+    let joins = asks(&mut port, Ask::new(1, 1)) && port.has_joiners();
     let given = (given_at_rest(&mut port), given_at_rest(&mut port));
-    let leaves = asks(&mut port, 2) && !port.has_joiners();
+    let leaves = asks(&mut port, Ask::new(1, 2)) && !port.has_joiners();
     let after = given_at_rest(&mut port);
     drop(port);
     assert!(rt; before == (1, false, 0));
@@ -82,7 +82,7 @@ fn a_send_that_fails_ends_a_rest(rt: HostRuntime) {
     let Some(mut port) = keeping(rt.alloc(), 3) else {
         panic!(rt; "there is no port");
     };
-    let joins = asks(&mut port, 1);
+    let joins = asks(&mut port, Ask::new(1, 1));
     let given = (
         given_at_rest(&mut port),
         port.lost(),
