@@ -190,8 +190,8 @@ fn begun(served: &Served<'_>) -> Result<Turns, End> {
     })
 }
 
-/// Serves the worlds of a folder. Fails with `Port`, `Memory` or `NoFolder` at the start; after that
-/// it goes on until the process is ended.
+/// Serves the worlds of a folder. Fails with `Port`, `Memory` or `NoFolder` at the start; after
+/// that it goes on until the process is ended.
 pub fn serve(rt: &HostRuntime, folder: &str, serving: &Serving) -> Result<(), End> {
     let mut now = millis_now(rt, 0);
     let mut turns = begun(&Served {

@@ -163,8 +163,8 @@ fn keyed_port(
     }
 }
 
-/// Returns the ports of a world with keys. The log's entries are those of a host, so only memory may
-/// be refused to them.
+/// Returns the ports of a world with keys. The log's entries are those of a host, so only memory
+/// may be refused to them.
 fn keyed_stack(
     rt: &HostRuntime,
     run: HostRun,

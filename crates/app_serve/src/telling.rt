@@ -59,53 +59,55 @@ fn refuse_words_of<R: Eprint>(rt: &R, world: Option<&WorldName>, line: &str) -> 
     ExitCode::from(2)
 }
 
-/// Prints the line of a refusal on standard error, and a second one where there is more to say,
-/// each after the name of the world that it is about. Returns its status.
-fn refuse_in<R: Eprint>(rt: &R, world: Option<&WorldName>, end: &End) -> ExitCode {
+/// Prints the line of a refusal, and returns its status.
+fn refuse_by_name<R: Eprint>(rt: &R, world: Option<&WorldName>, end: &End) -> ExitCode {
     match end {
         End::Failure(failure) => refuse_failure(rt, world, failure),
-        End::Instance(failure, line) => {
-            let status = refuse_failure(rt, world, failure);
-            tell(rt, world, instance_words(*line).as_str());
-            status
-        }
+        End::Instance(failure, _) => refuse_failure(rt, world, failure),
         End::Log(fault) => refuse_log(rt, world, *fault),
-        End::InDoubt => {
-            let status = refuse_log(rt, world, LogFault::Device);
-            tell(
-                rt,
-                world,
-                "the log is in doubt: start the host again with --log",
-            );
-            status
-        }
+        End::InDoubt => refuse_log(rt, world, LogFault::Device),
         End::NoAddress => refuse_words_of(rt, world, "refused NoAddress"),
         End::KeyFileOpen => refuse_words_of(rt, world, "refused KeyFileOpen"),
-        End::KeyFileShared => {
-            let status = refuse_words_of(rt, world, "refused KeyFileOpen");
-            tell(rt, world, "others may use the file of keys: chmod 600 it");
-            status
-        }
+        End::KeyFileShared => refuse_words_of(rt, world, "refused KeyFileOpen"),
         End::KeyFile(fault) => {
             tell(rt, world, KeyFileRefused(*fault));
             ExitCode::from(2)
         }
         End::WrongViewer => refuse_words_of(rt, world, "refused WrongViewer"),
         End::NoKeys => refuse_words_of(rt, world, "refused NoKeys"),
-        End::NoWorldName => {
-            let status = refuse_words_of(rt, world, "refused NoWorldName");
-            tell(
-                rt,
-                world,
-                "up to 64 letters, digits, '-', '_' and '.' name a world",
-            );
-            status
-        }
+        End::NoWorldName => refuse_words_of(rt, world, "refused NoWorldName"),
         End::KeyFileThere => refuse_words_of(rt, world, "refused KeyFileThere"),
         End::NoFolder => refuse_words_of(rt, world, "refused NoFolder"),
         End::NoNames => refuse_words_of(rt, world, "refused NoNames"),
         End::NameLost => ExitCode::from(1),
     }
+}
+
+/// Prints what else there is to say of a refusal.
+fn tell_more<R: Eprint>(rt: &R, world: Option<&WorldName>, end: &End) {
+    match end {
+        End::Instance(_, line) => tell(rt, world, instance_words(*line).as_str()),
+        End::InDoubt => tell(
+            rt,
+            world,
+            "the log is in doubt: start the host again with --log",
+        ),
+        End::KeyFileShared => tell(rt, world, "others may use the file of keys: chmod 600 it"),
+        End::NoWorldName => tell(
+            rt,
+            world,
+            "up to 64 letters, digits, '-', '_' and '.' name a world",
+        ),
+        _ => {}
+    }
+}
+
+/// Prints the line of a refusal on standard error, and a second one where there is more to say,
+/// each after the name of the world that it is about. Returns its status.
+fn refuse_in<R: Eprint>(rt: &R, world: Option<&WorldName>, end: &End) -> ExitCode {
+    let status = refuse_by_name(rt, world, end);
+    tell_more(rt, world, end);
+    status
 }
 
 /// Prints the line of a refusal on standard error, and a second one where there is more to say.

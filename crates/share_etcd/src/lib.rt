@@ -1,7 +1,7 @@
 //! A world's log in etcd: the bodies of requests, and what answers say. No IO.
 //!
-//! A request goes to `/v3/kv/txn` of etcd's JSON gateway, by POST. The keys of a world are
-//! `x3d/NAME/head`, `x3d/NAME/tail` and `x3d/NAME/log/` with the number of a frame's first entry.
+//! A request is a transaction of etcd's JSON gateway (POST /v3/kv/txn). The keys of a world are
+//! x3d/NAME/head, x3d/NAME/tail and x3d/NAME/log/ with the number of a frame's first entry.
 #![tactic(auto)]
 
 mod contents;

@@ -1,37 +1,31 @@
-//! How a host starts: the run of its log, its turns, and the socket of its place. A host without a
-//! log file has a log in memory, and a run of its own.
+//! How a host starts: the run of its log, and its turns. A host without a log file has a log in
+//! memory, and a run of its own.
 
 ghost use Rattle.app_words.specs.Words.{HostInRange};
 
 use crate::defaults::{turns_of, viewers_of};
-use crate::doors::{Door, HostTexts, OverSocket, Socket, Way, opened, way_of};
-use crate::ends::{
-    tell_cut_short, tell_host_end, tell_kept, tell_port, tell_strange, tell_unsealed,
-};
+use crate::doors::{Door, HostTexts, OverSocket, Way, opened, way_of};
+use crate::ends::{tell_cut_short, tell_host_end, tell_kept, tell_strange, tell_unsealed};
 use crate::host_job::{HostJob, job_in};
-use app_commands::{
-    ADDRESSES, PatientPort, Peer, SharedJob, TellingPort, TimedPort, Watch, shared_job,
-};
+use crate::reached::run_at;
+use app_commands::{PatientPort, Peer, SharedJob, TellingPort, Watch, shared_job};
 use app_logs::{
     Beat, Entry, Head, Log, LogFault, LogPlan, LoggedHost, MemoryLog, RunFault as LogRunFault,
     is_viewer_count, log_run, resume, times_after,
 };
 use app_program::{RunFault, ShareFault, read_whole};
-use app_serve::{End, drawn_bytes, drawn_run};
+use app_serve::{End, drawn_run};
 use app_words::{HostOrder, Order};
 use cascade_core::Stage;
 use script_boxes::StockScript;
-use share_guards::{GuardedPort, Placed};
 use share_keeping::KeepingPort;
-use share_keys::Keys;
 use share_logged::Learns;
-use share_sealed::KeyedPort;
 use share_turns::{HostPlan, Port};
 use share_welcomes::{HostPort, HostRun};
 use std::alloc::Global;
 
 /// How many peers a socket of this machine has: one for each port.
-const PORTS: usize = 65_536;
+pub const PORTS: usize = 65_536;
 
 /// What a host turns with.
 #[derive(Drop)]
@@ -178,7 +172,7 @@ fn run_in_run<L: Log, P: Port + OverSocket + Drop>(
 }
 
 /// Runs a host over its log at a port, in the run of its log.
-fn run_over<L: Log, P: Port + OverSocket + Drop>(
+pub fn run_over<L: Log, P: Port + OverSocket + Drop>(
     rt: &HostRuntime,
     starting: Starting,
     verbose: bool,
@@ -191,87 +185,6 @@ fn run_over<L: Log, P: Port + OverSocket + Drop>(
             drop(starting);
             Err(end)
         }
-    }
-}
-
-/// Returns how many peers a port has.
-fn peers_at<P: OverSocket>(bound: &P) -> usize {
-    if bound.has_numbers() {
-        ADDRESSES as usize
-    } else {
-        PORTS
-    }
-}
-
-/// Returns a port that answers strangers with no more bytes than they sent.
-fn guarded_at<'a, P: Port + Placed + OverSocket + Drop>(
-    rt: &'a HostRuntime,
-    bound: P,
-) -> Result<GuardedPort<TimedPort<P, &'a HostRuntime>>, End> {
-    let secret = drawn_bytes(rt)?;
-    let seed = drawn_bytes(rt)?;
-    let peers = peers_at(&bound);
-    let timed = TimedPort::new(bound, rt);
-    match GuardedPort::new(rt.alloc(), timed, peers, secret, seed) {
-        Ok(guarded) => Ok(guarded),
-        Err(_refused) => Err(End::from(ShareFault::Memory)),
-    }
-}
-
-/// Runs a host over its log at a port that answers strangers with no more bytes than they sent.
-fn run_guarded<L: Log, P: Port + Placed + OverSocket + Drop>(
-    rt: &HostRuntime,
-    starting: Starting,
-    verbose: bool,
-    log: &mut L,
-    bound: P,
-) -> Result<(), End> {
-    match guarded_at(rt, bound) {
-        Ok(guarded) => run_over(rt, starting, verbose, log, guarded),
-        Err(end) => {
-            drop(starting);
-            Err(end)
-        }
-    }
-}
-
-/// Runs a host over its log at a port that strangers reach, with its keys if it has some.
-fn run_reached<L: Log, P: Port + Placed + OverSocket + Drop>(
-    rt: &HostRuntime,
-    starting: Starting,
-    verbose: bool,
-    log: &mut L,
-    bound: P,
-    keys: Option<Keys>,
-) -> Result<(), End> {
-    let Some(keys) = keys else {
-        return run_guarded(rt, starting, verbose, log, bound);
-    };
-    let peers = peers_at(&bound);
-    match KeyedPort::new(rt.alloc(), bound, peers, keys) {
-        Ok(keyed) => run_guarded(rt, starting, verbose, log, keyed),
-        Err(_refused) => {
-            drop(starting);
-            Err(End::from(ShareFault::Memory))
-        }
-    }
-}
-
-/// Runs a host over its log at a door. Only a host of this machine without keys serves all that
-/// come.
-pub fn run_at<L: Log>(
-    rt: &HostRuntime,
-    starting: Starting,
-    verbose: bool,
-    log: &mut L,
-    door: Door<'_>,
-) -> Result<(), End> {
-    let Door { socket, keys } = door;
-    tell_port(rt, verbose, socket.port());
-    match (socket, keys) {
-        (Socket::Local(bound), None) => run_over(rt, starting, verbose, log, bound),
-        (Socket::Local(bound), keys) => run_reached(rt, starting, verbose, log, bound, keys),
-        (Socket::Addressed(bound), keys) => run_reached(rt, starting, verbose, log, bound, keys),
     }
 }
 

@@ -4,7 +4,8 @@
 use crate::doors::{Door, HostTexts, Way, opened, way_of};
 use crate::ends::tell_log;
 use crate::host_job::{HostJob, job_in};
-use crate::hosts::{Starting, Turning, plan_of, read_clocks, run_at};
+use crate::hosts::{Starting, Turning, plan_of, read_clocks};
+use crate::reached::run_at;
 use app_logs::{Begun, Log, LogFault, recalled, recalled_info, times_after};
 use app_program::{RunFault, read_whole, write_whole};
 use app_serve::{End, LogDisk, VIEWERS, disk_at, gone_on, made};

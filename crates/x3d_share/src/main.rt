@@ -10,6 +10,7 @@ mod logs;
 mod meets;
 mod parts;
 mod peers;
+mod reached;
 mod refused;
 mod seated;
 mod serving;
