@@ -26,7 +26,7 @@ abbrev pub decoded : Result (List ℕ) DecodeError → Option (List ℕ)
 decoded (Ok bytes) = Some bytes
 decoded (Err _) = None
 
--- the bytes of which a text is the base64
+-- the bytes whose base64 a text is
 abbrev pub bytes_of : List ℕ → Option (List ℕ)
 bytes_of text = decoded (decode_of standard text)
 

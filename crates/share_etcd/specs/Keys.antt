@@ -17,7 +17,7 @@ tail_key world = codes "x3d/" ++ world ++ codes "/tail"
 abbrev pub log_front : (world : List ℕ) → List ℕ
 log_front world = codes "x3d/" ++ world ++ codes "/log/"
 
--- the key of the frame of which the first entry has this number
+-- the key of the frame whose first entry has this number
 abbrev pub log_key : (world : List ℕ) (first : ℕ) → List ℕ
 log_key world first = log_front world ++ digits_of first
 

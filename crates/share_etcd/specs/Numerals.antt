@@ -19,7 +19,7 @@ with_digits text (Err _) = None
 with_digits text (Ok bytes) =
     if pointwise nat_eq text (encode_lower bytes) then Some (from_be_bytes w64 bytes) else None
 
--- the number of which a text is the digits
+-- the number whose digits a text is
 abbrev pub number_of : List ℕ → Option ℕ
 number_of text = with_digits text (decode_sized text 8)
 
@@ -34,7 +34,7 @@ abbrev pub with_decimal : List ℕ → ℕ → Option ℕ
 with_decimal text n =
     if is_revision n && pointwise nat_eq text (decimal n) then Some n else None
 
--- the revision of which a text is the decimal numeral
+-- the revision whose decimal numeral a text is
 abbrev pub revision_of : List ℕ → Option ℕ
 revision_of text = with_decimal text (digits_value 10 text)
 

@@ -38,7 +38,7 @@ pub(crate) fn log_front(alloc: Global, name: &WorldName) -> Result<Vec<u8>, Allo
     key_of(alloc, name, b"/log/")
 }
 
-/// Returns the key of the frame of which the first entry has this number.
+/// Returns the key of the frame whose first entry has this number.
 pub fn log_key(alloc: Global, name: &WorldName, first: u64) -> Result<Vec<u8>, AllocError>
     ensures { IfOk result (λ v. v.items ≡ spec.log_key (spec.text_of name.now) first) }
 {

@@ -40,7 +40,7 @@ fn with_digits(text: &[u8], bytes: [u8; 8]) -> Option<u64>
     }
 }
 
-/// Returns the number of which a text is the digits.
+/// Returns the number whose digits a text is.
 pub(crate) fn number_of(text: &[u8]) -> Option<u64>
     ensures { result ≡ spec.number_of text.now }
 {
@@ -74,7 +74,7 @@ fn with_decimal(text: &[u8], number: u64) -> Option<u64>
     }
 }
 
-/// Returns the revision of which a text is the decimal numeral.
+/// Returns the revision whose decimal numeral a text is.
 pub(crate) fn revision_of(text: &str) -> Option<u64>
     ensures { result ≡ spec.revision_of text.now }
 {
