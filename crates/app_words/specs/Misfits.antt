@@ -4,7 +4,7 @@ use Rattle.app_words.specs.declared.misfit.Misfit.{Misfit}
 use Rattle.app_words.specs.declared.misfit.Misfit.TheVariants as misfit
 use Rattle.app_words.specs.declared.order.HostOrder.{HostOrder}
 use Rattle.app_words.specs.declared.order.LogUse.{LogUse}
-use Rattle.app_words.specs.declared.order.LogUse.TheVariants.{Without, GoesOn, Makes}
+use Rattle.app_words.specs.declared.order.LogUse.TheVariants.{Without, GoesOn, Makes, Shares}
 use Rattle.app_words.specs.declared.order.ServeOrder.{ServeOrder}
 use Rattle.app_words.specs.declared.order.ViewOrder.{ViewOrder}
 
@@ -86,17 +86,40 @@ abbrev pub has_log : LogUse → Bool
 has_log Without = false
 has_log GoesOn = true
 has_log Makes = true
+has_log Shares = true
+
+abbrev pub is_shared : LogUse → Bool
+is_shared Without = false
+is_shared GoesOn = false
+is_shared Makes = false
+is_shared Shares = true
 
 -- only a host with a log makes clocks
 abbrev pub every_misfit : HostOrder → Option Misfit
 every_misfit o =
     if not (has_log o.log) && is_some o.every then Some misfit.EveryWithoutLog else None
 
+-- a world is named, logged in to and stood by for only where its log is in etcd
+abbrev pub unshared_misfit : HostOrder → Option Misfit
+unshared_misfit o =
+    if o.has_world then Some misfit.WorldWithoutEtcd
+    else if o.has_login then Some misfit.LoginWithoutEtcd
+    else if is_some o.standby then Some misfit.StandbyWithoutEtcd
+    else None
+
+-- and there it has to be named
+abbrev pub sharing_misfit : HostOrder → Option Misfit
+sharing_misfit o =
+    if not (is_shared o.log) then unshared_misfit o
+    else if o.has_world then None
+    else Some misfit.EtcdWithoutWorld
+
 -- the first reason why the options don't go together, if there is one
 abbrev pub host_misfit : HostOrder → Option Misfit
 host_misfit o =
     or_else (place_misfit misfit.TwoPlaces o.port o.has_address)
-    (or_else (every_misfit o) (open_misfit misfit.OpenWithKeys o.has_keys o.is_open))
+    (or_else (every_misfit o)
+    (or_else (sharing_misfit o) (open_misfit misfit.OpenWithKeys o.has_keys o.is_open)))
 
 -- `serve` has one place, as a host
 abbrev pub serve_misfit : ServeOrder → Option Misfit

@@ -46,6 +46,16 @@ log_rule = option (codes "log")
 abbrev pub new_log_rule : Rule
 new_log_rule = option (codes "new-log")
 
+-- `--etcd ADDRESS:PORT[,..]`, `--login FILE`, and `--standby SECONDS`, up to an hour
+abbrev pub etcd_rule : Rule
+etcd_rule = option (codes "etcd")
+
+abbrev pub login_rule : Rule
+login_rule = option (codes "login")
+
+abbrev pub standby_rule : Rule
+standby_rule = ranged (codes "standby") 1 3600
+
 -- `--keep-names FILE`
 abbrev pub keep_names_rule : Rule
 keep_names_rule = option (codes "keep-names")
@@ -68,7 +78,7 @@ keys_rule = option (codes "keys")
 abbrev pub key_rule : Rule
 key_rule = option (codes "key")
 
--- `--world NAME` of `view`
+-- `--world NAME` of `view` and `host`
 abbrev pub world_rule : Rule
 world_rule = option (codes "world")
 

@@ -13,7 +13,7 @@ use Rattle.app_words.specs.Misfits.{host_misfit, misfit_of, serve_misfit}
 use Rattle.app_words.specs.Options.{max_who}
 use Rattle.app_words.specs.declared.order.HostOrder.{HostOrder}
 use Rattle.app_words.specs.declared.order.LogUse.{LogUse}
-use Rattle.app_words.specs.declared.order.LogUse.TheVariants.{Without, GoesOn, Makes}
+use Rattle.app_words.specs.declared.order.LogUse.TheVariants.{Without, GoesOn, Makes, Shares}
 use Rattle.app_words.specs.declared.order.Order.{Order}
 use Rattle.app_words.specs.declared.order.Order.TheVariants.{Run, Format, Check, Rehearse, Agree, Host, View, Serve, Recall, Part, Key}
 use Rattle.app_words.specs.declared.order.ServeOrder.{ServeOrder}
@@ -80,6 +80,9 @@ MayHaveKeep rows keep = MayHaveNumberIn (codes "keep") rows 0 max_inputs keep
 abbrev pub MayHaveEvery : List Row → Option ℕ → Type 0
 MayHaveEvery rows every = MayHaveNumberIn (codes "every") rows 1 3600000 every
 
+abbrev pub MayHaveStandby : List Row → Option ℕ → Type 0
+MayHaveStandby rows standby = MayHaveNumberIn (codes "standby") rows 1 3600 standby
+
 abbrev pub MayHaveUntil : List Row → Option ℕ → Type 0
 MayHaveUntil rows until = MayHaveNumberIn (codes "until") rows 0 max_inputs until
 
@@ -123,17 +126,19 @@ abbrev pub text_named : Text → Option (Text × List Row) → Option Text
 text_named id None = None
 text_named id (Some p) = first_of id p.1
 
--- what is done with a log, by which of `--log` and `--new-log` was given. Both don't go together
-abbrev pub log_use_of : (goes_on makes : Bool) → Option LogUse
-log_use_of false false = Some Without
-log_use_of true false = Some GoesOn
-log_use_of false true = Some Makes
-log_use_of true true = None
+-- what is done with a log, by which of `--log`, `--new-log` and `--etcd` was given: at most one
+abbrev pub log_use_of : (goes_on makes shares : Bool) → Option LogUse
+log_use_of false false false = Some Without
+log_use_of true false false = Some GoesOn
+log_use_of false true false = Some Makes
+log_use_of false false true = Some Shares
+log_use_of _ _ _ = None
 
--- the use of a log that the two options ask for
+-- the use of a log that the three options ask for
 abbrev pub log_use_in : List Row → Option LogUse
 log_use_in rows =
     log_use_of (is_text_given (codes "log") rows) (is_text_given (codes "new-log") rows)
+    (is_text_given (codes "etcd") rows)
 
 -- ---- orders
 
@@ -144,6 +149,9 @@ pub record AsksHost (rows : List Row) (o : HostOrder) : Type 0 where
   pub has_keys : o.has_keys ≡ is_text_given (codes "keys") rows
   pub is_open : o.is_open ≡ is_given (codes "open") rows
   pub log : log_use_in rows ≡ Some o.log
+  pub has_world : o.has_world ≡ is_text_given (codes "world") rows
+  pub has_login : o.has_login ≡ is_text_given (codes "login") rows
+  pub standby : MayHaveStandby rows o.standby
   pub viewers : MayHaveViewers rows o.viewers
   pub until : MayHaveUntil rows o.until
   pub keep : MayHaveKeep rows o.keep
@@ -216,6 +224,8 @@ pub record HostInRange (o : HostOrder) : Type 0 where
   pub keep_high : IfSome o.keep (λ n. n ≤ max_inputs)
   pub every_low : IfSome o.every (λ n. 1 ≤ n)
   pub every_high : IfSome o.every (λ n. n ≤ 3600000)
+  pub standby_low : IfSome o.standby (λ n. 1 ≤ n)
+  pub standby_high : IfSome o.standby (λ n. n ≤ 3600)
   pub turns_low : IfSome o.turns (λ n. 1 ≤ n)
   pub turns_high : IfSome o.turns (λ n. n ≤ 10000000)
   pub together : host_misfit o ≡ None

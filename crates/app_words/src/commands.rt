@@ -15,10 +15,10 @@ use crate::help::{
     REHEARSE_HELP, RUN_HELP, SERVE_HELP, VIEW_HELP,
 };
 use crate::options::{
-    AT, BOOT, EVERY, EXACTLY, FOLDER, FlagOption, GIVE, GIVE_TURNS, HOST, HOST_TURNS, HOST_UNTIL,
-    HOST_VIEWERS, INFO, JOIN, KEEP, KEEP_NAMES, KEY, KEYS, LIST, LISTEN, LOG, NEW_LOG, NO_TRACE,
-    NumberOption, OPEN, PORT, RECALL_UNTIL, TURNS, TextOption, VERBOSE, VIEW_UNTIL, VIEWERS, WHO,
-    WIRE, WORLD, WORLD_EVERY, WORLD_VIEWERS, WORLDS,
+    AT, BOOT, ETCD, EVERY, EXACTLY, FOLDER, FlagOption, GIVE, GIVE_TURNS, HOST, HOST_TURNS,
+    HOST_UNTIL, HOST_VIEWERS, INFO, JOIN, KEEP, KEEP_NAMES, KEY, KEYS, LIST, LISTEN, LOG, LOGIN,
+    NEW_LOG, NO_TRACE, NumberOption, OPEN, PORT, RECALL_UNTIL, SHARED_WORLD, STANDBY, TURNS,
+    TextOption, VERBOSE, VIEW_UNTIL, VIEWERS, WHO, WIRE, WORLD, WORLD_EVERY, WORLD_VIEWERS, WORLDS,
 };
 use clap::Command;
 use std::alloc::{AllocError, Global};
@@ -83,8 +83,16 @@ static SHARED_COMMANDS: [CommandWords; 2] = [
         name: "host",
         about: "Number the inputs of viewers, and send them to each, over UDP",
         after_help: HOST_HELP,
-        options: &[PORT, HOST_VIEWERS, HOST_UNTIL, KEEP, EVERY, HOST_TURNS],
-        texts: &[LISTEN, LOG, NEW_LOG, KEYS],
+        options: &[
+            PORT,
+            HOST_VIEWERS,
+            HOST_UNTIL,
+            KEEP,
+            EVERY,
+            STANDBY,
+            HOST_TURNS,
+        ],
+        texts: &[LISTEN, LOG, NEW_LOG, ETCD, SHARED_WORLD, LOGIN, KEYS],
         flags: &[OPEN, VERBOSE],
     },
     CommandWords {

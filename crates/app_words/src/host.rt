@@ -3,7 +3,8 @@
 ghost use Rattle.std.specs.Prelude.{◌≡◌, ℕ, Option, IfSome, IfNone};
 ghost use Rattle.clap.specs.Words.{rows_of, found_of};
 ghost use Rattle.app_words.specs.Words.{AsksHost, log_use_in, log_use_of};
-ghost use Rattle.app_words.specs.Words.{MayHaveEvery, MayHaveKeep, MayHaveTurns, MayHaveViewers};
+ghost use Rattle.app_words.specs.Words.{MayHaveEvery, MayHaveKeep, MayHaveStandby, MayHaveTurns};
+ghost use Rattle.app_words.specs.Words.{MayHaveViewers};
 ghost use Rattle.app_words.specs.declared.order.HostOrder.{HostOrder as HostOf};
 
 use crate::numbers::{is_named, is_text_given, optional_in, port_in, until_in};
@@ -50,16 +51,25 @@ pub(crate) fn every_in(found: &ArgMatches<'_>) -> Option<Option<u32>>
     optional_in(found, "every", 1, 3_600_000)
 }
 
-/// Returns what is done with a log, by which of `--log` and `--new-log` was given, unless both
-/// were.
-fn log_use_of(goes_on: bool, makes: bool) -> Option<LogUse>
-    ensures { result ≡ log_use_of goes_on makes }
+fn standby_in(found: &ArgMatches<'_>) -> Option<Option<u32>>
+    ensures some { IfSome result (λ o. MayHaveStandby (rows_of (found_of found.now)) o) }
+    ensures none { IfNone result
+        ((o : Option ℕ) → ¬ MayHaveStandby (rows_of (found_of found.now)) o) }
 {
-    match (goes_on, makes) {
-        (false, false) => Some(LogUse::Without),
-        (true, false) => Some(LogUse::GoesOn),
-        (false, true) => Some(LogUse::Makes),
-        (true, true) => None,
+    optional_in(found, "standby", 1, 3_600)
+}
+
+/// Returns what is done with a log, by which of `--log`, `--new-log` and `--etcd` was given, unless
+/// more than one was.
+fn log_use_of(goes_on: bool, makes: bool, shares: bool) -> Option<LogUse>
+    ensures { result ≡ log_use_of goes_on makes shares }
+{
+    match (goes_on, makes, shares) {
+        (false, false, false) => Some(LogUse::Without),
+        (true, false, false) => Some(LogUse::GoesOn),
+        (false, true, false) => Some(LogUse::Makes),
+        (false, false, true) => Some(LogUse::Shares),
+        _ => None,
     }
 }
 
@@ -68,11 +78,12 @@ fn log_use_in(found: &ArgMatches<'_>) -> Option<LogUse>
 {
     let goes_on = is_text_given(found, "log");
     let makes = is_text_given(found, "new-log");
-    log_use_of(goes_on, makes)
+    let shares = is_text_given(found, "etcd");
+    log_use_of(goes_on, makes, shares)
 }
 
-/// Returns what `host` is asked for, or `None` if a number is out of its range, or both `--log` and
-/// `--new-log` were given.
+/// Returns what `host` is asked for, or `None` if a number is out of its range, or more than one of
+/// `--log`, `--new-log` and `--etcd` was given.
 pub(crate) fn host_asked(found: &ArgMatches<'_>) -> Option<HostOrder>
     ensures some { IfSome result (λ o. AsksHost (rows_of (found_of found.now)) o) }
     ensures none { IfNone result ((o : HostOf) → ¬ AsksHost (rows_of (found_of found.now)) o) }
@@ -95,6 +106,9 @@ pub(crate) fn host_asked(found: &ArgMatches<'_>) -> Option<HostOrder>
     let Some(every) = every_in(found) else {
         return None;
     };
+    let Some(standby) = standby_in(found) else {
+        return None;
+    };
     let Some(until) = until_in(found) else {
         return None;
     };
@@ -104,6 +118,9 @@ pub(crate) fn host_asked(found: &ArgMatches<'_>) -> Option<HostOrder>
         has_keys: is_text_given(found, "keys"),
         is_open: is_named(found, "open"),
         log,
+        has_world: is_text_given(found, "world"),
+        has_login: is_text_given(found, "login"),
+        standby,
         viewers,
         turns,
         keep,

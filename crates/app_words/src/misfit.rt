@@ -3,7 +3,8 @@
 ghost use Rattle.std.specs.Prelude.{◌≡◌};
 ghost use Rattle.app_words.specs.Misfits.{at_misfit, every_misfit, give_misfit, given_misfit};
 ghost use Rattle.app_words.specs.Misfits.{first_misfit, has_log, host_misfit, is_first_boot};
-ghost use Rattle.app_words.specs.Misfits.{join_misfit, misfit_of, open_misfit};
+ghost use Rattle.app_words.specs.Misfits.{is_shared, join_misfit, misfit_of, open_misfit};
+ghost use Rattle.app_words.specs.Misfits.{sharing_misfit, unshared_misfit};
 ghost use Rattle.app_words.specs.Misfits.{own_misfit, place_misfit, sealed_misfit, serve_misfit};
 ghost use Rattle.app_words.specs.Misfits.{wire_misfit};
 
@@ -47,12 +48,24 @@ pub enum Misfit {
     /// `--port` and `--listen` were both given, or neither.
     #[error("one of --port and --listen is required, and not both")]
     TwoPlaces,
-    /// `--log` and `--new-log` were both given.
-    #[error("one of --log and --new-log, and not both")]
+    /// More than one of `--log`, `--new-log` and `--etcd` was given.
+    #[error("one of --log, --new-log and --etcd")]
     TwoLogs,
     /// A host without a log is to make clocks.
-    #[error("--every: only with --log or --new-log")]
+    #[error("--every: only with --log, --new-log or --etcd")]
     EveryWithoutLog,
+    /// No world is named whose log etcd has.
+    #[error("--etcd: --world NAME is required")]
+    EtcdWithoutWorld,
+    /// A world is named, and its log isn't in etcd.
+    #[error("--world: only with --etcd")]
+    WorldWithoutEtcd,
+    /// A host is to log in, and its log isn't in etcd.
+    #[error("--login: only with --etcd")]
+    LoginWithoutEtcd,
+    /// A host is to stand by, and its log isn't in etcd.
+    #[error("--standby: only with --etcd")]
+    StandbyWithoutEtcd,
     /// A host has keys, and serves whoever comes.
     #[error("one of --keys and --open, and not both")]
     OpenWithKeys,
@@ -194,6 +207,18 @@ fn has_log(log: LogUse) -> bool
         LogUse::Without => false,
         LogUse::GoesOn => true,
         LogUse::Makes => true,
+        LogUse::Shares => true,
+    }
+}
+
+fn is_shared(log: LogUse) -> bool
+    ensures { result ≡ is_shared log }
+{
+    match log {
+        LogUse::Without => false,
+        LogUse::GoesOn => false,
+        LogUse::Makes => false,
+        LogUse::Shares => true,
     }
 }
 
@@ -207,6 +232,32 @@ fn every_misfit(asked: &HostOrder) -> Option<Misfit>
     }
 }
 
+fn unshared_misfit(asked: &HostOrder) -> Option<Misfit>
+    ensures { result ≡ unshared_misfit asked.now }
+{
+    if asked.has_world {
+        Some(Misfit::WorldWithoutEtcd)
+    } else if asked.has_login {
+        Some(Misfit::LoginWithoutEtcd)
+    } else if asked.standby.is_some() {
+        Some(Misfit::StandbyWithoutEtcd)
+    } else {
+        None
+    }
+}
+
+fn sharing_misfit(asked: &HostOrder) -> Option<Misfit>
+    ensures { result ≡ sharing_misfit asked.now }
+{
+    if !is_shared(asked.log) {
+        unshared_misfit(asked)
+    } else if asked.has_world {
+        None
+    } else {
+        Some(Misfit::EtcdWithoutWorld)
+    }
+}
+
 /// Returns the first reason why the options of `host` don't go together, if there is one. Each has
 /// its range already.
 pub(crate) fn host_misfit(asked: &HostOrder) -> Option<Misfit>
@@ -216,6 +267,9 @@ pub(crate) fn host_misfit(asked: &HostOrder) -> Option<Misfit>
         return Some(misfit);
     }
     if let Some(misfit) = every_misfit(asked) {
+        return Some(misfit);
+    }
+    if let Some(misfit) = sharing_misfit(asked) {
         return Some(misfit);
     }
     open_misfit(Misfit::OpenWithKeys, asked.has_keys, asked.is_open)

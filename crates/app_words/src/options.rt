@@ -89,8 +89,8 @@ pub const LISTEN: TextOption = TextOption {
 pub const HOST: TextOption = TextOption {
     name: "host",
     is_word: false,
-    value: "ADDRESS:PORT",
-    help: "The host's address and UDP port instead, as 192.0.2.7:4000 or [2001:db8::7]:4000",
+    value: "ADDRESS:PORT[,..]",
+    help: "The host's address and UDP port instead, or those of several hosts that share a log",
 };
 
 pub const KEYS: TextOption = TextOption {
@@ -180,6 +180,37 @@ pub const NEW_LOG: TextOption = TextOption {
     is_word: false,
     value: "FILE",
     help: "Makes a log in FILE, which is missing or empty",
+};
+
+pub const ETCD: TextOption = TextOption {
+    name: "etcd",
+    is_word: false,
+    value: "ADDRESS:PORT[,..]",
+    help: "Shares the log that etcd, at these addresses, has of a world; makes it if there is none",
+};
+
+/// The option `--world` of `host`.
+pub const SHARED_WORLD: TextOption = TextOption {
+    name: "world",
+    is_word: false,
+    value: "NAME",
+    help: "The name of the world whose log etcd has",
+};
+
+pub const LOGIN: TextOption = TextOption {
+    name: "login",
+    is_word: false,
+    value: "FILE",
+    help: "Logs in to etcd with the user and the password of FILE, a line each",
+};
+
+pub const STANDBY: NumberOption = NumberOption {
+    name: "standby",
+    low: 1,
+    high: 3_600,
+    unless: Unless::Nothing,
+    value: "SECONDS",
+    help: "With --etcd, makes clocks once no other host has made an input for so long, 1 to 3600",
 };
 
 pub const KEEP_NAMES: TextOption = TextOption {

@@ -9,6 +9,8 @@ pub enum LogUse {
     GoesOn,
     /// `--new-log`: the host makes a log.
     Makes,
+    /// `--etcd`: the host shares the log that etcd has of a world, and makes it if there is none.
+    Shares,
 }
 
 /// What `host` does; its input is a job of clocks.
@@ -23,6 +25,13 @@ pub struct HostOrder {
     /// `--open`: it serves whoever has the scene, on any machine.
     pub is_open: bool,
     pub log: LogUse,
+    /// `--world`: the log is that of the world that the option names.
+    pub has_world: bool,
+    /// `--login`: the host logs in to etcd by the file that the option names.
+    pub has_login: bool,
+    /// How many seconds pass without an input of another host before this one makes clocks, 1 to
+    /// 3,600; `None` for none.
+    pub standby: Option<u32>,
     /// How many viewers there can be, 1 to `MAX_VIEWERS` of x3d_values, if that is given.
     pub viewers: Option<u8>,
     /// The limit of turns, 1 to 10,000,000, if there is one.

@@ -17,3 +17,6 @@ returns-in_default-every_in-clause-none c = λ o h. c.in_default-every_in.ensure
 
 pub returns-in_default-until_in-clause-none : goal.returns-in_default-until_in-clause-none
 returns-in_default-until_in-clause-none c = λ o h. c.in_default-until_in.ensures.none o.until h.until
+
+pub returns-in_default-standby_in-clause-none : goal.returns-in_default-standby_in-clause-none
+returns-in_default-standby_in-clause-none c = λ o h. c.in_default-standby_in.ensures.none o.standby h.standby
