@@ -112,11 +112,17 @@ host has ended, even if it was killed, `host --log FILE` resumes the same world:
 clocks that the log already has. With a log the turns have no end. With --every MS the host makes a
 clock every MS milliseconds once the job's are over, at the time of the last input as it began and
 the time that has passed since, so the world stands still while no host runs.
+With --etcd ADDRESS:PORT[,..] and --world NAME the log is in etcd, and other hosts may share it. The
+first of them makes it. Each numbers what reaches it; a viewer that one doesn't answer turns to the
+next (`view --host A,B`). With --standby SECONDS a host makes clocks only once no other host has
+made an input for so long. A host that etcd doesn't answer numbers nothing. The user's name and the
+password are two lines of the file that --login names. Nothing is encrypted on the way to etcd.
 
 Examples:
   x3d_share host --port 4000 --until 2 < examples/two-clocks.job
   x3d_share host --port 4000 --new-log w.x3dlog < examples/two-clocks.job
   x3d_share host --port 4000 --log w.x3dlog < examples/two-clocks.job
+  x3d_share host --port 4000 --etcd 192.0.2.9:2379 --world w < examples/two-clocks.job
   x3d_share host --listen 192.0.2.7:4000 --keys keys/host.keys < examples/two-clocks.job
 
 Status:
@@ -124,7 +130,7 @@ Status:
   1  the scene or the log is refused
   2  the words, the job, the address or the keys are refused, or the log's file doesn't fit them
   3  with --until N, all turns were used up
-  4  a device failed, or another host has the log
+  4  a device failed, another host has the log, or etcd didn't answer as the host started
   5  memory ran out";
 
 pub(crate) const RECALL_HELP: &str = "The file of a host's log is read from standard input.
@@ -169,6 +175,8 @@ With --host ADDRESS:PORT the host is on another machine. A name is looked up onc
 starts. Beyond the loopback addresses that takes --key, or the word --open. With --key FILE it seals
 what it sends, and drops what isn't sealed by the host with its key; its host has to have --keys.
 With either it speaks version 2, as with --wire 2. The ports of --at and --give are of this machine.
+With --host ADDRESS:PORT,ADDRESS:PORT it speaks to the first of several hosts that share a log, and
+turns to the next where one is silent for 2 seconds.
 With --world NAME it is of that world of a host that serves many, and speaks version 2.
 
 Examples:
