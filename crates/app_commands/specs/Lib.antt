@@ -7,6 +7,7 @@ pub mod Rehearsing
 pub mod Joining
 pub mod Beyond
 pub mod Pace
+pub mod Turning
 pub mod Ended
 pub mod Welcomed
 pub mod Boots

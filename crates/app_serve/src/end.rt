@@ -31,6 +31,12 @@ pub enum End {
     NoKeys,
     /// A text is no name of a world.
     NoWorldName,
+    /// The file of a login has something else than a user and a password, a line each.
+    LoginFile,
+    /// etcd didn't answer.
+    EtcdSilent,
+    /// What etcd has of a world isn't a log.
+    EtcdMalformed,
     /// There is a file with the name of one of the files of keys that are to be made.
     KeyFileThere,
     /// The folder of the worlds can't be read.

@@ -34,6 +34,11 @@ fn private_bytes(rt: &HostRuntime, path: &str) -> Result<Vec<u8>, End> {
     }
 }
 
+/// Returns the bytes of the file of a login. Fails with `KeyFileOpen`, `KeyFileShared` or `Memory`.
+pub fn login_bytes(rt: &HostRuntime, path: &str) -> Result<Vec<u8>, End> {
+    private_bytes(rt, path)
+}
+
 /// Returns the keys of a host's file. Fails with `KeyFileOpen`, `KeyFileShared`, `KeyFile` or
 /// `Memory`.
 pub fn host_keys(rt: &HostRuntime, path: &str) -> Result<Keys, End> {

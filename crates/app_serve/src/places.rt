@@ -4,8 +4,12 @@ use crate::end::End;
 use app_words::OrderFault;
 use share_peers::may_be_used;
 use share_session::WorldName;
+use std::alloc::Global;
 use std::io;
 use std::net::{Net, SocketAddr, ToSocketAddrs};
+
+/// How many addresses a text has at most.
+const MOST: usize = 16;
 
 /// Where a host is.
 #[derive(Clone, Copy)]
@@ -34,6 +38,22 @@ fn address_end(kind: io::ErrorKind) -> End {
         io::ErrorKind::OutOfMemory => End::from(OrderFault::Memory),
         _ => End::NoAddress,
     }
+}
+
+/// Returns the addresses of a text, one to 16 with commas between them, each as `address_at` has it.
+/// Fails with `NoAddress` or `Memory`.
+pub fn addresses_at<R: Net>(rt: &R, alloc: Global, text: &str) -> Result<Vec<SocketAddr>, End> {
+    let mut addresses = Vec::new(alloc);
+    for part in text.split(',') {
+        let address = address_at(rt, part)?;
+        if addresses.len() >= MOST {
+            return Err(End::NoAddress);
+        }
+        if addresses.push(address).is_err() {
+            return Err(End::from(OrderFault::Memory));
+        }
+    }
+    Ok(addresses)
 }
 
 /// Returns where a host is, by the text of `--listen` or `--host` or else by `--port`. Fails with

@@ -77,6 +77,15 @@ fn refuse_by_name<R: Eprint>(rt: &R, world: Option<&WorldName>, end: &End) -> Ex
         End::NoKeys => refuse_words_of(rt, world, "refused NoKeys"),
         End::NoWorldName => refuse_words_of(rt, world, "refused NoWorldName"),
         End::KeyFileThere => refuse_words_of(rt, world, "refused KeyFileThere"),
+        End::LoginFile => refuse_words_of(rt, world, "refused LoginFile"),
+        End::EtcdSilent => {
+            tell(rt, world, "refused EtcdSilent");
+            ExitCode::from(4)
+        }
+        End::EtcdMalformed => {
+            tell(rt, world, "refused EtcdMalformed");
+            ExitCode::from(1)
+        }
         End::NoFolder => refuse_words_of(rt, world, "refused NoFolder"),
         End::NoNames => refuse_words_of(rt, world, "refused NoNames"),
         End::NameLost => ExitCode::from(1),
@@ -93,6 +102,13 @@ fn tell_more<R: Eprint>(rt: &R, world: Option<&WorldName>, end: &End) {
             "the log is in doubt: start the host again with --log",
         ),
         End::KeyFileShared => tell(rt, world, "others may use the file of keys: chmod 600 it"),
+        End::LoginFile => tell(
+            rt,
+            world,
+            "the file of --login has a user and a password, a line each",
+        ),
+        End::EtcdSilent => tell(rt, world, "no etcd answers at the addresses of --etcd"),
+        End::EtcdMalformed => tell(rt, world, "what etcd has of this world is not a log"),
         End::NoWorldName => tell(
             rt,
             world,

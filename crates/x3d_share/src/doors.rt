@@ -1,6 +1,6 @@
 //! The socket of a host, and the keys by which it is reached.
 
-use app_commands::{AddressedPort, TimedPort, bound, number_of};
+use app_commands::{AddressedPort, HostsPort, TimedPort, bound, number_of};
 use app_program::ShareFault;
 use app_serve::{End, Place, host_keys, may_be_reached, place_of};
 use app_words::HostOrder;
@@ -123,6 +123,16 @@ impl<P: OverSocket> OverSocket for SealedPort<P> {
 }
 
 impl<P: OverSocket, C> OverSocket for TimedPort<P, C> {
+    fn has_numbers(&self) -> bool {
+        self.port().has_numbers()
+    }
+
+    fn unsealed(&self) -> u64 {
+        self.port().unsealed()
+    }
+}
+
+impl<P: OverSocket, C> OverSocket for HostsPort<P, C> {
     fn has_numbers(&self) -> bool {
         self.port().has_numbers()
     }

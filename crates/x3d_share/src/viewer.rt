@@ -7,12 +7,14 @@ use crate::ends::{tell_others, tell_port, tell_unsealed, tell_view_end};
 use crate::meets::{WorldAt, met_port};
 use crate::seated::{Seated, read_seated, rise};
 use app_commands::{
-    AddressedPort, AskingPort, ExactPort, KnockingPort, PatientPort, Peer, Seat, TellingPort,
-    TimedPort, ViewerPort, Watch, bound, give_job, number_of, view_job,
+    AddressedPort, AskingPort, ExactPort, HostsPort, KnockingPort, PatientPort, Peer, Seat,
+    TellingPort, TimedPort, ViewerPort, Watch, bound, give_job, number_of, view_job,
 };
 use app_program::{Failure, RunFault, ShareFault, write_whole};
-use app_serve::{End, Place, may_be_reached, place_of, viewer_key, world_of};
-use app_words::{Order, ViewEnd, ViewOrder};
+use app_serve::{
+    End, Place, addresses_at, may_be_reached, viewer_key, world_of,
+};
+use app_words::{Order, OrderFault, ViewEnd, ViewOrder};
 use share_keys::Key;
 use share_peers::{local_address, own_address};
 use share_sealed::SealedPort;
@@ -245,37 +247,77 @@ fn viewed_here(
     sealed_and_viewed(rt, viewer, asked, door, peers, bound)
 }
 
-/// Returns the numbers of the peers of a viewer whose host is at this address.
+/// Returns the numbers of a viewer's hosts, which are at these addresses.
+fn numbers_of<R: Eprint>(
+    alloc: Global,
+    port: &mut AddressedPort<R>,
+    hosts: &[SocketAddr],
+) -> Result<Vec<u16>, ShareFault> {
+    let mut numbers = Vec::new(alloc);
+    for host in hosts {
+        let Some(number) = port.number_of(*host) else {
+            return Err(ShareFault::Port);
+        };
+        if numbers.push(number).is_err() {
+            return Err(ShareFault::Memory);
+        }
+    }
+    Ok(numbers)
+}
+
+/// Returns the numbers of the peers of a viewer whose first host is at this address.
 fn peers_at<R: Eprint>(
     port: &mut AddressedPort<R>,
     asked: &ViewOrder,
-    host: &SocketAddr,
+    first: &SocketAddr,
 ) -> Option<Peers> {
-    let number = port.number_of(*host)?;
+    let host = port.number_of(*first)?;
     let give = match asked.give {
-        Some(give) => Some(port.number_of(local_address(host, give))?),
+        Some(give) => Some(port.number_of(local_address(first, give))?),
         None => None,
     };
-    Some(Peers { host: number, give })
+    Some(Peers { host, give })
 }
 
-/// Runs a viewer whose host is at this address.
+/// Runs a viewer whose hosts are at these addresses, of which there is at least one.
 fn viewed_there(
     rt: &HostRuntime,
     viewer: &mut Seated<'_>,
     asked: &ViewOrder,
     door: Door,
-    host: &SocketAddr,
+    hosts: &[SocketAddr],
 ) -> Result<(), Failure>
     requires { ViewInRange asked.now }
 {
-    let own = own_address(host, own_port(asked));
-    let mut bound = AddressedPort::bind(rt, rt.alloc(), own, asked.verbose)?;
-    tell_port(rt, asked.verbose, bound.local_port());
-    let Some(peers) = peers_at(&mut bound, asked, host) else {
+    let Some(first) = hosts.first() else {
         return Err(Failure::Share(ShareFault::Port));
     };
-    sealed_and_viewed(rt, viewer, asked, door, peers, bound)
+    let own = own_address(first, own_port(asked));
+    let mut bound = AddressedPort::bind(rt, rt.alloc(), own, asked.verbose)?;
+    tell_port(rt, asked.verbose, bound.local_port());
+    let numbers = numbers_of(rt.alloc(), &mut bound, hosts)?;
+    let Some(peers) = peers_at(&mut bound, asked, first) else {
+        return Err(Failure::Share(ShareFault::Port));
+    };
+    sealed_and_viewed(rt, viewer, asked, door, peers, HostsPort::new(bound, rt, numbers))
+}
+
+/// Fails with `NoKeys` if one of the hosts may be beyond this machine, and there are neither a key
+/// nor the word that any will do.
+fn may_all_be_reached(hosts: &[SocketAddr], has_key: bool, is_open: bool) -> Result<(), End> {
+    for host in hosts {
+        may_be_reached(&Place::Address(*host), has_key, is_open)?;
+    }
+    Ok(())
+}
+
+/// Returns the addresses of the hosts that `--host` names, if it does. Fails with `NoAddress` or
+/// `Memory`.
+fn hosts_of(rt: &HostRuntime, text: Option<&str>) -> Result<Option<Vec<SocketAddr>>, End> {
+    match text {
+        Some(text) => Ok(Some(addresses_at(rt, rt.alloc(), text)?)),
+        None => Ok(None),
+    }
 }
 
 /// Returns the key of the file that `--key` names, if it does.
@@ -296,13 +338,16 @@ fn viewed(
     requires { ViewInRange asked.now }
 {
     let world = world_of(texts.world)?;
-    let place = place_of(rt, asked.port, texts.host)?;
+    let hosts = hosts_of(rt, texts.host)?;
     let key = key_of(rt, texts.key, asked.who)?;
-    may_be_reached(&place, key.is_some(), asked.is_open)?;
     let door = Door { key, world };
-    match place {
-        Place::Port(port) => Ok(viewed_here(rt, viewer, asked, door, port)?),
-        Place::Address(host) => Ok(viewed_there(rt, viewer, asked, door, &host)?),
+    match (hosts, asked.port) {
+        (Some(hosts), _) => {
+            may_all_be_reached(&hosts, door.key.is_some(), asked.is_open)?;
+            Ok(viewed_there(rt, viewer, asked, door, &hosts)?)
+        }
+        (None, Some(port)) => Ok(viewed_here(rt, viewer, asked, door, port)?),
+        (None, None) => Err(End::from(OrderFault::Words)),
     }
 }
 
