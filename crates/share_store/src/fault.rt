@@ -24,10 +24,13 @@ pub enum AppendFault {
 /// Why a log wasn't read.
 #[derive(Clone, Copy, Debug, Drop, PartialEq, Eq, Error)]
 pub enum ReadFault {
+    /// The log doesn't answer now: read on later.
+    #[error("the log doesn't answer")]
+    Silent,
     /// The device failed: open the log again.
     #[error("the log's device failed")]
     Device,
-    /// Memory was refused. Nothing changed.
+    /// Memory was refused.
     #[error("memory was refused")]
     Memory,
 }

@@ -4,7 +4,7 @@ ghost use Rattle.std.specs.Prelude.{◌≡◌, true};
 ghost use Rattle.share_store.specs.Memory.{known_by, is_open_by};
 
 use crate::fault::{AppendFault, ReadFault};
-use crate::log::Log;
+use crate::log::{Log, Remembers};
 use crate::memory::MemoryLog;
 use share_entries::Entry;
 
@@ -50,5 +50,11 @@ impl Log for MemoryHandle<'_> {
 
     fn read_on(&mut self, into: &mut Vec<Entry>) -> Result<(), ReadFault> {
         self.log.read_by(self.number, into)
+    }
+}
+
+impl Remembers for MemoryHandle<'_> {
+    fn entries(&self) -> &[Entry] {
+        self.log.known_by(self.number)
     }
 }

@@ -10,6 +10,6 @@ mod tests;
 
 pub use fault::{AppendFault, ReadFault};
 pub use handle::MemoryHandle;
-pub use log::Log;
+pub use log::{Log, Remembers};
 pub use memory::{MemoryLog, Outcome, Standing};
 pub use share_entries::MAX_ENTRIES;

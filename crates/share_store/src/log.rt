@@ -63,8 +63,8 @@ pub trait Log {
     /// Reads the entries after those that this handle knows, and adds them to `into`. The handle
     /// then knows them, and takes appends.
     ///
-    /// Fails with `Device` if the log has to be opened again, or `Memory`. A failure changes
-    /// nothing.
+    /// Fails with `Silent` if the log doesn't answer now, `Device` if it has to be opened again, or
+    /// `Memory`. After a failure the handle knows what it knew, and takes appends if it took them.
     fn read_on(&mut self, into: &mut Vec<Entry>) -> Result<(), ReadFault>
         ensures read { OnOk result (IsTrue (is_clean self.new)
             → (more : List EntryView) × (known self.new ≡ known self.old ++ more)
@@ -72,7 +72,18 @@ pub trait Log {
         ensures open { OnOk result (IsTrue (is_open self.new)) }
         ensures last { OnOk result (IsTrue (is_clean self.new)
             → Last (may_leave self.new) (known self.new)) }
-        ensures refused { OnErr result (self.new ≡ self.old) }
+        ensures crash { Last (may_leave self.old) (known self.old) → IsTrue (is_clean self.new)
+            → Last (may_leave self.new) (known self.old) }
+        ensures refused { OnErr result (IsTrue (is_clean self.new)
+            → known self.new ≡ known self.old) }
+        ensures standing { OnErr result (is_open self.new ≡ is_open self.old) }
         ensures kept { OnErr result (into.new.items ≡ into.old.items) }
         ensures clean { IsTrue (is_clean self.new) → IsTrue (is_clean self.old) };
+}
+
+/// A handle that has what it knows in memory.
+pub trait Remembers: Log {
+    /// Returns the entries that this handle has read or stored, from the first of the log on.
+    fn entries(&self) -> &[Entry]
+        ensures { IsTrue (Self.is_clean self.now) → result.now ≡ Self.known self.now };
 }

@@ -119,6 +119,16 @@ impl MemoryLog {
         }
     }
 
+    /// Returns the entries that a handle has read.
+    pub(crate) fn known_by(&self, number: usize) -> &[Entry]
+        ensures { result.now ≡ known_by self.now number }
+    {
+        match self.handles.get(number) {
+            None => &[],
+            Some(handle) => &self.entries[..handle.known.min(self.entries.len())],
+        }
+    }
+
     fn outcome(&self) -> Outcome {
         match self.plan.get(self.appends) {
             None => Outcome::Stored,
