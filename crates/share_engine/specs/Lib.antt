@@ -1,0 +1,4 @@
+pub mod Exchanges
+pub mod Views
+pub mod Reading
+pub mod Keys

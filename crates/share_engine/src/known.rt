@@ -1,0 +1,138 @@
+//! The entries that a handle knows.
+
+ghost use Rattle.std.specs.Prelude.{◌≡◌, [], ◌++◌, length, take, IfOk, OnErr, OnOk, Ok};
+ghost use Rattle.share_entries.specs.Chain.{chain_after};
+ghost use Rattle.share_engine.specs.Reading.{entries_from, next_in};
+ghost use Rattle.share_store.specs.OneLog.{Begins};
+ghost use Rattle.share_etcd.specs.Views.{frame_view};
+
+use crate::fault::ReadingFault;
+use share_entries::{Chain, Entry, FrameFault, chain_after, frame_of};
+use share_etcd::Frame;
+use std::alloc::{AllocError, Global};
+use std::marker::Model;
+
+/// Entries from the first of a log on, and the chain after them.
+#[derive(Drop)]
+pub(crate) struct Known {
+    run: Chain,
+    entries: Vec<Entry>,
+    chain: Chain,
+}
+
+impl Model for Known {
+    ghost use Rattle.std.specs.Prelude.{◌≡◌};
+    ghost use Rattle.share_entries.specs.Chain.{chain_after};
+    ghost use Rattle.share_engine.specs.Reading.{KnownView};
+
+    ghost Value = { KnownView };
+
+    ghost view = { λ k. record { run = k.run; entries = k.entries.items } };
+
+    ghost invariant = { λ k. k.chain ≡ chain_after k.run k.entries.items };
+}
+
+impl Known {
+    /// Knows no entry of this run.
+    pub(crate) fn new(alloc: Global, run: Chain) -> Known
+        ensures { result ≡ record { run = run; entries = [] } }
+    {
+        Known {
+            run,
+            entries: Vec::new(alloc),
+            chain: run,
+        }
+    }
+
+    /// Returns the number of entries.
+    pub(crate) fn len(&self) -> usize
+        ensures { result ≡ length self.now.entries }
+    {
+        self.entries.len()
+    }
+
+    /// Returns the entries.
+    pub(crate) fn entries(&self) -> &[Entry]
+        ensures { result.now ≡ self.now.entries }
+    {
+        &self.entries
+    }
+
+    /// Returns the chain after the entries.
+    pub(crate) fn chain(&self) -> Chain
+        ensures { result ≡ chain_after self.now.run self.now.entries }
+    {
+        self.chain
+    }
+
+    /// Makes room for more entries. Fails if memory is refused.
+    pub(crate) fn reserve(&mut self, count: usize) -> Result<(), AllocError>
+        ensures { self.new ≡ self.old }
+    {
+        self.entries.reserve(count)
+    }
+
+    /// Adds entries. Takes no memory if there is room for them.
+    pub(crate) fn add(&mut self, entries: &[Entry]) -> Result<(), AllocError>
+        ensures ok { OnOk result (self.new
+            ≡ record { run = self.old.run; entries = self.old.entries ++ entries.now }) }
+        ensures err { OnErr result (self.new ≡ self.old) }
+    {
+        let chain = chain_after(&self.chain, entries);
+        self.entries.extend_from_slice(entries)?;
+        self.chain = chain;
+        Ok(())
+    }
+
+    /// Forgets the entries after the first `count`, after which the chain was this.
+    pub(crate) fn cut(&mut self, count: usize, chain: Chain)
+        requires { chain ≡ chain_after self.old.run (take count self.old.entries) }
+        ensures { self.new
+            ≡ record { run = self.old.run; entries = take count self.old.entries } }
+    {
+        self.entries.truncate(count);
+        self.chain = chain;
+    }
+
+    /// Reads the next frame.
+    fn next(&self, alloc: Global, frame: &Frame) -> Result<Vec<Entry>, ReadingFault>
+        ensures { IfOk result (λ v. next_in self.now.run self.now.entries (frame_view frame.now)
+            ≡ Some v.items) }
+    {
+        let first = self.entries.len() as u64 + 1;
+        if frame.first != first {
+            return Err(ReadingFault::NotNext);
+        }
+        match frame_of(alloc, &self.chain, first, &frame.bytes) {
+            Ok(entries) => Ok(entries),
+            Err(FrameFault::Memory) => Err(ReadingFault::Memory),
+            Err(_) => Err(ReadingFault::NotNext),
+        }
+    }
+
+    /// Adds the entries of the next frame.
+    fn add_frame(&mut self, alloc: Global, frame: &Frame) -> Result<(), ReadingFault>
+        ensures run { self.new.run ≡ self.old.run }
+        ensures grows { Begins self.old.entries self.new.entries }
+        ensures next { OnOk result ((fs : List FrameView)
+            → entries_from self.old.run self.old.entries (frame_view frame.now ∷ fs)
+            ≡ entries_from self.old.run self.new.entries fs) }
+    {
+        let entries = self.next(alloc, frame)?;
+        self.add(&entries)?;
+        Ok(())
+    }
+
+    /// Adds the entries of frames, up to the first that isn't the next.
+    pub(crate) fn add_frames(&mut self, alloc: Global, frames: &[Frame]) -> Result<(), ReadingFault>
+        ensures run { self.new.run ≡ self.old.run }
+        ensures grows { Begins self.old.entries self.new.entries }
+        ensures read { OnOk result (entries_from self.old.run self.old.entries
+            (map frame_view frames.now) ≡ Some self.new.entries) }
+    {
+        for frame in frames {
+            self.add_frame(alloc, frame)?;
+        }
+        Ok(())
+    }
+}
