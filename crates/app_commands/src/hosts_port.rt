@@ -40,7 +40,11 @@ fn is_silent(heard: Option<u64>, now: u64) -> bool
 fn next_place(at: usize, count: usize) -> usize
     ensures { result ≡ next_place at count }
 {
-    if at < count && at + 1 < count { at + 1 } else { 0 }
+    if at < count && at + 1 < count {
+        at + 1
+    } else {
+        0
+    }
 }
 
 impl<P, C> HostsPort<P, C> {

@@ -34,8 +34,11 @@ pub struct Begun<D: Disk> {
     pub entries: Vec<Entry>,
 }
 
-/// Creates the host that the entries of a log make.
-pub(crate) fn resumed(alloc: Global, head: &Head, entries: &[Entry]) -> Result<LoggedHost, LogFault>
+/// Creates the host that the entries of a log with this head make.
+///
+/// Fails with `BadHead` if the head's number of viewers isn't one, with `NotALog` and the number of
+/// the first entry that no host of its viewers wrote there, or with `Memory`.
+pub fn resumed(alloc: Global, head: &Head, entries: &[Entry]) -> Result<LoggedHost, LogFault>
     ensures host { IfOk result (λ h. h ≡ host_with head.now entries.now) }
     ensures log { OnOk result (IsLogOf head.now.viewers entries.now) }
     ensures refused { IfErr result (IsNotResumed head.now.viewers entries.now) }

@@ -22,7 +22,7 @@ mod recalling;
 mod refusal;
 mod steps;
 
-pub use beginning::{Begun, go_on, make_log};
+pub use beginning::{Begun, go_on, make_log, resumed};
 pub use clocks::{Beat, clock_for, due_after, first_due, times_after};
 pub use fault::{LogFault, RunFault, append_fault_of};
 pub use hosting::{LogPlan, log_run};

@@ -184,10 +184,6 @@ impl<R: Net + Clock + Drop> EtcdEngine<R> {
 }
 
 impl<R: Net + Clock + Drop> Engine for EtcdEngine<R> {
-    ghost use Rattle.std.specs.Prelude.{None};
-
-    ghost told = { λ _. None };
-
     // After 2 seconds no answer is waited for.
     fn ask(&mut self, body: &[u8], into: &mut Vec<u8>) -> Result<(), EngineFault> {
         let until = Deadline::after(&self.rt, EXCHANGE);

@@ -8,10 +8,11 @@ use crate::doors::{Door, HostTexts, OverSocket, Way, opened, way_of};
 use crate::ends::{tell_cut_short, tell_host_end, tell_kept, tell_strange, tell_unsealed};
 use crate::host_job::{HostJob, job_in};
 use crate::reached::run_at;
+use crate::turns::{HostLog, HostTurns};
 use app_commands::{PatientPort, Peer, SharedJob, TellingPort, Watch, shared_job};
 use app_logs::{
-    Beat, Entry, Head, Log, LogFault, LogPlan, LoggedHost, MemoryLog, RunFault as LogRunFault,
-    is_viewer_count, log_run, resume, times_after,
+    Beat, Entry, Head, LogFault, LogPlan, LoggedHost, MemoryLog, is_viewer_count, resume,
+    times_after,
 };
 use app_program::{RunFault, ShareFault, read_whole};
 use app_serve::{End, drawn_run};
@@ -35,7 +36,7 @@ pub struct Turning {
     pub hosting: LoggedHost,
     /// The clocks of its job that are still to be numbered, in microseconds.
     pub clocks: Vec<i64>,
-    pub plan: LogPlan,
+    pub turns: HostTurns,
 }
 
 /// What a host begins with.
@@ -46,6 +47,22 @@ pub struct Starting {
     pub entries: Vec<Entry>,
     /// That of its scene, if it keeps the world.
     pub stage: Option<Stage<StockScript>>,
+}
+
+impl Starting {
+    /// Has the host keep the world of this stage, if there is one.
+    pub fn with_stage(self, stage: Option<Stage<StockScript>>) -> Starting {
+        let Starting {
+            turning,
+            entries,
+            stage: _,
+        } = self;
+        Starting {
+            turning,
+            entries,
+            stage,
+        }
+    }
 }
 
 /// Returns what a host does that goes on after an input at time `last`, in at most `turns` turns.
@@ -71,14 +88,6 @@ pub fn read_clocks(rt: &HostRuntime, order: &Order) -> Result<SharedJob, End> {
     }
 }
 
-/// Returns why the turns of a host ended early.
-fn run_end(fault: LogRunFault) -> End {
-    match fault {
-        LogRunFault::TurnsUsedUp => End::from(ShareFault::TurnsUsedUp),
-        LogRunFault::Turn(fault) => End::from(fault),
-    }
-}
-
 /// Returns the port of a host in the run of a log with this head and these entries.
 fn port_in_run<P: Drop>(
     alloc: Global,
@@ -96,7 +105,7 @@ fn port_in_run<P: Drop>(
 }
 
 /// Takes the turns of a host over its log at a port.
-fn run_turns<L: Log, P: Learns + OverSocket + Drop>(
+fn run_turns<L: HostLog, P: Learns + OverSocket + Drop>(
     rt: &HostRuntime,
     turning: Turning,
     verbose: bool,
@@ -107,7 +116,7 @@ fn run_turns<L: Log, P: Learns + OverSocket + Drop>(
         head,
         hosting,
         clocks,
-        plan,
+        turns,
     } = turning;
     let watch = Watch::new(head.mark, Peer::Host(head.viewers), port.has_numbers());
     let mut port = PatientPort::new(TellingPort::new(port, rt, verbose, watch), rt);
@@ -115,21 +124,18 @@ fn run_turns<L: Log, P: Learns + OverSocket + Drop>(
         return Err(End::InDoubt);
     }
     let before = log.len();
-    let done = log_run(hosting, &clocks, &plan, log, &mut port);
+    let done = log.run(rt.alloc(), hosting, &clocks, &turns, &mut port);
     let numbered = log.len().saturating_sub(before);
     tell_unsealed(rt, verbose, port.port().port().unsealed());
     tell_strange(rt, verbose, port.port().port().strange());
     tell_cut_short(rt, verbose, port.port().port().cut_short());
     tell_host_end(rt, verbose, clocks.len(), numbered, port.port().counts());
-    match done {
-        Ok(()) => Ok(()),
-        Err(fault) => Err(run_end(fault)),
-    }
+    done
 }
 
 /// Runs a host over its log at a port, and keeps its world. The log's entries are those of a host,
 /// so only memory may be refused to them.
-fn run_keeping<L: Log, P: Learns + OverSocket + Drop>(
+fn run_keeping<L: HostLog, P: Learns + OverSocket + Drop>(
     rt: &HostRuntime,
     turning: Turning,
     verbose: bool,
@@ -151,7 +157,7 @@ fn run_keeping<L: Log, P: Learns + OverSocket + Drop>(
 }
 
 /// Runs a host over its log at a port, which answers each datagram in the version in which it came.
-fn run_in_run<L: Log, P: Port + OverSocket + Drop>(
+fn run_in_run<L: HostLog, P: Port + OverSocket + Drop>(
     rt: &HostRuntime,
     starting: Starting,
     verbose: bool,
@@ -172,7 +178,7 @@ fn run_in_run<L: Log, P: Port + OverSocket + Drop>(
 }
 
 /// Runs a host over its log at a port, in the run of its log.
-pub fn run_over<L: Log, P: Port + OverSocket + Drop>(
+pub fn run_over<L: HostLog, P: Port + OverSocket + Drop>(
     rt: &HostRuntime,
     starting: Starting,
     verbose: bool,
@@ -200,7 +206,11 @@ fn without_log(
     let viewers = viewers_of(asked);
     let mark = job.mark;
     let head = Head { viewers, mark, run };
-    let plan = plan_of(asked, 0, u64::from(turns_of(asked)));
+    let turns = HostTurns {
+        plan: plan_of(asked, 0, u64::from(turns_of(asked))),
+        standby: 0,
+        viewers,
+    };
     let Ok(clocks) = times_after(alloc, 0, job.inputs.as_slice()) else {
         drop(job);
         return Err(ShareFault::Memory);
@@ -214,7 +224,7 @@ fn without_log(
             head,
             hosting,
             clocks,
-            plan,
+            turns,
         },
         entries: Vec::new(alloc),
         stage: job.into_stage(),

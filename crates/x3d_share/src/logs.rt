@@ -6,6 +6,7 @@ use crate::ends::tell_log;
 use crate::host_job::{HostJob, job_in};
 use crate::hosts::{Starting, Turning, plan_of, read_clocks};
 use crate::reached::run_at;
+use crate::turns::HostTurns;
 use app_logs::{Begun, Log, LogFault, recalled, recalled_info, times_after};
 use app_program::{RunFault, read_whole, write_whole};
 use app_serve::{End, LogDisk, VIEWERS, disk_at, gone_on, made};
@@ -29,7 +30,7 @@ fn begun_in(
 }
 
 /// Returns how many turns a host over a log takes.
-fn turns_over_log(asked: &HostOrder) -> u64 {
+pub fn turns_over_log(asked: &HostOrder) -> u64 {
     match asked.turns {
         Some(turns) => u64::from(turns),
         None => u64::MAX,
@@ -54,13 +55,17 @@ fn run_over_log(
         entries,
     } = begun;
     tell_log(rt, asked.verbose, log.len(), cut, clocks.len());
-    let plan = plan_of(asked, last, turns_over_log(asked));
+    let turns = HostTurns {
+        plan: plan_of(asked, last, turns_over_log(asked)),
+        standby: 0,
+        viewers: head.viewers,
+    };
     let starting = Starting {
         turning: Turning {
             head,
             hosting,
             clocks,
-            plan,
+            turns,
         },
         entries,
         stage,

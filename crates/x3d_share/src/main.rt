@@ -4,6 +4,7 @@
 mod defaults;
 mod doors;
 mod ends;
+mod etcd;
 mod host_job;
 mod hosts;
 mod logs;
@@ -15,11 +16,13 @@ mod refused;
 mod seated;
 mod serving;
 mod stack;
+mod turns;
 mod viewer;
 
 ghost use Rattle.app_words.specs.Words.{HostInRange, IsInRange, ViewInRange};
 
 use crate::doors::HostTexts;
+use crate::etcd::{EtcdTexts, host_over_etcd};
 use crate::hosts::host;
 use crate::logs::{host_over_log, recall};
 use crate::parts::part;
@@ -104,7 +107,7 @@ fn log_file<'a>(
     log: LogUse,
 ) -> Result<Option<&'a str>, OrderFault> {
     match log {
-        LogUse::Without => Ok(None),
+        LogUse::Without | LogUse::Shares => Ok(None),
         LogUse::GoesOn => text_of(alloc, words, "log"),
         LogUse::Makes => text_of(alloc, words, "new-log"),
     }
@@ -118,6 +121,14 @@ fn host_as(rt: &HostRuntime, words: &[&str], order: &Order, asked: &HostOrder) -
         listen: text_of(rt.alloc(), words, "listen")?,
         keys: text_of(rt.alloc(), words, "keys")?,
     };
+    if asked.log == LogUse::Shares {
+        let etcd = EtcdTexts {
+            etcd: text_of(rt.alloc(), words, "etcd")?,
+            world: text_of(rt.alloc(), words, "world")?,
+            login: text_of(rt.alloc(), words, "login")?,
+        };
+        return host_over_etcd(rt, order, asked, &texts, &etcd);
+    }
     match log_file(rt.alloc(), words, asked.log)? {
         Some(file) => host_over_log(rt, order, asked, &texts, file),
         None => host(rt, order, asked, &texts),

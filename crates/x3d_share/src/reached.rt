@@ -3,8 +3,8 @@
 use crate::doors::{Door, OverSocket, Socket};
 use crate::ends::tell_port;
 use crate::hosts::{PORTS, Starting, run_over};
+use crate::turns::HostLog;
 use app_commands::{ADDRESSES, TimedPort};
-use app_logs::Log;
 use app_program::ShareFault;
 use app_serve::{End, drawn_bytes};
 use share_guards::{GuardedPort, Placed};
@@ -37,7 +37,7 @@ fn guarded_at<'a, P: Port + Placed + OverSocket + Drop>(
 }
 
 /// Runs a host over its log at a port that answers strangers with no more bytes than they sent.
-fn run_guarded<L: Log, P: Port + Placed + OverSocket + Drop>(
+fn run_guarded<L: HostLog, P: Port + Placed + OverSocket + Drop>(
     rt: &HostRuntime,
     starting: Starting,
     verbose: bool,
@@ -54,7 +54,7 @@ fn run_guarded<L: Log, P: Port + Placed + OverSocket + Drop>(
 }
 
 /// Runs a host over its log at a port that strangers reach, with its keys if it has some.
-fn run_reached<L: Log, P: Port + Placed + OverSocket + Drop>(
+fn run_reached<L: HostLog, P: Port + Placed + OverSocket + Drop>(
     rt: &HostRuntime,
     starting: Starting,
     verbose: bool,
@@ -77,7 +77,7 @@ fn run_reached<L: Log, P: Port + Placed + OverSocket + Drop>(
 
 /// Runs a host over its log at a door. Only a host of this machine without keys serves all that
 /// come.
-pub fn run_at<L: Log>(
+pub fn run_at<L: HostLog>(
     rt: &HostRuntime,
     starting: Starting,
     verbose: bool,

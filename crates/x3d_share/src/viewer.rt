@@ -11,9 +11,7 @@ use app_commands::{
     TellingPort, TimedPort, ViewerPort, Watch, bound, give_job, number_of, view_job,
 };
 use app_program::{Failure, RunFault, ShareFault, write_whole};
-use app_serve::{
-    End, Place, addresses_at, may_be_reached, viewer_key, world_of,
-};
+use app_serve::{End, Place, addresses_at, may_be_reached, viewer_key, world_of};
 use app_words::{Order, OrderFault, ViewEnd, ViewOrder};
 use share_keys::Key;
 use share_peers::{local_address, own_address};
@@ -299,7 +297,14 @@ fn viewed_there(
     let Some(peers) = peers_at(&mut bound, asked, first) else {
         return Err(Failure::Share(ShareFault::Port));
     };
-    sealed_and_viewed(rt, viewer, asked, door, peers, HostsPort::new(bound, rt, numbers))
+    sealed_and_viewed(
+        rt,
+        viewer,
+        asked,
+        door,
+        peers,
+        HostsPort::new(bound, rt, numbers),
+    )
 }
 
 /// Fails with `NoKeys` if one of the hosts may be beyond this machine, and there are neither a key

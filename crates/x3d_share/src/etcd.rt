@@ -1,0 +1,224 @@
+//! The host of a world whose log etcd has, and other hosts may share.
+
+ghost use Rattle.app_words.specs.Words.{HostInRange};
+
+use crate::defaults::viewers_of;
+use crate::doors::{Door, HostTexts, Way, opened, way_of};
+use crate::ends::tell_log;
+use crate::host_job::{HostJob, job_in};
+use crate::hosts::{Starting, Turning, plan_of, read_clocks};
+use crate::logs::turns_over_log;
+use crate::reached::run_at;
+use crate::turns::HostTurns;
+use app_logs::{Entry, Head, LogFault, is_viewer_count, resumed, times_after};
+use app_serve::{End, addresses_at, drawn_run, login_bytes, world_of};
+use app_words::{HostOrder, Order, OrderFault};
+use share_engine::{EngineFault, EtcdLog, OpenedWorld, WorldFault, open_world};
+use share_http::{EtcdEngine, Login, login_of};
+use share_store::Remembers;
+use std::alloc::Global;
+
+/// The texts of the options by which etcd is reached, if they were given.
+#[derive(Clone, Copy)]
+pub struct EtcdTexts<'a> {
+    /// That of `--etcd`.
+    pub etcd: Option<&'a str>,
+    /// That of `--world`.
+    pub world: Option<&'a str>,
+    /// That of `--login`.
+    pub login: Option<&'a str>,
+}
+
+/// The log of a world in etcd.
+type WorldLog<'a> = EtcdLog<EtcdEngine<&'a HostRuntime>>;
+
+/// Returns why a world isn't opened.
+fn world_end(fault: WorldFault) -> End {
+    match fault {
+        WorldFault::Silent => End::EtcdSilent,
+        WorldFault::Malformed => End::EtcdMalformed,
+        WorldFault::BadHead => End::Log(LogFault::BadHead),
+        WorldFault::WrongScene => End::Log(LogFault::WrongScene),
+        WorldFault::WrongSeats => End::Log(LogFault::WrongSeats),
+        WorldFault::Damaged(number) => End::Log(LogFault::LogDamaged(number)),
+        WorldFault::Memory => End::Log(LogFault::Memory),
+    }
+}
+
+/// Returns the login of a file, if one is named. Fails as `login_bytes` does, or with `LoginFile`.
+fn login_in(rt: &HostRuntime, file: Option<&str>) -> Result<Option<Login>, End> {
+    let Some(file) = file else {
+        return Ok(None);
+    };
+    let bytes = login_bytes(rt, file)?;
+    match login_of(rt.alloc(), bytes.as_slice()) {
+        Ok(Some(login)) => Ok(Some(login)),
+        Ok(None) => Err(End::LoginFile),
+        Err(_refused) => Err(End::from(OrderFault::Memory)),
+    }
+}
+
+/// Returns etcd at the addresses of a text.
+fn etcd_at<'a>(
+    rt: &'a HostRuntime,
+    texts: &EtcdTexts<'_>,
+) -> Result<EtcdEngine<&'a HostRuntime>, End> {
+    let Some(text) = texts.etcd else {
+        return Err(End::from(OrderFault::Words));
+    };
+    let addresses = addresses_at(rt, rt.alloc(), text)?;
+    let login = login_in(rt, texts.login)?;
+    match EtcdEngine::new(rt, rt.alloc(), &addresses, login) {
+        Ok(etcd) => Ok(etcd),
+        Err(EngineFault::Silent) => Err(End::EtcdSilent),
+        Err(EngineFault::Memory) => Err(End::from(OrderFault::Memory)),
+    }
+}
+
+/// Opens the log of a world, or makes it with a run drawn at random.
+fn opened_world<'a>(
+    rt: &'a HostRuntime,
+    mark: [u8; 32],
+    asked: &HostOrder,
+    texts: &EtcdTexts<'_>,
+) -> Result<OpenedWorld<EtcdEngine<&'a HostRuntime>>, End>
+    requires { HostInRange asked.now }
+{
+    let world = world_of(texts.world)?;
+    if world.text().is_empty() {
+        return Err(End::NoWorldName);
+    }
+    let viewers = viewers_of(asked);
+    let run = drawn_run(rt)?;
+    let head = Head { viewers, mark, run };
+    if !is_viewer_count(viewers) {
+        return Err(End::Log(LogFault::BadHead));
+    }
+    let etcd = etcd_at(rt, texts)?;
+    match open_world(rt.alloc(), etcd, world, &head, asked.viewers) {
+        Ok(opened) => Ok(opened),
+        Err(fault) => Err(world_end(fault)),
+    }
+}
+
+/// Returns the entries that a log has.
+fn entries_of(alloc: Global, log: &WorldLog<'_>) -> Result<Vec<Entry>, LogFault> {
+    let mut entries = Vec::new(alloc);
+    match entries.extend_from_slice(log.entries()) {
+        Ok(()) => Ok(entries),
+        Err(_refused) => Err(LogFault::Memory),
+    }
+}
+
+/// Returns what the host of a job begins with over a log of this head, but for its stage.
+fn starting_of(
+    rt: &HostRuntime,
+    job: &HostJob,
+    asked: &HostOrder,
+    head: Head,
+    log: &WorldLog<'_>,
+) -> Result<Starting, LogFault> {
+    let entries = entries_of(rt.alloc(), log)?;
+    let hosting = resumed(rt.alloc(), &head, &entries)?;
+    let last = hosting.last();
+    let Ok(clocks) = times_after(rt.alloc(), last, job.inputs.as_slice()) else {
+        drop(hosting);
+        return Err(LogFault::Memory);
+    };
+    let turns = HostTurns {
+        plan: plan_of(asked, last, turns_over_log(asked)),
+        standby: asked.standby.unwrap_or(0),
+        viewers: head.viewers,
+    };
+    Ok(Starting {
+        turning: Turning {
+            head,
+            hosting,
+            clocks,
+            turns,
+        },
+        entries,
+        stage: None,
+    })
+}
+
+/// Runs the host of a job over a log that was opened, at a door.
+fn run_over_world(
+    rt: &HostRuntime,
+    job: HostJob,
+    asked: &HostOrder,
+    opened: OpenedWorld<EtcdEngine<&HostRuntime>>,
+    door: Door<'_>,
+) -> Result<(), End> {
+    let OpenedWorld {
+        mut log,
+        head,
+        is_new: _,
+    } = opened;
+    match starting_of(rt, &job, asked, head, &log) {
+        Ok(starting) => {
+            let starting = starting.with_stage(job.into_stage());
+            tell_log(
+                rt,
+                asked.verbose,
+                log.entries().len() as u64,
+                0,
+                starting.turning.clocks.len(),
+            );
+            run_at(rt, starting, asked.verbose, &mut log, door)
+        }
+        Err(fault) => {
+            drop(job);
+            Err(End::Log(fault))
+        }
+    }
+}
+
+/// Binds the socket, opens the log, and runs the host.
+fn hosted(
+    rt: &HostRuntime,
+    job: HostJob,
+    asked: &HostOrder,
+    way: Way,
+    texts: &EtcdTexts<'_>,
+) -> Result<(), End>
+    requires { HostInRange asked.now }
+{
+    let door = match opened(rt, asked, way) {
+        Ok(door) => door,
+        Err(end) => {
+            drop(job);
+            return Err(end);
+        }
+    };
+    match opened_world(rt, job.mark, asked, texts) {
+        Ok(world) => run_over_world(rt, job, asked, world, door),
+        Err(end) => {
+            drop(job);
+            Err(end)
+        }
+    }
+}
+
+/// Reads a job of clocks, and runs its host over the log that etcd has of its world.
+pub fn host_over_etcd(
+    rt: &HostRuntime,
+    order: &Order,
+    asked: &HostOrder,
+    texts: &HostTexts<'_>,
+    etcd: &EtcdTexts<'_>,
+) -> Result<(), End>
+    requires { HostInRange asked.now }
+{
+    let job = read_clocks(rt, order)?;
+    match way_of(rt, asked, texts) {
+        Ok(way) => {
+            let job = job_in(rt.alloc(), job, &way)?;
+            hosted(rt, job, asked, way, etcd)
+        }
+        Err(end) => {
+            drop(job);
+            Err(end)
+        }
+    }
+}
