@@ -1,5 +1,5 @@
 -- What the options of a command must have for its order.
-use Rattle.std.proofs.Common.{◌≡◌, ◌≤◌, ℕ, List, codes, Option, Some, None, IfSome, IfNone, IsSomeAnd, ◌∙◌, ap, arith, slice_index}
+use Rattle.std.proofs.Common.{◌≡◌, ◌≤◌, ℕ, List, codes, Option, Some, None, IfSome, IfNone, IsSomeAnd, ◌∙◌, Bool, ap, arith, slice_index, sym}
 use Rattle.clap.specs.Words.{Row, Text}
 use Rattle.app_words.specs.declared.order.HostOrder.{HostOrder}
 use Rattle.app_words.specs.declared.order.Order.{Order}
@@ -8,9 +8,9 @@ use Rattle.app_words.specs.declared.order.ServeOrder.{ServeOrder}
 use Rattle.app_words.specs.declared.order.ViewEnd.{ViewEnd}
 use Rattle.app_words.specs.declared.order.ViewEnd.TheVariants.{Until, Exactly}
 use Rattle.app_words.specs.declared.order.ViewOrder.{ViewOrder}
-use Rattle.app_words.specs.Misfits.{host_misfit, misfit_of, serve_misfit}
+use Rattle.app_words.specs.Misfits.{host_misfit, misfit_of, recall_misfit, serve_misfit}
 use Rattle.app_words.specs.declared.misfit.Misfit.{Misfit}
-use Rattle.app_words.specs.Words.{Asks, AsksHost, AsksServe, AsksView, IsEnd, IsInRange, IsViewers, IsTurns, MayHaveExactly, MayHaveNumberIn, MayHaveUntil, end_count, end_of}
+use Rattle.app_words.specs.Words.{Asks, AsksHost, AsksServe, AsksView, IsEnd, IsInRange, IsViewers, IsTurns, MayHaveExactly, MayHaveNumberIn, MayHaveUntil, end_count, end_of, is_given, is_text_given}
 use Rattle.app_words.proofs.OneNumber.{one_host, one_serve, one_view, without}
 
 pub agree_needs : (rows : List Row) (o : Order) → Asks o (codes "agree", rows)
@@ -30,7 +30,7 @@ agree_needs rows (View asked) h =
     let bad : 97 ≡ 118 = ap (λ t. slice_index t 0) h.0 in absurd (omega (arith, bad))
 agree_needs rows (Serve asked) h =
     let bad : 97 ≡ 115 = ap (λ t. slice_index t 0) h.0 in absurd (omega (arith, bad))
-agree_needs rows (Recall until info) h =
+agree_needs rows (Recall until info makes) h =
     let bad : 97 ≡ 114 = ap (λ t. slice_index t 0) h.0 in absurd (omega (arith, bad))
 agree_needs rows (Part list) h =
     let bad : 97 ≡ 112 = ap (λ t. slice_index t 0) h.0 in absurd (omega (arith, bad))
@@ -54,7 +54,7 @@ host_needs rows (View asked) h =
     let bad : 104 ≡ 118 = ap (λ t. slice_index t 0) h.0 in absurd (omega (arith, bad))
 host_needs rows (Serve asked) h =
     let bad : 104 ≡ 115 = ap (λ t. slice_index t 0) h.0 in absurd (omega (arith, bad))
-host_needs rows (Recall until info) h =
+host_needs rows (Recall until info makes) h =
     let bad : 104 ≡ 114 = ap (λ t. slice_index t 0) h.0 in absurd (omega (arith, bad))
 host_needs rows (Part list) h =
     let bad : 104 ≡ 112 = ap (λ t. slice_index t 0) h.0 in absurd (omega (arith, bad))
@@ -78,7 +78,7 @@ view_needs rows (Host asked) h =
 view_needs rows (View asked) h = (asked, h.1, h.2)
 view_needs rows (Serve asked) h =
     let bad : 118 ≡ 115 = ap (λ t. slice_index t 0) h.0 in absurd (omega (arith, bad))
-view_needs rows (Recall until info) h =
+view_needs rows (Recall until info makes) h =
     let bad : 118 ≡ 114 = ap (λ t. slice_index t 0) h.0 in absurd (omega (arith, bad))
 view_needs rows (Part list) h =
     let bad : 118 ≡ 112 = ap (λ t. slice_index t 0) h.0 in absurd (omega (arith, bad))
@@ -102,12 +102,50 @@ serve_needs rows (Host asked) h =
 serve_needs rows (View asked) h =
     let bad : 115 ≡ 118 = ap (λ t. slice_index t 0) h.0 in absurd (omega (arith, bad))
 serve_needs rows (Serve asked) h = (asked, h.1, h.2)
-serve_needs rows (Recall until info) h =
+serve_needs rows (Recall until info makes) h =
     let bad : 115 ≡ 114 = ap (λ t. slice_index t 0) h.0 in absurd (omega (arith, bad))
 serve_needs rows (Part list) h =
     let bad : 115 ≡ 112 = ap (λ t. slice_index t 0) h.0 in absurd (omega (arith, bad))
 serve_needs rows (Key viewers) h =
     let bad : 115 ≡ 107 = ap (λ t. slice_index t 0) h.0 in absurd (omega (arith, bad))
+
+pub recall_needs : (rows : List Row) (o : Order) → Asks o (codes "recall", rows)
+    → (until : Option ℕ) × MayHaveUntil rows until
+    × (recall_misfit (is_given (codes "info") rows) (is_text_given (codes "new-log") rows) ≡ None)
+recall_needs rows (Run no_trace) h =
+    let bad : 101 ≡ 117 = ap (λ t. slice_index t 1) h.0 in absurd (omega (arith, bad))
+recall_needs rows Format h =
+    let bad : 114 ≡ 102 = ap (λ t. slice_index t 0) h in absurd (omega (arith, bad))
+recall_needs rows Check h =
+    let bad : 114 ≡ 99 = ap (λ t. slice_index t 0) h in absurd (omega (arith, bad))
+recall_needs rows (Rehearse viewers) h =
+    let bad : 99 ≡ 104 = ap (λ t. slice_index t 2) h.0 in absurd (omega (arith, bad))
+recall_needs rows (Agree viewers turns) h =
+    let bad : 114 ≡ 97 = ap (λ t. slice_index t 0) h.0 in absurd (omega (arith, bad))
+recall_needs rows (Host asked) h =
+    let bad : 114 ≡ 104 = ap (λ t. slice_index t 0) h.0 in absurd (omega (arith, bad))
+recall_needs rows (View asked) h =
+    let bad : 114 ≡ 118 = ap (λ t. slice_index t 0) h.0 in absurd (omega (arith, bad))
+recall_needs rows (Serve asked) h =
+    let bad : 114 ≡ 115 = ap (λ t. slice_index t 0) h.0 in absurd (omega (arith, bad))
+recall_needs rows (Recall until info makes) h = (
+  until,
+  h.1,
+  ap (λ i. recall_misfit i (is_text_given (codes "new-log") rows)) (sym h.2)
+      ∙ ap (λ m. recall_misfit info m) (sym h.3) ∙ h.4,
+)
+recall_needs rows (Part list) h =
+    let bad : 114 ≡ 112 = ap (λ t. slice_index t 0) h.0 in absurd (omega (arith, bad))
+recall_needs rows (Key viewers) h =
+    let bad : 114 ≡ 107 = ap (λ t. slice_index t 0) h.0 in absurd (omega (arith, bad))
+
+-- `recall` asks for nothing where its options don't go together
+pub no_recall_of_misfit : (rows : List Row) (info makes : Bool) (why : Misfit) → info ≡ is_given (codes "info") rows → makes ≡ is_text_given (codes "new-log") rows
+    → Some why ≡ recall_misfit info makes → (o : Order) → ¬ Asks o (codes "recall", rows)
+no_recall_of_misfit rows info makes why is_info is_makes misfit o h =
+    let given = recall_needs rows o h in
+    let bad : Some why ≡ None = misfit ∙ ap (λ i. recall_misfit i makes) is_info ∙ ap (λ m. recall_misfit (is_given (codes "info") rows) m) is_makes ∙ given.2 in
+    (cc)
 
 -- options that don't go together ask for nothing
 pub no_view_of_misfit : (rows : List Row) (asked : ViewOrder) (why : Misfit) → AsksView rows asked → Some why ≡ misfit_of asked
@@ -224,7 +262,7 @@ asked_range (Serve asked) p h = record {
   every_high = at_most (codes "every") p.1 1 3600000 asked.every h.1.every;
   together = h.2;
 }
-asked_range (Recall until info) p h = at_most (codes "until") p.1 0 1048576 until h.1
+asked_range (Recall until info makes) p h = at_most (codes "until") p.1 0 1048576 until h.1
 asked_range (Part list) p h = tt
 asked_range (Key viewers) p h = (h.1.low_end, h.1.high_end)
 

@@ -37,7 +37,7 @@ run_alone no_trace (Serve asked2) p h g =
     let x : slice_index p.0 0 ≡ 114 = ap (λ t. slice_index t 0) h.0 in
     let y : slice_index p.0 0 ≡ 115 = ap (λ t. slice_index t 0) g.0 in
     absurd (omega (arith, x, y))
-run_alone no_trace (Recall until2 info2) p h g =
+run_alone no_trace (Recall until2 info2 makes2) p h g =
     let x : slice_index p.0 1 ≡ 117 = ap (λ t. slice_index t 1) h.0 in
     let y : slice_index p.0 1 ≡ 101 = ap (λ t. slice_index t 1) g.0 in
     absurd (omega (arith, x, y))
@@ -80,7 +80,7 @@ format_alone (Serve asked2) p h g =
     let x : slice_index p.0 0 ≡ 102 = ap (λ t. slice_index t 0) h in
     let y : slice_index p.0 0 ≡ 115 = ap (λ t. slice_index t 0) g.0 in
     absurd (omega (arith, x, y))
-format_alone (Recall until2 info2) p h g =
+format_alone (Recall until2 info2 makes2) p h g =
     let x : slice_index p.0 0 ≡ 102 = ap (λ t. slice_index t 0) h in
     let y : slice_index p.0 0 ≡ 114 = ap (λ t. slice_index t 0) g.0 in
     absurd (omega (arith, x, y))
@@ -123,7 +123,7 @@ check_alone (Serve asked2) p h g =
     let x : slice_index p.0 0 ≡ 99 = ap (λ t. slice_index t 0) h in
     let y : slice_index p.0 0 ≡ 115 = ap (λ t. slice_index t 0) g.0 in
     absurd (omega (arith, x, y))
-check_alone (Recall until2 info2) p h g =
+check_alone (Recall until2 info2 makes2) p h g =
     let x : slice_index p.0 0 ≡ 99 = ap (λ t. slice_index t 0) h in
     let y : slice_index p.0 0 ≡ 114 = ap (λ t. slice_index t 0) g.0 in
     absurd (omega (arith, x, y))
@@ -166,7 +166,7 @@ rehearse_alone viewers (Serve asked2) p h g =
     let x : slice_index p.0 0 ≡ 114 = ap (λ t. slice_index t 0) h.0 in
     let y : slice_index p.0 0 ≡ 115 = ap (λ t. slice_index t 0) g.0 in
     absurd (omega (arith, x, y))
-rehearse_alone viewers (Recall until2 info2) p h g =
+rehearse_alone viewers (Recall until2 info2 makes2) p h g =
     let x : slice_index p.0 2 ≡ 104 = ap (λ t. slice_index t 2) h.0 in
     let y : slice_index p.0 2 ≡ 99 = ap (λ t. slice_index t 2) g.0 in
     absurd (omega (arith, x, y))
@@ -209,7 +209,7 @@ agree_alone viewers turns (Serve asked2) p h g =
     let x : slice_index p.0 0 ≡ 97 = ap (λ t. slice_index t 0) h.0 in
     let y : slice_index p.0 0 ≡ 115 = ap (λ t. slice_index t 0) g.0 in
     absurd (omega (arith, x, y))
-agree_alone viewers turns (Recall until2 info2) p h g =
+agree_alone viewers turns (Recall until2 info2 makes2) p h g =
     let x : slice_index p.0 0 ≡ 97 = ap (λ t. slice_index t 0) h.0 in
     let y : slice_index p.0 0 ≡ 114 = ap (λ t. slice_index t 0) g.0 in
     absurd (omega (arith, x, y))

@@ -42,7 +42,7 @@ host_alone asked (Serve asked2) p h g =
     let x : slice_index p.0 0 ≡ 104 = ap (λ t. slice_index t 0) h.0 in
     let y : slice_index p.0 0 ≡ 115 = ap (λ t. slice_index t 0) g.0 in
     absurd (omega (arith, x, y))
-host_alone asked (Recall until2 info2) p h g =
+host_alone asked (Recall until2 info2 makes2) p h g =
     let x : slice_index p.0 0 ≡ 104 = ap (λ t. slice_index t 0) h.0 in
     let y : slice_index p.0 0 ≡ 114 = ap (λ t. slice_index t 0) g.0 in
     absurd (omega (arith, x, y))
@@ -85,7 +85,7 @@ view_alone asked (Serve asked2) p h g =
     let x : slice_index p.0 0 ≡ 118 = ap (λ t. slice_index t 0) h.0 in
     let y : slice_index p.0 0 ≡ 115 = ap (λ t. slice_index t 0) g.0 in
     absurd (omega (arith, x, y))
-view_alone asked (Recall until2 info2) p h g =
+view_alone asked (Recall until2 info2 makes2) p h g =
     let x : slice_index p.0 0 ≡ 118 = ap (λ t. slice_index t 0) h.0 in
     let y : slice_index p.0 0 ≡ 114 = ap (λ t. slice_index t 0) g.0 in
     absurd (omega (arith, x, y))
@@ -128,7 +128,7 @@ serve_alone asked (View asked2) p h g =
     let y : slice_index p.0 0 ≡ 118 = ap (λ t. slice_index t 0) g.0 in
     absurd (omega (arith, x, y))
 serve_alone asked (Serve asked2) p h g = ap (λ x. Serve x) (one_serve p.1 asked asked2 h.1 g.1)
-serve_alone asked (Recall until2 info2) p h g =
+serve_alone asked (Recall until2 info2 makes2) p h g =
     let x : slice_index p.0 0 ≡ 115 = ap (λ t. slice_index t 0) h.0 in
     let y : slice_index p.0 0 ≡ 114 = ap (λ t. slice_index t 0) g.0 in
     absurd (omega (arith, x, y))
@@ -141,45 +141,45 @@ serve_alone asked (Key viewers2) p h g =
     let y : slice_index p.0 0 ≡ 107 = ap (λ t. slice_index t 0) g.0 in
     absurd (omega (arith, x, y))
 
-recall_alone : (until : Option ℕ) (info : Bool) (o : Order) (p : Text × List Row) → Asks (Recall until info) p → Asks o p → Recall until info ≡ o
-recall_alone until info (Run no_trace2) p h g =
+recall_alone : (until : Option ℕ) (info makes : Bool) (o : Order) (p : Text × List Row) → Asks (Recall until info makes) p → Asks o p → Recall until info makes ≡ o
+recall_alone until info makes (Run no_trace2) p h g =
     let x : slice_index p.0 1 ≡ 101 = ap (λ t. slice_index t 1) h.0 in
     let y : slice_index p.0 1 ≡ 117 = ap (λ t. slice_index t 1) g.0 in
     absurd (omega (arith, x, y))
-recall_alone until info Format p h g =
+recall_alone until info makes Format p h g =
     let x : slice_index p.0 0 ≡ 114 = ap (λ t. slice_index t 0) h.0 in
     let y : slice_index p.0 0 ≡ 102 = ap (λ t. slice_index t 0) g in
     absurd (omega (arith, x, y))
-recall_alone until info Check p h g =
+recall_alone until info makes Check p h g =
     let x : slice_index p.0 0 ≡ 114 = ap (λ t. slice_index t 0) h.0 in
     let y : slice_index p.0 0 ≡ 99 = ap (λ t. slice_index t 0) g in
     absurd (omega (arith, x, y))
-recall_alone until info (Rehearse viewers2) p h g =
+recall_alone until info makes (Rehearse viewers2) p h g =
     let x : slice_index p.0 2 ≡ 99 = ap (λ t. slice_index t 2) h.0 in
     let y : slice_index p.0 2 ≡ 104 = ap (λ t. slice_index t 2) g.0 in
     absurd (omega (arith, x, y))
-recall_alone until info (Agree viewers2 turns2) p h g =
+recall_alone until info makes (Agree viewers2 turns2) p h g =
     let x : slice_index p.0 0 ≡ 114 = ap (λ t. slice_index t 0) h.0 in
     let y : slice_index p.0 0 ≡ 97 = ap (λ t. slice_index t 0) g.0 in
     absurd (omega (arith, x, y))
-recall_alone until info (Host asked2) p h g =
+recall_alone until info makes (Host asked2) p h g =
     let x : slice_index p.0 0 ≡ 114 = ap (λ t. slice_index t 0) h.0 in
     let y : slice_index p.0 0 ≡ 104 = ap (λ t. slice_index t 0) g.0 in
     absurd (omega (arith, x, y))
-recall_alone until info (View asked2) p h g =
+recall_alone until info makes (View asked2) p h g =
     let x : slice_index p.0 0 ≡ 114 = ap (λ t. slice_index t 0) h.0 in
     let y : slice_index p.0 0 ≡ 118 = ap (λ t. slice_index t 0) g.0 in
     absurd (omega (arith, x, y))
-recall_alone until info (Serve asked2) p h g =
+recall_alone until info makes (Serve asked2) p h g =
     let x : slice_index p.0 0 ≡ 114 = ap (λ t. slice_index t 0) h.0 in
     let y : slice_index p.0 0 ≡ 115 = ap (λ t. slice_index t 0) g.0 in
     absurd (omega (arith, x, y))
-recall_alone until info (Recall until2 info2) p h g = ap (λ o. Recall o info) (one_or_none _ p.1 _ _ until until2 h.1 g.1) ∙ ap (λ b. Recall until2 b) (h.2 ∙ sym g.2)
-recall_alone until info (Part list2) p h g =
+recall_alone until info makes (Recall until2 info2 makes2) p h g = ap (λ o. Recall o info makes) (one_or_none _ p.1 _ _ until until2 h.1 g.1) ∙ ap (λ b. Recall until2 b makes) (h.2 ∙ sym g.2) ∙ ap (λ b. Recall until2 info2 b) (h.3 ∙ sym g.3)
+recall_alone until info makes (Part list2) p h g =
     let x : slice_index p.0 0 ≡ 114 = ap (λ t. slice_index t 0) h.0 in
     let y : slice_index p.0 0 ≡ 112 = ap (λ t. slice_index t 0) g.0 in
     absurd (omega (arith, x, y))
-recall_alone until info (Key viewers2) p h g =
+recall_alone until info makes (Key viewers2) p h g =
     let x : slice_index p.0 0 ≡ 114 = ap (λ t. slice_index t 0) h.0 in
     let y : slice_index p.0 0 ≡ 107 = ap (λ t. slice_index t 0) g.0 in
     absurd (omega (arith, x, y))
@@ -217,7 +217,7 @@ part_alone list (Serve asked2) p h g =
     let x : slice_index p.0 0 ≡ 112 = ap (λ t. slice_index t 0) h.0 in
     let y : slice_index p.0 0 ≡ 115 = ap (λ t. slice_index t 0) g.0 in
     absurd (omega (arith, x, y))
-part_alone list (Recall until2 info2) p h g =
+part_alone list (Recall until2 info2 makes2) p h g =
     let x : slice_index p.0 0 ≡ 112 = ap (λ t. slice_index t 0) h.0 in
     let y : slice_index p.0 0 ≡ 114 = ap (λ t. slice_index t 0) g.0 in
     absurd (omega (arith, x, y))
@@ -260,7 +260,7 @@ key_alone viewers (Serve asked2) p h g =
     let x : slice_index p.0 0 ≡ 107 = ap (λ t. slice_index t 0) h.0 in
     let y : slice_index p.0 0 ≡ 115 = ap (λ t. slice_index t 0) g.0 in
     absurd (omega (arith, x, y))
-key_alone viewers (Recall until2 info2) p h g =
+key_alone viewers (Recall until2 info2 makes2) p h g =
     let x : slice_index p.0 0 ≡ 107 = ap (λ t. slice_index t 0) h.0 in
     let y : slice_index p.0 0 ≡ 114 = ap (λ t. slice_index t 0) g.0 in
     absurd (omega (arith, x, y))
@@ -279,7 +279,7 @@ asks_one (Agree viewers turns) b p h g = agree_alone viewers turns b p h g
 asks_one (Host asked) b p h g = host_alone asked b p h g
 asks_one (View asked) b p h g = view_alone asked b p h g
 asks_one (Serve asked) b p h g = serve_alone asked b p h g
-asks_one (Recall until info) b p h g = recall_alone until info b p h g
+asks_one (Recall until info makes) b p h g = recall_alone until info makes b p h g
 asks_one (Part list) b p h g = part_alone list b p h g
 asks_one (Key viewers) b p h g = key_alone viewers b p h g
 

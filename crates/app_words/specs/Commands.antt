@@ -72,9 +72,9 @@ serve_app = taking (codes "serve")
     (port_rule ∷ host_viewers_rule ∷ keep_rule ∷ every_rule ∷ folder_rule ∷ listen_rule ∷ open_rule
     ∷ verbose_rule ∷ [])
 
--- `recall --until N --info`
+-- `recall --until N --new-log FILE --info`
 unfoldable pub recall_app : App
-recall_app = taking (codes "recall") (until_rule ∷ info_rule ∷ [])
+recall_app = taking (codes "recall") (until_rule ∷ new_log_rule ∷ info_rule ∷ [])
 
 -- `part --keep-names FILE --list`
 unfoldable pub part_app : App

@@ -1,4 +1,4 @@
--- Options of `view`, `host` and `serve` that don't go together, though each has its range (our choice).
+-- Options of `view`, `host`, `serve` and `recall` that don't go together, though each has its range (our choice).
 use Rattle.std.specs.Prelude.{ℕ, Bool, true, false, ◌==◌, ◌&&◌, ◌||◌, nat_lt, not, is_none, is_some, Option, None, Some, if◌then◌else◌}
 use Rattle.app_words.specs.declared.misfit.Misfit.{Misfit}
 use Rattle.app_words.specs.declared.misfit.Misfit.TheVariants as misfit
@@ -124,3 +124,7 @@ host_misfit o =
 -- `serve` has one place, as a host
 abbrev pub serve_misfit : ServeOrder → Option Misfit
 serve_misfit o = place_misfit misfit.TwoPlaces o.port o.has_address
+
+-- `recall` prints what a log has, or makes another
+abbrev pub recall_misfit : (info makes : Bool) → Option Misfit
+recall_misfit info makes = if info && makes then Some misfit.InfoOfNewLog else None

@@ -9,7 +9,7 @@ use Rattle.clap.specs.declared.error.kind.ErrorKind.{ErrorKind}
 use Rattle.clap.specs.declared.error.kind.ErrorKind.TheVariants as kind
 use Rattle.x3d_values.specs.Ranges.{max_viewers, max_inputs}
 use Rattle.app_words.specs.Commands.{program}
-use Rattle.app_words.specs.Misfits.{host_misfit, misfit_of, serve_misfit}
+use Rattle.app_words.specs.Misfits.{host_misfit, misfit_of, serve_misfit, recall_misfit}
 use Rattle.app_words.specs.Options.{max_who}
 use Rattle.app_words.specs.declared.order.HostOrder.{HostOrder}
 use Rattle.app_words.specs.declared.order.LogUse.{LogUse}
@@ -198,8 +198,9 @@ Asks (Agree viewers turns) p =
 Asks (Host o) p = (p.0 ≡ codes "host") × AsksHost p.1 o × (host_misfit o ≡ None)
 Asks (View o) p = (p.0 ≡ codes "view") × AsksView p.1 o × (misfit_of o ≡ None)
 Asks (Serve o) p = (p.0 ≡ codes "serve") × AsksServe p.1 o × (serve_misfit o ≡ None)
-Asks (Recall until info) p =
+Asks (Recall until info makes) p =
     (p.0 ≡ codes "recall") × MayHaveUntil p.1 until × (info ≡ is_given (codes "info") p.1)
+    × (makes ≡ is_text_given (codes "new-log") p.1) × (recall_misfit info makes ≡ None)
 Asks (Part list) p = (p.0 ≡ codes "part") × (list ≡ is_given (codes "list") p.1)
 Asks (Key viewers) p = (p.0 ≡ codes "key") × IsViewers p.1 viewers
 
@@ -262,7 +263,7 @@ IsInRange (Agree viewers turns) = (1 ≤ viewers) × (viewers ≤ max_viewers)
 IsInRange (Host o) = HostInRange o
 IsInRange (View o) = ViewInRange o
 IsInRange (Serve o) = ServeInRange o
-IsInRange (Recall until info) = IfSome until (λ n. n ≤ max_inputs)
+IsInRange (Recall until info makes) = IfSome until (λ n. n ≤ max_inputs)
 IsInRange (Key viewers) = (1 ≤ viewers) × (viewers ≤ max_viewers)
 IsInRange _ = ⊤
 

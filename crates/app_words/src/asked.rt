@@ -6,8 +6,8 @@ ghost use Rattle.app_words.specs.Words.{Asks, text_named};
 ghost use Rattle.app_words.specs.declared.order.Order.{Order as OrderOf};
 
 use crate::host::host_asked;
-use crate::misfit::{Misfit, host_misfit, misfit_of, serve_misfit};
-use crate::numbers::{is_named, text_in, turns_in, until_in, viewers_in};
+use crate::misfit::{Misfit, host_misfit, misfit_of, recall_misfit, serve_misfit};
+use crate::numbers::{is_named, is_text_given, text_in, turns_in, until_in, viewers_in};
 use crate::order::Order;
 use crate::serve::serve_asked;
 use crate::view::view_asked;
@@ -88,10 +88,12 @@ fn recall_in(found: &ArgMatches<'_>) -> Option<Order>
     let Some(until) = until_in(found) else {
         return None;
     };
-    Some(Order::Recall {
-        until,
-        info: is_named(found, "info"),
-    })
+    let info = is_named(found, "info");
+    let makes = is_text_given(found, "new-log");
+    match recall_misfit(info, makes) {
+        None => Some(Order::Recall { until, info, makes }),
+        Some(_) => None,
+    }
 }
 
 fn run_in(found: &ArgMatches<'_>) -> Option<Order>
@@ -125,8 +127,8 @@ fn key_in(found: &ArgMatches<'_>) -> Option<Order>
     Some(Order::Key { viewers })
 }
 
-/// Returns why the options of `view`, of `host` or of `serve` don't go together, if the matches are
-/// of one of these and they don't.
+/// Returns why the options of `view`, of `host`, of `serve` or of `recall` don't go together, if the
+/// matches are of one of these and they don't.
 pub fn misfit_in(matches: &ArgMatches<'_>) -> Option<Misfit> {
     match matches.subcommand()? {
         ("host", found) => match host_asked(found) {
@@ -138,6 +140,9 @@ pub fn misfit_in(matches: &ArgMatches<'_>) -> Option<Misfit> {
             None => Some(Misfit::End),
         },
         ("serve", found) => serve_misfit(&serve_asked(found)?),
+        ("recall", found) => {
+            recall_misfit(is_named(found, "info"), is_text_given(found, "new-log"))
+        }
         _ => None,
     }
 }

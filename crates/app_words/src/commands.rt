@@ -17,8 +17,9 @@ use crate::help::{
 use crate::options::{
     AT, BOOT, ETCD, EVERY, EXACTLY, FOLDER, FlagOption, GIVE, GIVE_TURNS, HOST, HOST_TURNS,
     HOST_UNTIL, HOST_VIEWERS, INFO, JOIN, KEEP, KEEP_NAMES, KEY, KEYS, LIST, LISTEN, LOG, LOGIN,
-    NEW_LOG, NO_TRACE, NumberOption, OPEN, PORT, RECALL_UNTIL, SHARED_WORLD, STANDBY, TURNS,
-    TextOption, VERBOSE, VIEW_UNTIL, VIEWERS, WHO, WIRE, WORLD, WORLD_EVERY, WORLD_VIEWERS, WORLDS,
+    NEW_LOG, NO_TRACE, NumberOption, OPEN, PORT, RECALL_LOG, RECALL_UNTIL, SHARED_WORLD, STANDBY,
+    TURNS, TextOption, VERBOSE, VIEW_UNTIL, VIEWERS, WHO, WIRE, WORLD, WORLD_EVERY, WORLD_VIEWERS,
+    WORLDS,
 };
 use clap::Command;
 use std::alloc::{AllocError, Global};
@@ -122,7 +123,7 @@ static FILE_COMMANDS: [CommandWords; 4] = [
         about: "Print the inputs of a host's log as the steps of a job",
         after_help: RECALL_HELP,
         options: &[RECALL_UNTIL],
-        texts: &[],
+        texts: &[RECALL_LOG],
         flags: &[INFO],
     },
     CommandWords {

@@ -141,15 +141,18 @@ With --info these lines are printed instead: the number of viewers, the scene's 
 how many inputs there are and how many of them are clocks, the size of the file and how much of it
 is of an append that was not finished, the times of the first and the last input, and how many
 inputs each viewer has offered. With --until N they are about the first N inputs.
+With --new-log FILE nothing is printed. A log of the inputs is made in FILE, with a run of its own,
+and `host --log FILE` begins there: so a world goes back to input N. Its viewers are started again.
 
-Example:
+Examples:
   (x3d_share recall < w.x3dlog; echo scene; cat scene.x3dv) | x3d_share run
+  x3d_share recall --until 100 --new-log back.x3dlog < w.x3dlog
 
 Status:
-  0  the steps are printed
+  0  the steps are printed, or the log is made
   1  the log is refused
-  2  the words are refused
-  4  a device failed
+  2  the words are refused, or there is something in the new log's file
+  4  a device failed, or another process has the new log's file
   5  memory ran out";
 
 pub(crate) const VIEW_HELP: &str = "A job of this viewer's points is read from standard input.

@@ -1,17 +1,17 @@
-//! Options of `view`, `host` and `serve` that don't go together.
+//! Options of `view`, `host`, `serve` and `recall` that don't go together.
 
 ghost use Rattle.std.specs.Prelude.{◌≡◌};
 ghost use Rattle.app_words.specs.Misfits.{at_misfit, every_misfit, give_misfit, given_misfit};
 ghost use Rattle.app_words.specs.Misfits.{first_misfit, has_log, host_misfit, is_first_boot};
 ghost use Rattle.app_words.specs.Misfits.{is_shared, join_misfit, misfit_of, open_misfit};
-ghost use Rattle.app_words.specs.Misfits.{sharing_misfit, unshared_misfit};
+ghost use Rattle.app_words.specs.Misfits.{recall_misfit, sharing_misfit, unshared_misfit};
 ghost use Rattle.app_words.specs.Misfits.{own_misfit, place_misfit, sealed_misfit, serve_misfit};
 ghost use Rattle.app_words.specs.Misfits.{wire_misfit};
 
 use crate::order::{HostOrder, LogUse, ServeOrder, ViewOrder};
 use thiserror::Error;
 
-/// Why the options of `view`, of `host` or of `serve` don't go together.
+/// Why the options of `view`, of `host`, of `serve` or of `recall` don't go together.
 #[derive(Clone, Copy, Debug, PartialEq, Eq, Error)]
 pub enum Misfit {
     /// `--until` and `--exactly` were both given, or neither.
@@ -69,6 +69,9 @@ pub enum Misfit {
     /// A host has keys, and serves whoever comes.
     #[error("one of --keys and --open, and not both")]
     OpenWithKeys,
+    /// A log is to be made of inputs, and what it has is to be printed.
+    #[error("one of --info and --new-log, and not both")]
+    InfoOfNewLog,
 }
 
 fn place_misfit(why: Misfit, port: Option<u16>, has_address: bool) -> Option<Misfit>
@@ -280,4 +283,15 @@ pub(crate) fn serve_misfit(asked: &ServeOrder) -> Option<Misfit>
     ensures { result ≡ serve_misfit asked.now }
 {
     place_misfit(Misfit::TwoPlaces, asked.port, asked.has_address)
+}
+
+/// Returns the reason why the options of `recall` don't go together, if there is one.
+pub(crate) fn recall_misfit(info: bool, makes: bool) -> Option<Misfit>
+    ensures { result ≡ recall_misfit info makes }
+{
+    if info && makes {
+        Some(Misfit::InfoOfNewLog)
+    } else {
+        None
+    }
 }

@@ -182,6 +182,14 @@ pub const NEW_LOG: TextOption = TextOption {
     help: "Makes a log in FILE, which is missing or empty",
 };
 
+/// The option `--new-log` of `recall`.
+pub const RECALL_LOG: TextOption = TextOption {
+    name: "new-log",
+    is_word: false,
+    value: "FILE",
+    help: "Makes a log of these inputs, with a run of its own, in FILE, and prints nothing",
+};
+
 pub const ETCD: TextOption = TextOption {
     name: "etcd",
     is_word: false,

@@ -118,25 +118,41 @@ pub struct ServeOrder {
 #[derive(Clone, Copy, PartialEq, Eq)]
 pub enum Order {
     /// `run`: the input is a job; `no_trace` prints the scene alone.
-    Run { no_trace: bool },
+    Run {
+        no_trace: bool,
+    },
     /// `format`: the input is a scene.
     Format,
     /// `check`: the input is a scene.
     Check,
     /// `rehearse`: the input is a schedule; 1 to `MAX_VIEWERS` viewers.
-    Rehearse { viewers: u8 },
+    Rehearse {
+        viewers: u8,
+    },
     /// `agree`: the input is a job; 1 to `MAX_VIEWERS` viewers, 1 to 10,000,000 rounds.
-    Agree { viewers: u8, turns: u32 },
+    Agree {
+        viewers: u8,
+        turns: u32,
+    },
     Host(HostOrder),
     View(ViewOrder),
     Serve(ServeOrder),
     /// `recall`: the input is a log's file; at most this many of its inputs, 0 to 2^20, or all.
-    /// `info` prints what the log has instead of them.
-    Recall { until: Option<u32>, info: bool },
+    /// `info` prints what the log has instead of them; `makes` makes a log of them in the file that
+    /// `--new-log` names.
+    Recall {
+        until: Option<u32>,
+        info: bool,
+        makes: bool,
+    },
     /// `part`: the input is a text; `list` prints only what goes.
-    Part { list: bool },
+    Part {
+        list: bool,
+    },
     /// `key`: makes the keys of a host and of 1 to `MAX_VIEWERS` viewers.
-    Key { viewers: u8 },
+    Key {
+        viewers: u8,
+    },
 }
 
 /// What words ask for: the text of `--help` or `--version`, or a command.

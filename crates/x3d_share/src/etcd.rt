@@ -15,6 +15,7 @@ use app_serve::{End, addresses_at, drawn_run, login_bytes, world_of};
 use app_words::{HostOrder, Order, OrderFault};
 use share_engine::{EngineFault, EtcdLog, OpenedWorld, WorldFault, open_world};
 use share_http::{EtcdEngine, Login, login_of};
+use share_session::WorldName;
 use share_store::Remembers;
 use std::alloc::Global;
 
@@ -31,6 +32,13 @@ pub struct EtcdTexts<'a> {
 
 /// The log of a world in etcd.
 type WorldLog<'a> = EtcdLog<EtcdEngine<&'a HostRuntime>>;
+
+/// A world whose log etcd has, or will have.
+#[derive(Drop)]
+struct SharedWorld<'a> {
+    etcd: EtcdEngine<&'a HostRuntime>,
+    world: WorldName,
+}
 
 /// Returns why a world isn't opened.
 fn world_end(fault: WorldFault) -> End {
@@ -75,26 +83,33 @@ fn etcd_at<'a>(
     }
 }
 
-/// Opens the log of a world, or makes it with a run drawn at random.
-fn opened_world<'a>(
-    rt: &'a HostRuntime,
-    mark: [u8; 32],
-    asked: &HostOrder,
-    texts: &EtcdTexts<'_>,
-) -> Result<OpenedWorld<EtcdEngine<&'a HostRuntime>>, End>
-    requires { HostInRange asked.now }
-{
+/// Returns etcd and the name of a world by the texts of a host's options. Fails with `NoWorldName`,
+/// then `NoAddress`, and then with what is wrong with the file of the login.
+fn shared_world<'a>(rt: &'a HostRuntime, texts: &EtcdTexts<'_>) -> Result<SharedWorld<'a>, End> {
     let world = world_of(texts.world)?;
     if world.text().is_empty() {
         return Err(End::NoWorldName);
     }
+    let etcd = etcd_at(rt, texts)?;
+    Ok(SharedWorld { etcd, world })
+}
+
+/// Opens the log of a world, or makes it with a run drawn at random.
+fn opened_world<'a>(
+    rt: &HostRuntime,
+    mark: [u8; 32],
+    asked: &HostOrder,
+    shared: SharedWorld<'a>,
+) -> Result<OpenedWorld<EtcdEngine<&'a HostRuntime>>, End>
+    requires { HostInRange asked.now }
+{
+    let SharedWorld { etcd, world } = shared;
     let viewers = viewers_of(asked);
     let run = drawn_run(rt)?;
     let head = Head { viewers, mark, run };
     if !is_viewer_count(viewers) {
         return Err(End::Log(LogFault::BadHead));
     }
-    let etcd = etcd_at(rt, texts)?;
     match open_world(rt.alloc(), etcd, world, &head, asked.viewers) {
         Ok(opened) => Ok(opened),
         Err(fault) => Err(world_end(fault)),
@@ -174,6 +189,22 @@ fn run_over_world(
     }
 }
 
+/// Binds the socket, and then opens the log: a host whose port is taken makes no world.
+fn begun_at<'a>(
+    rt: &'a HostRuntime,
+    mark: [u8; 32],
+    asked: &HostOrder,
+    way: Way,
+    texts: &EtcdTexts<'_>,
+) -> Result<(OpenedWorld<EtcdEngine<&'a HostRuntime>>, Door<'a>), End>
+    requires { HostInRange asked.now }
+{
+    let shared = shared_world(rt, texts)?;
+    let door = opened(rt, asked, way)?;
+    let world = opened_world(rt, mark, asked, shared)?;
+    Ok((world, door))
+}
+
 /// Binds the socket, opens the log, and runs the host.
 fn hosted(
     rt: &HostRuntime,
@@ -184,15 +215,8 @@ fn hosted(
 ) -> Result<(), End>
     requires { HostInRange asked.now }
 {
-    let door = match opened(rt, asked, way) {
-        Ok(door) => door,
-        Err(end) => {
-            drop(job);
-            return Err(end);
-        }
-    };
-    match opened_world(rt, job.mark, asked, texts) {
-        Ok(world) => run_over_world(rt, job, asked, world, door),
+    match begun_at(rt, job.mark, asked, way, texts) {
+        Ok((world, door)) => run_over_world(rt, job, asked, world, door),
         Err(end) => {
             drop(job);
             Err(end)

@@ -177,7 +177,12 @@ fn obey(rt: &HostRuntime, words: &[&str], order: Order) -> Result<(), End>
         Order::Host(asked) => host_as(rt, words, &order, &asked)?,
         Order::View(asked) => view_as(rt, words, &order, &asked)?,
         Order::Serve(asked) => serve_as(rt, words, &asked)?,
-        Order::Recall { until, info } => recall(rt, until, info)?,
+        Order::Recall {
+            until,
+            info: _,
+            makes: true,
+        } => recall_as(rt, words, until)?,
+        Order::Recall { until, info, .. } => recall(rt, until, info)?,
         Order::Part { list } => part(rt, list, text_of(rt.alloc(), words, "keep-names")?)?,
         Order::Key { viewers } => key_as(rt, words, viewers)?,
     }
