@@ -1,0 +1,91 @@
+-- Steps of a run, one after another.
+use Rattle.std.proofs.Common.{◌≡◌, ℕ, zero, suc, List, [], ◌∷◌, ◌++◌, refl, ap, sym, ◌∙◌, subst, append_assoc, append-nil}
+use Rattle.std.specs.Prelude.{Bool, Option, Some, None, IsTrue, slice_get, ⊤}
+use Rattle.std.proofs.lemmas.Option.{none-some}
+use Rattle.share_entries.specs.Entry.{EntryView}
+use Rattle.share_logged.specs.Shown.{Shows}
+use Rattle.share_store.specs.OneLog.{Begins}
+use Rattle.share_turns.specs.declared.traffic.Datagram.{Datagram}
+use Rattle.share_turns.specs.declared.traffic.Traffic.{Traffic}
+use Rattle.share_turns.specs.declared.traffic.Traffic.TheVariants.{Sent}
+use Rattle.app_standby.specs.Shared.{AreShownOf, ShowsFirst}
+use Rattle.app_standby.specs.Steps.{Goes, Moment, moment}
+
+pub begins-same : (k : List EntryView) → Begins k k
+begins-same k = ([], sym (append-nil k))
+
+pub begins-then : (a b c : List EntryView) → Begins a b → Begins b c → Begins a c
+begins-then a b c m n = (m.0 ++ n.0, n.1 ∙ ap (λ (l : List EntryView). l ++ n.0) m.1 ∙ append_assoc a m.0 n.0)
+
+-- ---- what was sent
+
+shown-append : (mark : List ℕ) (v : ℕ) (k : List EntryView) (xs ys : List Traffic) → AreShownOf mark v k xs → AreShownOf mark v k ys → AreShownOf mark v k (xs ++ ys)
+shown-append mark v k [] ys a b = b
+shown-append mark v k (x ∷ xs) ys a b = go where
+  go : AreShownOf mark v k (x ∷ (xs ++ ys))
+  go zero d e = a zero d e
+  go (suc n) d e = shown-append mark v k xs ys (λ m f is. a (suc m) f is) b n d e
+
+-- with more entries
+pub first-more : (mark : List ℕ) (v : ℕ) (k l : List EntryView) (a b : Option (List Traffic)) → ShowsFirst mark v k a b → Begins k l → ShowsFirst mark v l a b
+first-more mark v k l None b s more = tt
+first-more mark v k l (Some x) None s more = absurd s
+first-more mark v k l (Some x) (Some y) s more =
+    (s.0, s.1, λ n d is. let one = s.2 n d is in (one.0, begins-then one.0 k l one.1 more, one.2))
+
+pub first-then : (mark : List ℕ) (v : ℕ) (k : List EntryView) (a b c : Option (List Traffic)) → ShowsFirst mark v k a b → ShowsFirst mark v k b c → ShowsFirst mark v k a c
+first-then mark v k None b c s t = tt
+first-then mark v k (Some x) None c s t = absurd s
+first-then mark v k (Some x) (Some y) None s t = absurd t
+first-then mark v k (Some x) (Some y) (Some z) s t =
+    (s.0 ++ t.0, t.1 ∙ ap (λ (l : List Traffic). l ++ t.0) s.1 ∙ append_assoc x s.0 t.0, shown-append mark v k s.0 t.0 s.2 t.2)
+
+-- a turn of share_logged
+pub shows-first : (mark : List ℕ) (v : ℕ) (k : List EntryView) (a b : Option (List Traffic)) → Shows mark v k a b → ShowsFirst mark v k a b
+shows-first mark v k None b s = tt
+shows-first mark v k (Some x) None s = absurd s
+shows-first mark v k (Some x) (Some y) s = (s.0, s.1, λ n d is. (k, begins-same k, s.2 n d is))
+
+-- nothing
+none-sent : (mark : List ℕ) (v : ℕ) (k : List EntryView) → AreShownOf mark v k []
+none-sent mark v k = λ n d is. absurd (none-some is)
+
+pub first-none : (mark : List ℕ) (v : ℕ) (k : List EntryView) (a b : Option (List Traffic)) → b ≡ a → ShowsFirst mark v k a b
+first-none mark v k a b same = subst (λ (x : Option (List Traffic)). ShowsFirst mark v k a x) (sym same) (go a) where
+  go : (a : Option (List Traffic)) → ShowsFirst mark v k a a
+  go None = tt
+  go (Some x) = ([], sym (append-nil x), none-sent mark v k)
+
+-- ---- steps
+
+pub goes-then : (mark : List ℕ) (v : ℕ) (a b c : Moment) (was mid is : Type 0) → Goes mark v a b was mid → Goes mark v b c mid is → Goes mark v a c was is
+goes-then mark v a b c was mid is g h = record {
+  clean = λ x. g.clean (h.clean x);
+  grows = λ x. begins-then a.known b.known c.known (g.grows (h.clean x)) (h.grows x);
+  shown = λ x w.
+      first-then mark v c.known a.told b.told c.told
+      (first-more mark v b.known c.known a.told b.told (g.shown (h.clean x) w) (h.grows x))
+      (h.shown x (g.stays (h.clean x) w));
+  stays = λ x w. h.stays x (g.stays (h.clean x) w);
+}
+
+-- nothing happened
+pub goes-nothing : (mark : List ℕ) (v : ℕ) (a b : Moment) (was : Type 0) → b ≡ a → Goes mark v a b was was
+goes-nothing mark v a b was same = subst (λ (x : Moment). Goes mark v a x was was) (sym same) here where
+  here : Goes mark v a a was was
+  here = record {
+    clean = λ x. x;
+    grows = λ x. begins-same a.known;
+    shown = λ x w. first-none mark v a.known a.told a.told refl;
+    stays = λ x w. w;
+  }
+
+-- it read on, and sent nothing
+pub goes-silent : (mark : List ℕ) (v : ℕ) (known other : List EntryView) (p q : Bool) (s t : Option (List Traffic)) (was is : Type 0) → (IsTrue q → IsTrue p) → (IsTrue q → Begins known other)
+    → t ≡ s → (IsTrue q → was → is) → Goes mark v (moment known p s) (moment other q t) was is
+goes-silent mark v known other p q s t was is clean grows told stays = record {
+  clean = clean;
+  grows = grows;
+  shown = λ x w. first-none mark v other s t told;
+  stays = stays;
+}

@@ -1,0 +1,4 @@
+pub mod Pace
+pub mod State
+pub mod Shared
+pub mod Steps

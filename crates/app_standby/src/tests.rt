@@ -1,0 +1,189 @@
+//! A host over a log in memory to which another host appends.
+
+use crate::{SharedPlan, shared_run};
+use app_logs::Beat;
+use share_entries::{Entry, Source};
+use share_logged::{Learns, LoggedHost, resume};
+use share_store::{Log, MemoryHandle, MemoryLog, Outcome};
+use share_turns::{FakePort, HostPlan, Port, PortFault, RECEIVED};
+use std::alloc::Global;
+use std::test::Fail;
+
+const MARK: [u8; 32] = [7; 32];
+
+/// A port each of whose rests takes the same time. It counts the entries that it learns.
+#[derive(Drop)]
+struct Steady<P> {
+    port: P,
+    millis: u64,
+    rested: u64,
+    learned: usize,
+}
+
+impl<P: Port> Port for Steady<P> {
+    ghost failure_count = { λ p. P.failure_count p.port };
+
+    ghost rested = { λ p. p.rested };
+
+    fn send(&mut self, to: u16, bytes: &[u8]) -> Result<(), PortFault> {
+        self.port.send(to, bytes)
+    }
+
+    fn receive(&mut self, into: &mut [u8; RECEIVED]) -> Result<Option<(u16, usize)>, PortFault> {
+        self.port.receive(into)
+    }
+
+    fn failures(&self) -> u64 {
+        self.port.failures()
+    }
+
+    fn rest(&mut self, is_new: bool) -> u64 {
+        let _inner = self.port.rest(is_new);
+        let millis = self.millis.min(u64::MAX - self.rested);
+        self.rested += millis;
+        millis
+    }
+}
+
+impl<P: Port> Learns for Steady<P> {
+    fn learn(&mut self, entries: &[Entry]) -> Result<(), PortFault> {
+        self.learned = self.learned.saturating_add(entries.len());
+        Ok(())
+    }
+}
+
+/// A log with two handles whose first append has this outcome, if one is given.
+fn log(alloc: Global, first: Option<Outcome>) -> Result<MemoryLog, Fail> {
+    let mut plan = Vec::new(alloc);
+    if let Some(outcome) = first {
+        plan.push(outcome)?;
+    }
+    Ok(MemoryLog::new(alloc, 2, plan)?)
+}
+
+/// Appends a clock by the other host.
+fn append(log: &mut MemoryLog, time: i64) -> Result<(), Fail> {
+    let mut handle = log.handle(1);
+    if !handle.takes_appends() || time < 1 || time > 1000 {
+        return Err(Fail::from("the other host doesn't append"));
+    }
+    match handle.append(&[Entry::new(time, Source::Clock)]) {
+        Ok(()) => Ok(()),
+        Err(_fault) => Err(Fail::from("the other host doesn't append")),
+    }
+}
+
+fn begin(alloc: Global) -> Result<LoggedHost, Fail> {
+    match resume(alloc, MARK, 1, &[]) {
+        Ok(hosting) => Ok(hosting),
+        Err(_fault) => Err(Fail::from("memory was refused")),
+    }
+}
+
+/// Runs turns of a host that begins with an empty log, with rests of 300 milliseconds.
+fn run(
+    alloc: Global,
+    log: &mut MemoryLog,
+    clocks: &[i64],
+    standby: u64,
+    turns: u64,
+) -> Result<usize, Fail> {
+    let plan = SharedPlan {
+        host: HostPlan {
+            keep: None,
+            until: None,
+        },
+        beat: Beat {
+            every: None,
+            base: 0,
+        },
+        turns,
+        standby,
+        viewers: 1,
+    };
+    let mut port = Steady {
+        port: FakePort::failing_at(alloc, 0),
+        millis: 300,
+        rested: 0,
+        learned: 0,
+    };
+    let hosting = begin(alloc)?;
+    let mut handle = log.handle(0);
+    let ended = shared_run(alloc, hosting, clocks, &plan, &mut handle, &mut port);
+    let MemoryHandle { log: _, number: _ } = handle;
+    match ended {
+        Ok(()) => Ok(port.learned),
+        Err(_fault) => Err(Fail::from("a run ended")),
+    }
+}
+
+fn has_clocks(log: &MemoryLog, times: &[i64]) -> bool {
+    let entries = log.entries();
+    if entries.len() != times.len() {
+        return false;
+    }
+    for place in 0..times.len() {
+        if entries[place].time() != times[place] {
+            return false;
+        }
+    }
+    true
+}
+
+/// It stands by for a second: the other host's two entries are taken in turn 2, at 300
+/// milliseconds, and turn 6, at 1500, makes the first clock after them.
+#[test]
+fn follows_and_then_stands_in(rt: HostRuntime) -> Result<(), Fail> {
+    let mut log = log(rt.alloc(), None)?;
+    append(&mut log, 5)?;
+    append(&mut log, 6)?;
+    assert_eq!(rt; run(rt.alloc(), &mut log, &[5, 8], 1000, 5)?, 2);
+    assert!(rt; has_clocks(&log, &[5, 6]));
+    Ok(())
+}
+
+/// Turn 2 takes the entries at 300 milliseconds, and turn 6, at 1500, is the first after a second.
+#[test]
+fn makes_the_next_clock(rt: HostRuntime) -> Result<(), Fail> {
+    let mut log = log(rt.alloc(), None)?;
+    append(&mut log, 5)?;
+    append(&mut log, 6)?;
+    assert_eq!(rt; run(rt.alloc(), &mut log, &[5, 8, 9], 1000, 6)?, 3);
+    assert!(rt; has_clocks(&log, &[5, 6, 8]));
+    Ok(())
+}
+
+/// Turns 1 to 4 begin at 0, 300, 600 and 900 milliseconds.
+#[test]
+fn makes_no_clock_before_its_time(rt: HostRuntime) -> Result<(), Fail> {
+    let mut log = log(rt.alloc(), None)?;
+    assert_eq!(rt; run(rt.alloc(), &mut log, &[5], 1000, 4)?, 0);
+    assert_eq!(rt; run(rt.alloc(), &mut log, &[5], 1000, 5)?, 1);
+    Ok(())
+}
+
+/// The clock at 4 is refused, as the other host's at 5 is there: that is taken in turn 2.
+#[test]
+fn begins_again_if_it_is_taken(rt: HostRuntime) -> Result<(), Fail> {
+    let mut log = log(rt.alloc(), None)?;
+    append(&mut log, 5)?;
+    assert_eq!(rt; run(rt.alloc(), &mut log, &[4, 9], 0, 2)?, 2);
+    assert!(rt; has_clocks(&log, &[5, 9]));
+    Ok(())
+}
+
+#[test]
+fn finds_what_was_stored_in_doubt(rt: HostRuntime) -> Result<(), Fail> {
+    let mut log = log(rt.alloc(), Some(Outcome::InDoubtStored))?;
+    assert_eq!(rt; run(rt.alloc(), &mut log, &[5], 0, 3)?, 1);
+    assert!(rt; has_clocks(&log, &[5]));
+    Ok(())
+}
+
+#[test]
+fn makes_a_clock_again_that_was_lost_in_doubt(rt: HostRuntime) -> Result<(), Fail> {
+    let mut log = log(rt.alloc(), Some(Outcome::InDoubtLost))?;
+    assert_eq!(rt; run(rt.alloc(), &mut log, &[5], 0, 2)?, 1);
+    assert!(rt; has_clocks(&log, &[5]));
+    Ok(())
+}
