@@ -7,6 +7,7 @@
 //! | `clocks` | which clocks of a job are left after a log, and those that a host makes |
 //! | `hosting` | turns of a host over a log, until its plan is done |
 //! | `recalling`, `steps` | a log's file as the steps of a job |
+//! | `restoring` | a log of the first inputs of another |
 //! | `info` | what a log has, in lines |
 //! | `laws` | that `run` reads these steps as the log's inputs |
 //! | `fault`, `refusal` | faults, and what is printed of them |
@@ -20,6 +21,7 @@ mod info;
 mod laws;
 mod recalling;
 mod refusal;
+mod restoring;
 mod steps;
 
 pub use beginning::{Begun, go_on, make_log, resumed};
@@ -29,6 +31,7 @@ pub use hosting::{LogPlan, log_run};
 pub use laws::logs_run_again;
 pub use recalling::{recalled, recalled_info};
 pub use refusal::{log_refusal_line, log_status_of};
+pub use restoring::restored;
 pub use share_entries::{Entry, Head, is_viewer_count};
 pub use share_file::{Expected, FileLog};
 pub use share_logged::{LoggedFault, LoggedHost, resume};

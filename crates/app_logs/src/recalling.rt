@@ -28,9 +28,9 @@ use std::alloc::{AllocError, Global};
 
 /// A log that a file has.
 #[derive(Drop)]
-struct FoundLog {
-    head: Head,
-    entries: Vec<Entry>,
+pub(crate) struct FoundLog {
+    pub(crate) head: Head,
+    pub(crate) entries: Vec<Entry>,
     cut: u64,
 }
 
@@ -141,7 +141,7 @@ fn is_written(alloc: Global, found: &FoundLog) -> Result<(), LogFault>
 }
 
 /// Returns the first entries, or all.
-fn first_of(entries: &[Entry], until: Option<u32>) -> &[Entry]
+pub(crate) fn first_of(entries: &[Entry], until: Option<u32>) -> &[Entry]
     ensures { result.now ≡ first_of until entries.now }
 {
     match until {
@@ -176,7 +176,7 @@ fn info_of(
 }
 
 /// Finds the log that these bytes are, of entries that a host wrote.
-fn written_in(alloc: Global, bytes: &[u8]) -> Result<FoundLog, LogFault>
+pub(crate) fn written_in(alloc: Global, bytes: &[u8]) -> Result<FoundLog, LogFault>
     ensures found { IfOk result (λ f. (v : FileView) × (log_in bytes.now ≡ Ok v)
         × (v.head ≡ f.head) × (v.entries ≡ f.entries.items) × (v.cut ≡ f.cut)) }
     ensures log { IfOk result (λ f. IsLogOf f.head.viewers f.entries.items) }

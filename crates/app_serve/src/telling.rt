@@ -107,7 +107,11 @@ fn tell_more<R: Eprint>(rt: &R, world: Option<&WorldName>, end: &End) {
             world,
             "the file of --login has a user and a password, a line each",
         ),
-        End::EtcdSilent => tell(rt, world, "no etcd answers at the addresses of --etcd"),
+        End::EtcdSilent => tell(
+            rt,
+            world,
+            "no etcd at the addresses of --etcd answers, or it refuses the user",
+        ),
         End::EtcdMalformed => tell(rt, world, "what etcd has of this world is not a log"),
         End::NoWorldName => tell(
             rt,

@@ -7,12 +7,13 @@ use crate::host_job::{HostJob, job_in};
 use crate::hosts::{Starting, Turning, plan_of, read_clocks};
 use crate::reached::run_at;
 use crate::turns::HostTurns;
-use app_logs::{Begun, Log, LogFault, recalled, recalled_info, times_after};
+use app_logs::{Begun, Log, LogFault, recalled, recalled_info, restored, times_after};
 use app_program::{RunFault, read_whole, write_whole};
-use app_serve::{End, LogDisk, VIEWERS, disk_at, gone_on, made};
+use app_serve::{End, LogDisk, VIEWERS, disk_at, drawn_run, gone_on, made};
 use app_words::{HostOrder, LogUse, Order};
 use cascade_core::Stage;
 use script_boxes::StockScript;
+use sqlite_disk::Disk;
 use std::alloc::Global;
 use std::io;
 
@@ -131,6 +132,32 @@ pub fn host_over_log(
             drop(job);
             Err(end)
         }
+    }
+}
+
+/// Makes a log of the inputs of the log that these bytes are, or of the first of them, in a file,
+/// with a run drawn at random.
+fn made_back(
+    rt: &HostRuntime,
+    bytes: &[u8],
+    until: Option<u32>,
+    file: &str,
+) -> Result<(), LogFault> {
+    let run = drawn_run(rt)?;
+    let disk = disk_at(rt, file, LogUse::Makes)?;
+    if !disk.may_be_used() {
+        return Err(LogFault::Device);
+    }
+    let log = restored(rt.alloc(), disk, bytes, until, run)?;
+    drop(log);
+    Ok(())
+}
+
+/// Reads the file of a log, and makes another of its inputs, or of the first of them, in a file.
+pub fn recall_into(rt: &HostRuntime, until: Option<u32>, file: &str) -> Result<(), End> {
+    match read_whole(rt.alloc(), &mut rt.reader()) {
+        Ok(bytes) => Ok(made_back(rt, bytes.as_slice(), until, file)?),
+        Err(fault) => Err(End::from(RunFault::from(fault))),
     }
 }
 

@@ -24,7 +24,7 @@ ghost use Rattle.app_words.specs.Words.{HostInRange, IsInRange, ViewInRange};
 use crate::doors::HostTexts;
 use crate::etcd::{EtcdTexts, host_over_etcd};
 use crate::hosts::host;
-use crate::logs::{host_over_log, recall};
+use crate::logs::{host_over_log, recall, recall_into};
 use crate::parts::part;
 use crate::peers::{agree, rehearse};
 use crate::refused::{refused_job, refused_scene};
@@ -154,6 +154,14 @@ fn serve_as(rt: &HostRuntime, words: &[&str], asked: &ServeOrder) -> Result<(), 
     };
     let listen = text_of(rt.alloc(), words, "listen")?;
     serve_folder(rt, folder, listen, asked)
+}
+
+/// Makes a log of the inputs of another in the file that the words name.
+fn recall_as(rt: &HostRuntime, words: &[&str], until: Option<u32>) -> Result<(), End> {
+    match text_of(rt.alloc(), words, "new-log")? {
+        Some(file) => recall_into(rt, until, file),
+        None => Err(End::from(OrderFault::Words)),
+    }
 }
 
 /// Makes the files of keys in the folder that the words name.

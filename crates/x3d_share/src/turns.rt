@@ -2,13 +2,16 @@
 
 ghost use Rattle.std.specs.Prelude.{IsTrue};
 
-use app_logs::{Log, LogPlan, LoggedHost, RunFault as LogRunFault, log_run};
+use app_logs::{
+    Log, LogFault, LogPlan, LoggedHost, RunFault as LogRunFault, is_viewer_count, log_run,
+};
 use app_program::ShareFault;
 use app_serve::End;
+use app_standby::{SharedFault, SharedPlan, shared_run};
 use share_engine::{Engine, EtcdLog};
 use share_file::FileLog;
-use share_logged::Learns;
-use share_store::MemoryHandle;
+use share_logged::{Learns, ResumeFault};
+use share_store::{MemoryHandle, ReadFault};
 use sqlite_disk::Disk;
 use std::alloc::Global;
 
@@ -87,15 +90,47 @@ impl<D: Disk> HostLog for FileLog<D> {
     }
 }
 
+/// Returns why the turns of a host over a shared log ended early.
+fn shared_end(fault: SharedFault) -> End {
+    match fault {
+        SharedFault::TurnsUsedUp => End::from(ShareFault::TurnsUsedUp),
+        SharedFault::Turn(fault) => End::from(fault),
+        SharedFault::Read(ReadFault::Memory) => End::Log(LogFault::Memory),
+        SharedFault::Read(ReadFault::Silent) => End::EtcdSilent,
+        SharedFault::Read(ReadFault::Device) => End::EtcdMalformed,
+        SharedFault::Resume(ResumeFault::NotALog(number)) => End::Log(LogFault::NotALog(number)),
+        SharedFault::Resume(ResumeFault::Memory) => End::Log(LogFault::Memory),
+    }
+}
+
+/// Returns what a host does over a log that other hosts share.
+fn shared_plan(turns: &HostTurns) -> SharedPlan {
+    SharedPlan {
+        host: turns.plan.host,
+        beat: turns.plan.beat,
+        turns: turns.plan.turns,
+        standby: u64::from(turns.standby) * 1_000,
+        viewers: turns.viewers,
+    }
+}
+
 impl<E: Engine> HostLog for EtcdLog<E> {
     fn run<P: Learns>(
         &mut self,
-        _alloc: Global,
+        alloc: Global,
         hosting: LoggedHost,
         clocks: &[i64],
         turns: &HostTurns,
         port: &mut P,
     ) -> Result<(), End> {
-        run_alone(self, hosting, clocks, turns, port)
+        if !is_viewer_count(turns.viewers) {
+            drop(hosting);
+            return Err(End::Log(LogFault::BadHead));
+        }
+        let plan = shared_plan(turns);
+        match shared_run(alloc, hosting, clocks, &plan, self, port) {
+            Ok(()) => Ok(()),
+            Err(fault) => Err(shared_end(fault)),
+        }
     }
 }
