@@ -3,6 +3,7 @@ pub mod Keeping
 pub mod Showing
 pub mod Gathering
 pub mod Resuming
+pub mod Parts
 pub mod Sent
 pub mod Turning
 pub mod Places

@@ -1,6 +1,7 @@
 pub mod Logged
 pub mod Making
 pub mod Entries
+pub mod Following
 pub mod Resuming
 pub mod Hosting
 pub mod Turn

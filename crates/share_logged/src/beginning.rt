@@ -3,7 +3,7 @@
 ghost use Rattle.std.specs.Prelude.{◌≡◌, ◌≤◌, pos, ◌≤ℤ◌, IfErr, IfOk, OnOk};
 ghost use Rattle.share_entries.specs.declared.entry.Source.TheVariants as source;
 ghost use Rattle.share_entries.specs.declared.entry.Source.TheVariants.{Clock};
-ghost use Rattle.x3d_values.specs.Ranges.{max_time, max_viewers};
+ghost use Rattle.x3d_values.specs.Ranges.{max_viewers};
 ghost use Rattle.share_law.specs.Parts.{part_of};
 ghost use Rattle.share_turns.specs.Attendance.{none_heard};
 ghost use Rattle.laws_hosts.specs.Log.{host_of};
@@ -60,13 +60,13 @@ fn make_offer(
     number: u32,
 ) -> Result<(), ResumeFault>
     requires last { last ≡ host.old.part.last }
-    requires most { last ≤ℤ pos max_time }
+    requires from { pos 0 ≤ℤ last }
     ensures mark { host.new.mark ≡ host.old.mark }
     ensures made { OnOk result (PartMakesOf host.old.part time (source.Offer offer) host.new.part) }
     ensures refused { IfErr result
         (λ fault. IsMadeNot host.old.part time (source.Offer offer) number fault) }
 {
-    if time != last + 1 {
+    if time < 1 || time - 1 != last {
         return Err(ResumeFault::NotALog(number));
     }
     let message = Message {
@@ -77,9 +77,14 @@ fn make_offer(
 }
 
 /// Numbers the input of an entry, after one at time `last`.
-fn make(host: &mut Host, last: i64, entry: &Entry, number: u32) -> Result<(), ResumeFault>
+pub(crate) fn make(
+    host: &mut Host,
+    last: i64,
+    entry: &Entry,
+    number: u32,
+) -> Result<(), ResumeFault>
     requires last { last ≡ host.old.part.last }
-    requires most { last ≤ℤ pos max_time }
+    requires from { pos 0 ≤ℤ last }
     ensures mark { host.new.mark ≡ host.old.mark }
     ensures made { OnOk result (PartMakes host.old.part entry.now host.new.part) }
     ensures refused { IfErr result

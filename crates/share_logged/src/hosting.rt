@@ -51,6 +51,13 @@ impl LoggedHost {
         host
     }
 
+    /// Returns the mark of its scene.
+    pub fn mark(&self) -> [u8; 32]
+        ensures { result ≡ self.now.mark }
+    {
+        self.host.mark()
+    }
+
     /// Returns the number of entries, which are the inputs of the world: at most 2^20.
     pub fn len(&self) -> u32
         ensures { result ≡ self.now.part.count }

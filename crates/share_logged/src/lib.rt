@@ -4,6 +4,7 @@
 //! | Modules | Content |
 //! |---|---|
 //! | `beginning` | a host that begins with the entries of a log |
+//! | `following` | a host that takes entries that other hosts have stored |
 //! | `entries`, `pending`, `gather` | what a turn takes, and the entries that it numbers |
 //! | `turn` | a turn: it stores what was numbered, and then answers |
 //! | `learning` | a port that learns the stored entries |
@@ -13,6 +14,7 @@
 mod beginning;
 mod entries;
 mod fault;
+mod following;
 mod gather;
 mod hosting;
 mod learning;
@@ -21,6 +23,7 @@ mod turn;
 
 pub use beginning::resume;
 pub use fault::{LoggedFault, ResumeFault};
+pub use following::follow;
 pub use gather::{clock_entry, read_entry};
 pub use hosting::LoggedHost;
 pub use learning::Learns;

@@ -1,6 +1,6 @@
 //! Turns over a log in memory.
 
-use crate::{LoggedFault, LoggedHost, ResumeFault, logged_turn, resume};
+use crate::{LoggedFault, LoggedHost, ResumeFault, follow, logged_turn, resume};
 use share_entries::{Entry, Source};
 use share_store::{AppendFault, Log, MemoryHandle, MemoryLog, Outcome};
 use share_turns::{Bytes, Datagram, FakePort, Traffic};
@@ -115,5 +115,22 @@ fn names_the_entry_that_no_host_wrote(rt: HostRuntime) -> Result<(), Fail> {
     let entries = [Entry::new(5, Source::Clock), late];
     let answer = resume(rt.alloc(), MARK, 1, &entries).err();
     assert!(rt; answer == Some(ResumeFault::NotALog(2)));
+    Ok(())
+}
+
+/// A clock and an offer of another host, and then an entry that no host wrote there.
+#[test]
+fn follows_what_another_host_wrote(rt: HostRuntime) -> Result<(), Fail> {
+    let clock = Entry::new(5, Source::Clock);
+    let offer = Entry::new(6, Source::Offer(first_offer()?));
+    let hosting = begin(rt.alloc(), &[])?;
+    let Ok(after) = follow(hosting, &[clock, offer]) else {
+        return Err(Fail::from("a log isn't followed"));
+    };
+    assert_eq!(rt; after.len(), 2);
+    assert_eq!(rt; after.last(), 6);
+    assert!(rt; after.mark() == MARK);
+    let answer = follow(after, &[Entry::new(8, Source::Clock), offer]).err();
+    assert!(rt; answer == Some(ResumeFault::NotALog(4)));
     Ok(())
 }
