@@ -2,7 +2,6 @@ use Rattle.std.proofs.Common.{rules, ◌+◌, ◌≡◌, ap, sym, subst, ◌∙�
 use Rattle.std.specs.Prelude.{Err}
 use Rattle.std.proofs.lemmas.Int.{to_z-of_z}
 use Rattle.std.proofs.lemmas.List.{take_all}
-use Rattle.share_law.specs.Parts.{HostPart}
 use Rattle.share_logged.specs.Following.{PartsMake}
 use Rattle.share_logged.proofs.Parts.{made-next, stops-at}
 use Rattle.share_logged.proofs.Keeping.{makes-grown}
