@@ -1,9 +1,5 @@
 -- A host takes entries, one after another.
-<<<<<<< HEAD
-use Rattle.std.proofs.Common.{◌≡◌, ℕ, zero, suc, ◌+◌, ◌<◌, ◌≤◌, List, [], ◌∷◌, ◌++◌, length, get_or, take, drop, refl, ap, sym, ◌∙◌, subst, arith, append_assoc, append-nil}
-=======
 use Rattle.std.proofs.Common.{◌≡◌, ℕ, zero, suc, ◌+◌, ◌<◌, List, [], ◌∷◌, ◌++◌, length, get_or, take, drop, refl, ap, sym, subst, arith, append_assoc, append-nil}
->>>>>>> 744b3dbf585e345897632e0244e40b464bfa60ec
 use Rattle.share_entries.specs.Entry.{EntryView}
 use Rattle.share_law.specs.Parts.{HostPart}
 use Rattle.share_logged.specs.declared.fault.ResumeFault.{ResumeFault}

@@ -1,8 +1,4 @@
-<<<<<<< HEAD
-use Rattle.std.proofs.Common.{rules, FitsSigned, w64, subst, sym}
-=======
 use Rattle.std.proofs.Common.{rules, FitsSigned, w64}
->>>>>>> 744b3dbf585e345897632e0244e40b464bfa60ec
 use Rattle.std.proofs.lemmas.Int.{to_z-of_z}
 use Rattle.share_logged.specs.Following.{PartsMake}
 use Rattle.share_logged.proofs.Parts.{of-made}
