@@ -8,3 +8,4 @@ mod EntryLines
 mod Again
 pub mod Passed
 mod Beats
+pub mod Firsts
