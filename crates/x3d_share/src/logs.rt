@@ -143,6 +143,8 @@ fn made_back(
     until: Option<u32>,
     file: &str,
 ) -> Result<(), LogFault> {
+    // No file is made for a log that is refused.
+    drop(recalled_info(rt.alloc(), bytes, until)?);
     let run = drawn_run(rt)?;
     let disk = disk_at(rt, file, LogUse::Makes)?;
     if !disk.may_be_used() {
