@@ -1,0 +1,141 @@
+"""The log that etcd has of a world, over etcd's JSON gateway: crates/share_etcd/README.md has its keys and their values."""
+import base64
+import http.client
+import json
+import urllib.error
+import urllib.request
+
+import log_file
+
+# The most frames that one request reads, and the seconds that it is given.
+FRAMES, PATIENCE = 64, 30
+# No proxy stands between this machine and etcd.
+OPENER = urllib.request.build_opener(urllib.request.ProxyHandler({}))
+# What a tail says before the first entry.
+NONE = b"0" * 16
+
+
+class Refused(Exception):
+    """Why there is no log, or none was put."""
+
+
+def post(address, path, body, patience=PATIENCE):
+    """What etcd at an address answers."""
+    request = urllib.request.Request(f"http://{address}{path}", json.dumps(body).encode())
+    try:
+        with OPENER.open(request, timeout=patience) as answer:
+            return json.load(answer)
+    except urllib.error.HTTPError as fault:
+        raise Refused(f"etcd at {address}: {fault.read().decode(errors='replace').strip() or fault}") from None
+    except (OSError, ValueError, http.client.HTTPException) as fault:
+        raise Refused(f"etcd at {address}: {fault}") from None
+
+
+# ---- keys and requests
+
+
+def coded(data):
+    return base64.b64encode(data).decode()
+
+
+def key_of(name, part):
+    return f"x3d/{name}/{part}".encode()
+
+
+def digits(number):
+    return b"%016x" % number
+
+
+def log_key(name, number):
+    return key_of(name, "log/") + digits(number)
+
+
+def absent(key):
+    return {"key": coded(key), "target": "CREATE", "result": "EQUAL", "create_revision": "0"}
+
+
+def unchanged(key, revision):
+    return {"key": coded(key), "target": "MOD", "result": "EQUAL", "mod_revision": str(revision)}
+
+
+def put(key, value):
+    return {"request_put": {"key": coded(key), "value": coded(value)}}
+
+
+def making_body(name, head):
+    """The transaction that makes a world, if there is none."""
+    keys = key_of(name, "head"), key_of(name, "tail")
+    return {"compare": [absent(key) for key in keys], "success": [put(keys[0], head), put(keys[1], NONE)]}
+
+
+def append_body(name, known, first, last, frame):
+    """The transaction that appends a frame, if head and tail were last changed at these revisions."""
+    keys = key_of(name, "head"), key_of(name, "tail")
+    return {"compare": [unchanged(*each) for each in zip(keys, known)],
+            "success": [put(log_key(name, first), frame), put(keys[1], digits(last))]}
+
+
+def done(address, body, patience=PATIENCE):
+    """The revision at which a transaction was done, or None if it wasn't."""
+    answer = post(address, "/v3/kv/txn", body, patience)
+    return int(answer["header"]["revision"]) if answer.get("succeeded") else None
+
+
+# ---- reading
+
+
+def ranged(address, revision, key, end=b""):
+    """What etcd has from a key on, below the end: the answer, and the keys with their values."""
+    body = {"key": coded(key), "range_end": coded(end), "revision": str(revision), "limit": str(FRAMES)}
+    answer = post(address, "/v3/kv/range", body)
+    found = [(base64.b64decode(each["key"]), base64.b64decode(each.get("value", ""))) for each in answer.get("kvs", [])]
+    return answer, found
+
+
+def frames_of(address, revision, name):
+    """The keys and the values of all frames, of one revision."""
+    key, more = log_key(name, 0), True
+    while more:
+        answer, found = ranged(address, revision, key, key_of(name, "log0"))
+        yield from found
+        more = found and answer.get("more")
+        key = found[-1][0] + b"\0" if found else key
+
+
+def payloads_of(address, name):
+    """The payloads of a world's log, the head before the frames, and the number of its last entry."""
+    answer, found = ranged(address, 0, key_of(name, "head"))
+    revision = answer["header"]["revision"]
+    tail = ranged(address, revision, key_of(name, "tail"))[1]
+    if not found or not tail:
+        raise Refused(f"etcd has no world {name}")
+    head = found[0][1]
+    if head != log_file.head_again(head):
+        raise Refused("the head is damaged")
+    payloads, chain, last = [head], head[40:56], 0
+    for key, frame in frames_of(address, revision, name):
+        entries = log_file.read_entries(chain, last + 1, frame)
+        if key != log_key(name, last + 1) or not entries:
+            raise Refused(f"the frame after entry {last} is damaged")
+        payloads.append(frame)
+        chain, last = entries[1], last + len(entries[0])
+    if digits(last) != tail[0][1]:
+        raise Refused(f"the frames end at entry {last}, and the tail is {tail[0][1].decode(errors='replace')}")
+    return payloads, last
+
+
+# ---- writing
+
+
+def put_log(address, name, payloads):
+    """Makes a world with the log of these payloads, where there is none. The number of its last entry."""
+    made = done(address, making_body(name, payloads[0]))
+    if made is None:
+        raise Refused(f"etcd has a world {name}")
+    tail, last = made, 0
+    for frame in payloads[1:]:
+        first, last = last + 1, last + int.from_bytes(frame[1:3], "big")
+        tail = done(address, append_body(name, (made, tail), first, last, frame))
+        if tail is None:
+            raise Refused(f"another host has appended to {name} after entry {first - 1}")
+    return last
