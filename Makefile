@@ -2,7 +2,7 @@
 SHELL := bash
 .SHELLFLAGS := -eu -o pipefail -c
 .PHONY: run try unproved quick picture room test-room test-room-quick measure-room room-library \
-        share soak kill hostile worlds logs fuzz test cases prefixes refusals check definitions calls \
+        share soak kill hostile worlds cluster logs fuzz test cases prefixes refusals check definitions calls \
         bench growth format install library library-unproved bindings fuzz-library wasm \
         dist test-dist abi site
 
@@ -115,6 +115,14 @@ hostile:
 worlds:
 	@cd crates/x3d_share && $(RT) run -- --version > /dev/null
 	@scripts/worlds
+
+# Proves and builds the program, and kills hosts that share a log in etcd, the etcd that leads, and viewers, for SECONDS;
+# then two begin a world or append to it at once, 300 times. Wants etcd.
+SECONDS ?= 60
+cluster:
+	@cd crates/x3d_share && $(RT) run -- --version > /dev/null
+	@scripts/cluster $(SECONDS)
+	@scripts/cluster --races
 
 # Proves and builds the program, and gives it FILES that are no whole log, and logs after CUTS of the power.
 FILES ?= 10000

@@ -7,8 +7,8 @@ import urllib.request
 
 import log_file
 
-# The most frames that one request reads, and the seconds that it is given.
-FRAMES, PATIENCE = 64, 30
+# The most frames that one request reads or puts, the most bytes that it puts, and the seconds that it is given.
+FRAMES, BYTES, PATIENCE = 64, 2**19, 30
 # No proxy stands between this machine and etcd.
 OPENER = urllib.request.build_opener(urllib.request.ProxyHandler({}))
 # What a tail says before the first entry.
@@ -68,11 +68,12 @@ def making_body(name, head):
     return {"compare": [absent(key) for key in keys], "success": [put(keys[0], head), put(keys[1], NONE)]}
 
 
-def append_body(name, known, first, last, frame):
-    """The transaction that appends a frame, if head and tail were last changed at these revisions."""
+def append_body(name, known, frames, last):
+    """The transaction that appends frames, each with the number of its first entry, if head and tail were last changed at
+    these revisions."""
     keys = key_of(name, "head"), key_of(name, "tail")
-    return {"compare": [unchanged(*each) for each in zip(keys, known)],
-            "success": [put(log_key(name, first), frame), put(keys[1], digits(last))]}
+    puts = [put(log_key(name, first), frame) for first, frame in frames]
+    return {"compare": [unchanged(*each) for each in zip(keys, known)], "success": [*puts, put(keys[1], digits(last))]}
 
 
 def done(address, body, patience=PATIENCE):
@@ -127,15 +128,26 @@ def payloads_of(address, name):
 # ---- writing
 
 
+def parts_of(frames):
+    """Frames, each with the number of its first entry, in parts that a transaction takes, each with its last entry."""
+    part, size, last = [], 0, 0
+    for frame in frames:
+        if part and (len(part) == FRAMES or size + len(frame) > BYTES):
+            yield part, last
+            part, size = [], 0
+        part.append((last + 1, frame))
+        size, last = size + len(frame), last + int.from_bytes(frame[1:3], "big")
+    if part:
+        yield part, last
+
+
 def put_log(address, name, payloads):
-    """Makes a world with the log of these payloads, where there is none. The number of its last entry."""
+    """Makes a world with the log of these payloads, where there is none."""
     made = done(address, making_body(name, payloads[0]))
     if made is None:
         raise Refused(f"etcd has a world {name}")
-    tail, last = made, 0
-    for frame in payloads[1:]:
-        first, last = last + 1, last + int.from_bytes(frame[1:3], "big")
-        tail = done(address, append_body(name, (made, tail), first, last, frame))
+    tail = made
+    for part, last in parts_of(payloads[1:]):
+        tail = done(address, append_body(name, (made, tail), part, last))
         if tail is None:
-            raise Refused(f"another host has appended to {name} after entry {first - 1}")
-    return last
+            raise Refused(f"another host has appended to {name} before entry {part[0][0]}")

@@ -86,18 +86,25 @@ def whole_frames(data):
     return payloads, data
 
 
+def texts_of(payload):
+    """The bytes of each entry of a frame, as far as they are there."""
+    at = 11
+    for _ in range(int.from_bytes(payload[1:3], "big")):
+        text = payload[at:at + (67 if payload[at + 8:at + 9] == b"\1" else 9)]
+        yield text
+        at += len(text)
+
+
 def read_entries(chain, first, payload):
     """The entries of a frame and the chain after them, or None if it isn't the next of a log."""
     if len(payload) < 11 or payload[0] != ENTRIES or int.from_bytes(payload[3:11], "big") != first:
         return None
     entries, at = [], 11
-    for _ in range(int.from_bytes(payload[1:3], "big")):
-        size = 67 if payload[at + 8:at + 9] == b"\1" else 9
-        text = payload[at:at + size]
-        if len(text) < size or text[8] > 1:
+    for text in texts_of(payload):
+        if len(text) < 9 or text[8] > 1 or len(text) < (67 if text[8] else 9):
             return None
         entries.append(Entry(int.from_bytes(text[:8], "big"), text[9] if text[8] else None))
-        chain, at = digest(chain + text, 16), at + size
+        chain, at = digest(chain + text, 16), at + len(text)
     return (entries, chain) if payload[at:] == chain else None
 
 
