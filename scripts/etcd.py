@@ -19,6 +19,13 @@ class Refused(Exception):
     """Why there is no log, or none was put."""
 
 
+def message_of(fault):
+    try:
+        return json.load(fault)["message"]
+    except (OSError, ValueError, KeyError, http.client.HTTPException):
+        return fault
+
+
 def post(address, path, body, patience=PATIENCE):
     """What etcd at an address answers."""
     request = urllib.request.Request(f"http://{address}{path}", json.dumps(body).encode())
@@ -26,9 +33,15 @@ def post(address, path, body, patience=PATIENCE):
         with OPENER.open(request, timeout=patience) as answer:
             return json.load(answer)
     except urllib.error.HTTPError as fault:
-        raise Refused(f"etcd at {address}: {fault.read().decode(errors='replace').strip() or fault}") from None
+        raise Refused(f"etcd at {address}: {message_of(fault)}") from None
     except (OSError, ValueError, http.client.HTTPException) as fault:
         raise Refused(f"etcd at {address}: {fault}") from None
+
+
+def log_in(address, name, password):
+    """Logs in; what is posted from then on is posted as this user."""
+    token = post(address, "/v3/auth/authenticate", {"name": name, "password": password})["token"]
+    OPENER.addheaders.append(("Authorization", token))
 
 
 # ---- keys and requests
