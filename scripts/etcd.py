@@ -1,4 +1,4 @@
-"""The log that etcd has of a world, over etcd's JSON gateway: crates/share_etcd/README.md has its keys and their values."""
+"""The log that etcd has of a world, over etcd's JSON gateway. crates/share_etcd/README.md has its keys and values."""
 import base64
 import http.client
 import json
@@ -82,8 +82,8 @@ def making_body(name, head):
 
 
 def append_body(name, known, frames, last):
-    """The transaction that appends frames, each with the number of its first entry, if head and tail were last changed at
-    these revisions."""
+    """The transaction that appends frames, each with the number of its first entry, if head and tail were last changed
+    at these revisions."""
     keys = key_of(name, "head"), key_of(name, "tail")
     puts = [put(log_key(name, first), frame) for first, frame in frames]
     return {"compare": [unchanged(*each) for each in zip(keys, known)], "success": [*puts, put(keys[1], digits(last))]}

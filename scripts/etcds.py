@@ -64,11 +64,12 @@ class Etcds:
     def start(self, number):
         cluster = ",".join(f"e{each}={peer}" for each, peer in enumerate(self.peers))
         mine, peer = f"http://{self.addresses[number]}", self.peers[number]
-        words = [PROGRAM, "--name", f"e{number}", "--data-dir", self.folder / f"e{number}", "--initial-cluster", cluster,
+        name = f"e{number}"
+        words = [PROGRAM, "--name", name, "--data-dir", self.folder / name, "--initial-cluster", cluster,
                  "--listen-client-urls", mine, "--advertise-client-urls", mine, "--listen-peer-urls", peer,
                  "--initial-advertise-peer-urls", peer, "--logger", "zap", "--log-outputs", "stderr",
                  "--log-level", "error"]
-        with open(self.folder / f"e{number}.err", "ab") as told:
+        with open(self.folder / f"{name}.err", "ab") as told:
             self.processes[number] = subprocess.Popen(words, stdin=subprocess.DEVNULL, stdout=told, stderr=told)
 
     def status(self, number):

@@ -35,7 +35,7 @@ def host_of(folder, address, name, port, second):
 
 
 def race_of_hosts(folder, address, name, ports):
-    """Two hosts make a world at once, and number a clock each. Where the later clock is first, the other one is dropped."""
+    """Two hosts make a world at once, and number a clock each. If the later one is first, the other is dropped."""
     hosts = [host_of(folder, address, name, port, second) for port, second in zip(ports, (1, 2))]
     told = []
     for host in hosts:
@@ -50,7 +50,7 @@ def race_of_hosts(folder, address, name, ports):
 
 
 def race_of_appends(address, name, known, chain, last):
-    """Two append a clock each at the same number by the same revisions at once. The revision and the entry of who won."""
+    """Two append a clock each at one number by the same revisions at once. The revision and the entry of who won."""
     entries = [log_file.clock(1000 * (2 * last + who + 1)) for who in range(2)]
     together = threading.Barrier(2)
 

@@ -1,4 +1,4 @@
-"""What looks at a world whose log etcd has while it runs: a viewer that keeps its acks, the log's growth, and copies of it."""
+"""What looks at a world whose log etcd has while it runs: a viewer that keeps its acks, how the log grows, copies."""
 import base64
 import http.client
 import json
@@ -79,8 +79,8 @@ class Offering(Thread):
                     self.turn()
                     heard = time.monotonic()
                 continue
-            if boot > self.viewer.boot or (boot == self.viewer.boot and count > self.offered):
-                raise ValueError(f"an ack of boot {boot}, offer {count}, after offer {self.offered} of {self.viewer.boot}")
+            if (boot, count) > (self.viewer.boot, self.offered):
+                raise ValueError(f"an ack of boot {boot}, offer {count}, after {self.viewer.boot}, {self.offered}")
             self.acked[boot] = max(count, self.acked.get(boot, 0))
             if (boot, count) == (self.viewer.boot, self.offered):
                 return
