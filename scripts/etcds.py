@@ -101,6 +101,9 @@ class Etcds:
                 return number
         return None
 
+    def signal(self, number, signal):
+        self.processes[number].send_signal(signal)
+
     def kill(self, number):
         self.processes[number].kill()
         self.processes[number].wait()

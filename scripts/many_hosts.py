@@ -2,6 +2,7 @@
 import signal
 import subprocess
 import time
+from collections import Counter
 from pathlib import Path
 
 import wire
@@ -36,7 +37,7 @@ class World:
         self.folder, self.chance, self.etcds, self.losses = Path(folder), chance, etcds, losses
         self.ports, self.hosts, self.starts, self.due = free_ports(hosts), {}, [0] * hosts, []
         self.viewers, self.boots, self.ways, self.texts, self.deaths = {}, {}, {}, [], []
-        self.killed, self.away, self.held = dict.fromkeys(("host", "leader", "viewer", "held"), 0), None, set()
+        self.killed, self.is_away, self.held = Counter(), False, set()
         self.refused, self.unwelcome, self.late = 0, 0, 0
         clocks = [f"clock {number}\n" for number in range(1, 11)]
         (self.folder / "clocks").write_bytes("".join(clocks).encode() + SCENE)
@@ -103,7 +104,7 @@ class World:
             process = self.hosts[number]
             process.send_signal(signal.SIGSTOP)
             self.held.add(number)
-            self.died("held")
+            self.died("host held")
             self.after(self.chance.choice(HELD), lambda: self.release(number))
 
     def release(self, number):
@@ -119,18 +120,32 @@ class World:
 
     # ---- etcd
 
-    def kill_leader(self):
-        """Kills the etcd that leads, unless one is away."""
-        if self.away is None and self.etcds.all_are_back():
-            self.away = self.etcds.leader()
-            if self.away is not None:
-                self.etcds.kill(self.away)
-                self.died("leader")
-                self.after(self.chance.choice(AWAY), self.start_etcd)
+    def found_leader(self):
+        """The etcd that leads, or None if none does or one is away."""
+        return self.etcds.leader() if not self.is_away and self.etcds.all_are_back() else None
 
-    def start_etcd(self):
-        self.etcds.start(self.away)
-        self.away = None
+    def kill_leader(self):
+        if (number := self.found_leader()) is not None:
+            self.etcds.kill(number)
+            self.is_away = True
+            self.died("leader")
+            self.after(self.chance.choice(AWAY), lambda: self.start_etcd(number))
+
+    def start_etcd(self, number):
+        self.etcds.start(number)
+        self.is_away = False
+
+    def hold_leader(self):
+        """Holds the etcd that leads: it takes requests, and doesn't answer."""
+        if (number := self.found_leader()) is not None:
+            self.etcds.signal(number, signal.SIGSTOP)
+            self.is_away = True
+            self.died("leader held")
+            self.after(self.chance.choice(HELD), lambda: self.release_etcd(number))
+
+    def release_etcd(self, number):
+        self.etcds.signal(number, signal.SIGCONT)
+        self.is_away = False
 
     # ---- viewers
 
@@ -188,15 +203,16 @@ class World:
             if who not in self.viewers:
                 self.start_viewer(who, tail + self.chance.randint(20, 200))
 
-    def live(self, seconds, tail):
-        """Kills and starts for so many seconds, and then lets the viewers come to their ends."""
+    def live(self, seconds, apart, tail):
+        """Kills and starts for so many seconds, so many apart, and then lets the viewers come to their ends."""
+        deaths = [self.kill_host, self.hold_host, self.kill_leader, self.hold_leader, self.kill_viewer]
         ends, next_death = time.monotonic() + seconds, time.monotonic() + 1
         while (now := time.monotonic()) < ends:
             self.turn(tail.tail, True)
             if now >= next_death:
-                next_death = now + 1
+                next_death = now + apart
                 self.come_late(tail.tail)
-                self.chance.choice([self.kill_host, self.hold_host, self.kill_leader, self.kill_viewer])()
+                self.chance.choice(deaths)()
             time.sleep(0.02)
         limit = time.monotonic() + 120 * load()
         while self.viewers or self.due:

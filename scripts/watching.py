@@ -42,7 +42,7 @@ class Offering(Thread):
 
     def __init__(self, hosts, mark, who):
         super().__init__()
-        self.hosts, self.at, self.acked, self.turns, self.offered = hosts, 0, {}, 0, 0
+        self.hosts, self.at, self.acked, self.turns, self.offered, self.waits = hosts, 0, {}, 0, 0, []
         self.viewer = sessions.Viewer(hosts[0], mark, who)
         self.viewer.arrive()
         self.run_of_all = self.viewer.run
@@ -68,7 +68,7 @@ class Offering(Thread):
 
     def offer(self, packet):
         """Offers a point until it is acked, or all is over."""
-        heard = time.monotonic()
+        began = heard = time.monotonic()
         while not self.ended:
             self.viewer.tell(packet)
             try:
@@ -83,6 +83,7 @@ class Offering(Thread):
                 raise ValueError(f"an ack of boot {boot}, offer {count}, after {self.viewer.boot}, {self.offered}")
             self.acked[boot] = max(count, self.acked.get(boot, 0))
             if (boot, count) == (self.viewer.boot, self.offered):
+                self.waits.append(heard - began)
                 return
 
 
