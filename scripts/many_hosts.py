@@ -75,11 +75,10 @@ class World:
                 time.sleep(0.05)
 
     def look_at_hosts(self):
-        """A host may end by itself as it starts, if etcd didn't answer. One that is alone may also end where an append
-        is in doubt. It is started again."""
+        """A host may end by itself as it starts, if etcd doesn't answer. It is started again."""
         for number, process in list(self.hosts.items()):
             status = process.poll()
-            if status == 4 and (len(self.ports) == 1 or "bound to port" not in self.host_told(number)):
+            if status == 4 and self.host_told(number).startswith("refused EtcdSilent\n"):
                 self.refused += 1
                 self.start_host(number)
             elif status is not None:
