@@ -39,7 +39,7 @@ class World:
         self.viewers, self.boots, self.ways, self.texts, self.deaths = {}, {}, {}, [], []
         self.killed, self.is_away, self.held = Counter(), False, set()
         self.refused, self.unwelcome, self.late = 0, 0, 0
-        clocks = [f"clock {number}\n" for number in range(1, 11)]
+        clocks = [f"clock {wire.numeral(50_000 * number)}\n" for number in range(1, 11)]
         (self.folder / "clocks").write_bytes("".join(clocks).encode() + SCENE)
         for who in range(OFFERING):
             count = POINTS if who < POINTING else 0
