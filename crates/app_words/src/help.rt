@@ -115,7 +115,7 @@ the time that has passed since, so the world stands still while no host runs.
 With --etcd ADDRESS:PORT[,..] and --world NAME the log is in etcd, and other hosts may share it. The
 first of them makes it. Each numbers what reaches it; a viewer that one doesn't answer turns to the
 next (`view --host A,B`). With --standby SECONDS a host makes clocks only once no other host has
-made an input for so long. A host that etcd doesn't answer numbers nothing. The user's name and the
+made an input for so long. A host that etcd doesn't answer is silent. The user's name and the
 password are two lines of the file that --login names. Nothing is encrypted on the way to etcd.
 
 Examples:
