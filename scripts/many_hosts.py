@@ -39,11 +39,7 @@ class World:
         self.viewers, self.boots, self.ways, self.texts, self.deaths = {}, {}, {}, [], []
         self.killed, self.is_away, self.held = Counter(), False, set()
         self.refused, self.unwelcome, self.late = 0, 0, 0
-<<<<<<< HEAD
-        clocks = [f"clock {number}\n" for number in range(1, 11)]
-=======
         clocks = [f"clock {wire.numeral(50_000 * number)}\n" for number in range(1, 11)]
->>>>>>> ba6998d3b80e6dbd9bdd326b4e05e2b5460dbadb
         (self.folder / "clocks").write_bytes("".join(clocks).encode() + SCENE)
         for who in range(OFFERING):
             count = POINTS if who < POINTING else 0
@@ -79,18 +75,10 @@ class World:
                 time.sleep(0.05)
 
     def look_at_hosts(self):
-<<<<<<< HEAD
-        """A host may end by itself as it starts, if etcd didn't answer. One that is alone may also end where an append
-        is in doubt. It is started again."""
-        for number, process in list(self.hosts.items()):
-            status = process.poll()
-            if status == 4 and (len(self.ports) == 1 or "bound to port" not in self.host_told(number)):
-=======
         """A host may end by itself as it starts, if etcd doesn't answer. It is started again."""
         for number, process in list(self.hosts.items()):
             status = process.poll()
             if status == 4 and self.host_told(number).startswith("refused EtcdSilent\n"):
->>>>>>> ba6998d3b80e6dbd9bdd326b4e05e2b5460dbadb
                 self.refused += 1
                 self.start_host(number)
             elif status is not None:

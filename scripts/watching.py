@@ -11,11 +11,7 @@ import sessions
 import wire
 
 # How many points are offered in one boot, and how long an ack may take before a point is offered again.
-<<<<<<< HEAD
-POINTS, AGAIN = 40, 0.3
-=======
 POINTS, AGAIN = 40, 0.1
->>>>>>> ba6998d3b80e6dbd9bdd326b4e05e2b5460dbadb
 # Seconds after which a silent host is left, and the fewest between two points.
 SILENT, REST = 2, 0.02
 
