@@ -1,0 +1,4 @@
+mod Sets
+mod Lasting
+mod Readings
+mod Keeping
