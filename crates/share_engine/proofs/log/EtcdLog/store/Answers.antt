@@ -10,18 +10,18 @@ use Rattle.share_engine.proofs.log.EtcdLog.store.Goals as goal
 pub invariant_of-self-in-Ok-None : goal.invariant_of-self-in-Ok-None
 invariant_of-self-in-Ok-None g c =
     let l = c.args.self.now in
-    record { kept = kept_still (text_of l.name) (g.E.Engine.told l.engine) (g.E.Engine.told c.ask_for.new.engine) l.revisions.head l.revisions.tail l.known l.known refl c.ask_for.ensures.stays l.kept }
+    record { kept = kept_still (text_of l.name) (g.E.Engine.told l.engine) (g.E.Engine.told c.ask_for.new.engine) l.revisions.head l.revisions.tail l.known l.known refl (c.ask_for.ensures.stays (text_of l.name)) l.kept }
 
 pub invariant_of-self-in-Err : goal.invariant_of-self-in-Err
 invariant_of-self-in-Err g c =
     let l = c.args.self.now in
-    record { kept = kept_still (text_of l.name) (g.E.Engine.told l.engine) (g.E.Engine.told c.ask_for.new.engine) l.revisions.head l.revisions.tail l.known l.known refl c.ask_for.ensures.stays l.kept }
+    record { kept = kept_still (text_of l.name) (g.E.Engine.told l.engine) (g.E.Engine.told c.ask_for.new.engine) l.revisions.head l.revisions.tail l.known l.known refl (c.ask_for.ensures.stays (text_of l.name)) l.kept }
 
 -- the entries were stored, but aren't known
 pub invariant_of-self-in-Err-add : goal.invariant_of-self-in-Err-add
 invariant_of-self-in-Err-add g c =
     let l = c.args.self.now in
-    record { kept = kept_still (text_of l.name) (g.E.Engine.told l.engine) (g.E.Engine.told c.ask_for.new.engine) l.revisions.head l.revisions.tail l.known c.add.new.self c.in-Err-add.ensures.err c.ask_for.ensures.stays l.kept }
+    record { kept = kept_still (text_of l.name) (g.E.Engine.told l.engine) (g.E.Engine.told c.ask_for.new.engine) l.revisions.head l.revisions.tail l.known c.add.new.self c.in-Err-add.ensures.err (c.ask_for.ensures.stays (text_of l.name)) l.kept }
 
 pub invariant_of-self : goal.invariant_of-self
 invariant_of-self g c =
