@@ -2,3 +2,4 @@ mod Sets
 mod Lasting
 mod Readings
 mod Keeping
+mod Openings
