@@ -1,5 +1,5 @@
 -- What an open log keeps.
-use Rattle.std.proofs.Common.{◌≡◌, ℕ, ◌+◌, List, ◌++◌, Option, None, Some, Result, Ok, Err, IfOk, OnErr, OnOk, refl, sym, ap, subst, ◌∙◌}
+use Rattle.std.proofs.Common.{◌≡◌, ℕ, List, ◌++◌, Option, None, Some, Result, Ok, Err, IfOk, OnErr, OnOk, sym, ap, subst, ◌∙◌}
 use Rattle.std.proofs.Math.Logic.{∥∥₁_map}
 use Rattle.share_entries.specs.Entry.{EntryView}
 use Rattle.share_entries.specs.Frame.{frame_in, frame_text}
@@ -22,15 +22,15 @@ pub request_if : {V F : Type 0} (r : Result V F) (items : V → List ℕ) (world
 request_if (Err e) items world head tail first last n m chain before frame entries f l c text again says = tt
 request_if (Ok v) items world head tail first last n m chain before frame entries f l c text again says =
     let texts : frame ≡ frame_text before n entries =
-        text ∙ ap (λ (k : ℕ). frame_text chain k entries) f ∙ ap (λ (b : List ℕ). frame_text b n entries) c in
+    text ∙ ap (λ (k : ℕ). frame_text chain k entries) f ∙ ap (λ (b : List ℕ). frame_text b n entries) c in
     let made : items v ≡ append_text world head tail n m (frame_text before n entries) =
-        says ∙ ap (λ (k : ℕ). append_text world head tail k last frame) f
-        ∙ ap (λ (k : ℕ). append_text world head tail n k frame) l
-        ∙ ap (λ (t : List ℕ). append_text world head tail n m t) texts in
+    says ∙ ap (λ (k : ℕ). append_text world head tail k last frame) f
+    ∙ ap (λ (k : ℕ). append_text world head tail n k frame) l
+    ∙ ap (λ (t : List ℕ). append_text world head tail n m t) texts in
     let read : frame_in before n (frame_text before n entries) ≡ Ok entries =
-        ap (λ (t : List ℕ). frame_in before n t) (sym texts)
-        ∙ ap (λ (k : ℕ). frame_in before k frame) (sym f)
-        ∙ ap (λ (b : List ℕ). frame_in b first frame) (sym c) ∙ again in
+    ap (λ (t : List ℕ). frame_in before n t) (sym texts)
+    ∙ ap (λ (k : ℕ). frame_in before k frame) (sym f)
+    ∙ ap (λ (b : List ℕ). frame_in b first frame) (sym c) ∙ again in
     (made, read)
 
 has_known : (known : Held) (now : Option Held) → Moves (Some known) now → Has known.entries now

@@ -1,5 +1,5 @@
 -- What holds of whatever the keys of a world may have, after one exchange more.
-use Rattle.std.proofs.Common.{◌≡◌, ℕ, ◌+◌, ◌≤◌, List, [], ◌∷◌, ◌++◌, length, take, drop, Option, None, Some, Result, Ok, Err, IfOk, IfSome, refl, sym, ap, subst, ◌∙◌, arith, append_assoc, append-nil, take-append-drop, length-append}
+use Rattle.std.proofs.Common.{◌≡◌, ℕ, List, [], ◌∷◌, ◌++◌, length, take, drop, Option, None, Some, Result, Ok, Err, IfOk, IfSome, sym, ap, subst, ◌∙◌, arith, append_assoc, append-nil, take-append-drop, length-append}
 use Rattle.std.specs.Option.{option_map}
 use Rattle.std.proofs.lemmas.List.{nil_from_length, take-append-le, take_all}
 use Rattle.std.proofs.Math.Logic.{∥∥₁_map, ∥∥₁_elim}

@@ -1,5 +1,5 @@
 -- What is found of a world that is opened.
-use Rattle.std.proofs.Common.{◌≡◌, ℕ, ◌+◌, List, [], ◌++◌, length, Option, None, Some, Result, Ok, Err, IfOk, IfSome, MatchOption, refl, sym, ap, subst, ◌∙◌}
+use Rattle.std.proofs.Common.{◌≡◌, ℕ, List, [], length, Option, None, Some, Result, Ok, Err, IfOk, IfSome, MatchOption, refl, subst, ◌∙◌}
 use Rattle.share_entries.specs.declared.head.Head.{Head}
 use Rattle.share_entries.specs.Entry.{EntryView}
 use Rattle.share_entries.specs.Head.{head_text}
@@ -36,7 +36,7 @@ module _ (world run : List ℕ) (told : Option (List Exchange)) (c : ContentsVie
   pub found_all : (N : Type 0) (o : Option Revisions) (v : Revisions) → o ≡ Some v → MatchOption o N (λ v. (length more ≡ c.tail) × (v.head ≡ c.head_revision) × (v.tail ≡ c.tail_revision)) → Always world run told (AfterReading run 1 c []) → known ≡ [] → IsKept world run told (held v.head v.tail more)
   found_all N o v is all after none =
       let here : (length more ≡ c.tail) × (v.head ≡ c.head_revision) × (v.tail ≡ c.tail_revision) =
-          subst (λ (o : Option Revisions). MatchOption o N (λ v. (length more ≡ c.tail) × (v.head ≡ c.head_revision) × (v.tail ≡ c.tail_revision))) is all in
+      subst (λ (o : Option Revisions). MatchOption o N (λ v. (length more ≡ c.tail) × (v.head ≡ c.head_revision) × (v.tail ≡ c.tail_revision))) is all in
       always_map world run told (AfterReading run 1 c []) (Moves (Some (held v.head v.tail more)))
       (all_read run 1 c [] more v.head v.tail refl (from_none none) here.0 here.1 here.2) after
 

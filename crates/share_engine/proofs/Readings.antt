@@ -1,12 +1,12 @@
 -- What a reading shows of the keys.
-use Rattle.std.proofs.Common.{◌≡◌, ℕ, ◌+◌, List, ◌∷◌, ◌++◌, length, Option, None, Some, Result, Ok, Err, IfOk, IfSome, MatchOption, refl, sym, ap, subst, ◌∙◌, arith}
+use Rattle.std.proofs.Common.{◌≡◌, ℕ, ◌+◌, List, length, Option, None, Some, Result, Ok, Err, IfOk, IfSome, MatchOption, sym, ap, subst, ◌∙◌}
 use Rattle.share_entries.specs.Entry.{EntryView}
 use Rattle.share_store.specs.OneLog.{Begins}
-use Rattle.share_etcd.specs.Contents.{ContentsView, FrameView}
+use Rattle.share_etcd.specs.Contents.{ContentsView}
 use Rattle.share_etcd.specs.declared.requests.Revisions.{Revisions}
 use Rattle.share_engine.specs.Exchanges.{Exchange}
-use Rattle.share_engine.specs.Keys.{Held, held, Later, Moves, Has, Always, IsKept, IsRead, AfterReading}
-use Rattle.share_engine.specs.Reading.{entries_from, next_in}
+use Rattle.share_engine.specs.Keys.{Held, held, Moves, Has, Always, IsKept, AfterReading}
+use Rattle.share_engine.specs.Reading.{entries_from}
 use Rattle.share_engine.proofs.Lasting.{always_map, begins_on, same_long}
 
 begins_now : (more : List EntryView) (had : Held) (now : Option Held) → Begins more had.entries → Moves (Some had) now → Has more now
@@ -25,9 +25,9 @@ all_read run first c known more head tail place read all heads tails now after =
     let r = after.1 in
     let same : had.entries ≡ more = same_long more had.entries (r.frames known more after.2 place read) (r.all ∙ sym all) in
     let is : Some had ≡ Some (held head tail more) =
-        ap (λ (n : ℕ). Some (held n had.tail_revision had.entries)) (r.head_same ∙ sym heads)
-        ∙ ap (λ (n : ℕ). Some (held head n had.entries)) (r.tail_same ∙ sym tails)
-        ∙ ap (λ (es : List EntryView). Some (held head tail es)) same in
+    ap (λ (n : ℕ). Some (held n had.tail_revision had.entries)) (r.head_same ∙ sym heads)
+    ∙ ap (λ (n : ℕ). Some (held head n had.entries)) (r.tail_same ∙ sym tails)
+    ∙ ap (λ (es : List EntryView). Some (held head tail es)) same in
     subst (λ (o : Option Held). Moves o now) is after.3
 
 -- ---- the answer of a reading

@@ -1,5 +1,5 @@
 -- What values of this crate stand for.
-use Rattle.std.specs.Prelude.{ℕ, List, Option, None, Some, slice_get, Vec}
+use Rattle.std.specs.Prelude.{ℕ, List, Option, slice_get, Vec}
 use Rattle.std.specs.declared.alloc.Global.{Global}
 use Rattle.std.specs.Option.{option_flatten, option_map}
 use Rattle.share_engine.specs.declared.fake.Told.{Told}

@@ -156,6 +156,7 @@ impl<E: Engine> EtcdLog<E> {
                 Err(AppendFault::Taken)
             }
             Err(_) => {
+                // It may have been stored.
                 self.is_open = false;
                 Err(AppendFault::InDoubt)
             }

@@ -1,4 +1,4 @@
-use Rattle.std.proofs.Common.{◌+◌, Option, Some, IfSome, sym, subst}
+use Rattle.std.proofs.Common.{Option, IfSome, sym, subst}
 use Rattle.share_etcd.specs.declared.contents.Contents.{Contents}
 use Rattle.share_etcd.specs.Keys.{text_of}
 use Rattle.share_etcd.specs.Views.{contents_view}
@@ -12,7 +12,7 @@ returns-clause-has g c =
     let new = g.E.Engine.told c.read_from.new.engine in
     let first = c.next_number-first.result in
     let reads : Reads world old new first (contents_view c.in-Some.contents) =
-        subst (λ (o : Option Contents). IfSome o (λ v. Reads world old new first (contents_view v))) c.in-Some.is c.in_ok-contents.ensures.read in
+    subst (λ (o : Option Contents). IfSome o (λ v. Reads world old new first (contents_view v))) c.in-Some.is c.in_ok-contents.ensures.read in
     has_if world old new (contents_view c.in-Some.contents) c.args.known.now.run c.args.known.now.entries c.add_contents.new.known.entries first c.add_contents.result
     (sym c.next_number-first.ensures) reads c.add_contents.ensures.read
 
@@ -23,6 +23,6 @@ returns-clause-all g c =
     let new = g.E.Engine.told c.read_from.new.engine in
     let first = c.next_number-first.result in
     let reads : Reads world old new first (contents_view c.in-Some.contents) =
-        subst (λ (o : Option Contents). IfSome o (λ v. Reads world old new first (contents_view v))) c.in-Some.is c.in_ok-contents.ensures.read in
+    subst (λ (o : Option Contents). IfSome o (λ v. Reads world old new first (contents_view v))) c.in-Some.is c.in_ok-contents.ensures.read in
     all_if world old new (contents_view c.in-Some.contents) c.args.known.now.run c.args.known.now.entries c.add_contents.new.known.entries first _ c.add_contents.result
     (sym c.next_number-first.ensures) reads c.add_contents.ensures.read c.add_contents.ensures.all

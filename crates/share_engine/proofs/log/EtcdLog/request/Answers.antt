@@ -1,6 +1,6 @@
-use Rattle.std.proofs.Common.{◌≡◌, ◌+◌, length, ◌∙◌, ap, arith}
+use Rattle.std.proofs.Common.{◌+◌, length, ◌∙◌, ap}
 use Rattle.share_entries.specs.Chain.{chain_after}
-use Rattle.share_entries.specs.Frame.{frame_in, frame_text}
+use Rattle.share_entries.specs.Frame.{frame_in}
 use Rattle.share_etcd.specs.Keys.{text_of}
 use Rattle.share_engine.proofs.Keeping.{request_if}
 use Rattle.share_engine.proofs.log.EtcdLog.request.Goals as goal

@@ -29,7 +29,9 @@ invariant_of-self g c =
     let old = g.E.Engine.told l.engine in
     let new = g.E.Engine.told c.ask_for.new.engine in
     let stored : (said : Option (List ℕ)) × (new ≡ grown old (record { asked = c.args.body.now; answer = said })) × (outcome_in said ≡ Stored c.in-Ok-Some.revision) =
-        subst (λ (o : Option ℕ). IfSome o (λ revision. (said : Option (List ℕ)) × (new ≡ grown old (record { asked = c.args.body.now; answer = said })) × (outcome_in said ≡ Stored revision)))
-        c.in-Ok-Some.field-0-is c.in-Ok-Some.ensures.stored in
-    record { kept = kept_more (text_of l.name) old new l.revisions.head l.revisions.tail l.known c.add.new.self (length l.known.entries + 1) (length l.known.entries + length c.args.entries.now) (chain_after l.known.run l.known.entries) c.args.entries.now c.args.body.now c.in-Ok-Some.revision
-          c.in-Ok.ensures.ok c.requires.asks c.requires.again stored l.kept }
+    subst (λ (o : Option ℕ). IfSome o (λ revision. (said : Option (List ℕ)) × (new ≡ grown old (record { asked = c.args.body.now; answer = said })) × (outcome_in said ≡ Stored revision)))
+    c.in-Ok-Some.field-0-is c.in-Ok-Some.ensures.stored in
+    record {
+      kept = kept_more (text_of l.name) old new l.revisions.head l.revisions.tail l.known c.add.new.self (length l.known.entries + 1) (length l.known.entries + length c.args.entries.now) (chain_after l.known.run l.known.entries) c.args.entries.now c.args.body.now c.in-Ok-Some.revision
+          c.in-Ok.ensures.ok c.requires.asks c.requires.again stored l.kept;
+    }

@@ -1,5 +1,4 @@
 use Rattle.share_etcd.specs.Keys.{text_of}
-
 use Rattle.share_engine.specs.Keys.{held, MayLeave}
 use Rattle.share_engine.proofs.Keeping.{kept_read, kept_still, last_still}
 use Rattle.share_engine.proofs.Lasting.{last_begins, last_of}
@@ -9,14 +8,18 @@ pub invariant_of-self : goal.invariant_of-self
 invariant_of-self g c =
     let l = c.args.self.now in
     let known = c.read_into.new.known in
-    record { kept = kept_read (text_of l.name) (g.E.Engine.told l.engine) (g.E.Engine.told c.read_into.new.engine) l.revisions.head l.revisions.tail l.known known c.in-Ok.revisions.head c.in-Ok.revisions.tail
-          c.read_into.ensures.run c.in-Ok.ensures.all l.kept }
+    record {
+      kept = kept_read (text_of l.name) (g.E.Engine.told l.engine) (g.E.Engine.told c.read_into.new.engine) l.revisions.head l.revisions.tail l.known known c.in-Ok.revisions.head c.in-Ok.revisions.tail
+          c.read_into.ensures.run c.in-Ok.ensures.all l.kept;
+    }
 
 pub invariant_of-self-in-Err-1 : goal.invariant_of-self-in-Err-1
 invariant_of-self-in-Err-1 g c =
     let l = c.args.self.now in
-    record { kept = kept_still (text_of l.name) (g.E.Engine.told l.engine) (g.E.Engine.told c.read_into.new.engine) l.revisions.head l.revisions.tail l.known c.read_into.new.known
-          c.in-Err.ensures.refused c.read_into.ensures.stays l.kept }
+    record {
+      kept = kept_still (text_of l.name) (g.E.Engine.told l.engine) (g.E.Engine.told c.read_into.new.engine) l.revisions.head l.revisions.tail l.known c.read_into.new.known
+          c.in-Err.ensures.refused c.read_into.ensures.stays l.kept;
+    }
 
 pub returns-in-Ok-clause-last : goal.returns-in-Ok-clause-last
 returns-in-Ok-clause-last g c = λ clean.
