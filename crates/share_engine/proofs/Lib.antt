@@ -1,0 +1,5 @@
+mod Sets
+mod Lasting
+mod Readings
+mod Keeping
+mod Openings

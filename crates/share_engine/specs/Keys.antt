@@ -1,5 +1,5 @@
 -- What the keys of a world have, and what etcd promises of them.
-use Rattle.std.specs.Prelude.{◌≡◌, ℕ, ◌+◌, ◌++◌, ◌≤◌, List, [], ◌∷◌, length, Option, None, Some, Result, Ok}
+use Rattle.std.specs.Prelude.{◌≡◌, ℕ, ◌+◌, ◌++◌, ◌≤◌, List, [], ◌∷◌, length, Option, None, Some, Ok}
 use Rattle.share_entries.specs.declared.head.Head.{Head}
 use Rattle.share_entries.specs.Entry.{EntryView}
 use Rattle.share_entries.specs.Frame.{frame_in, frame_text}
@@ -20,6 +20,10 @@ pub record Held : Type 0 where
   pub tail_revision : ℕ
   pub entries : List EntryView
 
+abbrev pub held : (head_revision tail_revision : ℕ) → List EntryView → Held
+held head_revision tail_revision entries =
+    record { head_revision = head_revision; tail_revision = tail_revision; entries = entries }
+
 -- a later moment: entries were added, at a higher revision of the tail, or none were
 pub record Later (a b : Held) : Type 0 where
   pub grows : Begins a.entries b.entries
@@ -31,6 +35,11 @@ abbrev pub Moves : (before after : Option Held) → Type 0
 Moves None after = Unit {0}
 Moves (Some a) None = ⊥
 Moves (Some a) (Some b) = Later a b
+
+-- the keys have these entries first, or nothing
+abbrev pub Has : List EntryView → Option Held → Type 0
+Has entries None = Unit {0}
+Has entries (Some now) = Begins entries now.entries
 
 -- ---- what answers say
 
@@ -52,22 +61,14 @@ pub record Appended (head tail revision : ℕ) (entries : List EntryView) (at le
   pub was : at ≡ Some had
   pub head_same : had.head_revision ≡ head
   pub tail_same : had.tail_revision ≡ tail
-  pub leaves : left ≡ Some (record {
-    head_revision = head;
-    tail_revision = revision;
-    entries = had.entries ++ entries;
-  })
+  pub leaves : left ≡ Some (held head revision (had.entries ++ entries))
 
--- the keys of a world of this run were read, the frames from this number on
-pub record Read (run : List ℕ) (first : ℕ) (c : ContentsView) (at left : Option Held)
-    : Type 0 where
-  pub had : Held
-  pub was : at ≡ Some had
-  pub leaves : left ≡ Some had
+-- a reading from this number on found this, in a world of this run that had this
+pub record IsRead (run : List ℕ) (first : ℕ) (c : ContentsView) (had : Held) : Type 0 where
   pub head_same : had.head_revision ≡ c.head_revision
   pub tail_same : had.tail_revision ≡ c.tail_revision
   pub all : length had.entries ≡ c.tail
-  -- the frames are of the entries from this number on
+  -- frames that are next after the entries before this number are of the entries after these
   pub frames : (known more : List EntryView) → Begins known had.entries
       → length known + 1 ≡ first → entries_from run known c.frames ≡ Some more
       → Begins more had.entries
@@ -79,7 +80,7 @@ pub record Done (world run : List ℕ) (x : Exchange) (at left : Option Held) : 
   pub moves : Moves at left
   pub made : (head : Head) (revision : ℕ) → x.asked ≡ making_text world (head_text head)
       → outcome_in x.answer ≡ Stored revision
-      → left ≡ Some (record { head_revision = revision; tail_revision = revision; entries = [] })
+      → (at ≡ None) × (left ≡ Some (held revision revision []))
   -- of entries that are read from their frame again: those in their ranges
   pub appended : (head tail first last : ℕ) (chain : List ℕ) (entries : List EntryView)
       (revision : ℕ)
@@ -89,7 +90,7 @@ pub record Done (world run : List ℕ) (x : Exchange) (at left : Option Held) : 
       → Appended head tail revision entries at left
   pub read : (first : ℕ) (c : ContentsView) → x.asked ≡ reading_text world first
       → contents_in world first x.answer ≡ Some (Some c)
-      → Read run first c at left
+      → (had : Held) × (at ≡ Some had) × (left ≡ Some had) × IsRead run first c had
 
 -- ---- what keys may have
 
@@ -105,6 +106,16 @@ MayHave world run (x ∷ xs) old new =
 abbrev pub Always : (world run : List ℕ) → Option (List Exchange) → (Option Held → Type 0) → Type 0
 Always world run None P = Unit {0}
 Always world run (Some xs) P = (now : Option Held) → MayHave world run xs None now → P now
+
+-- what the keys may have is this, or later
+abbrev pub IsKept : (world run : List ℕ) → Option (List Exchange) → Held → Type 0
+IsKept world run told known = Always world run told (Moves (Some known))
+
+-- the keys had these entries first when this was read, and now have the same, or are later
+abbrev pub AfterReading : (run : List ℕ) (first : ℕ) → ContentsView → List EntryView
+    → Option Held → Type 0
+AfterReading run first c known now =
+    (had : Held) × IsRead run first c had × Begins known had.entries × Moves (Some had) now
 
 -- entries that a world may have after the exchanges; nothing is said if they aren't recorded
 abbrev pub MayLeave : (world run : List ℕ) → Option (List Exchange) → List EntryView → Type 0

@@ -1,6 +1,17 @@
 //! One request to an engine, and what its answer says.
 
-ghost use Rattle.std.specs.Prelude.{◌≡◌, ◌⊎◌, ◌×◌, List, ℕ, Option, Some, None};
+ghost use Rattle.std.specs.Prelude.{◌≡◌, ◌++◌, List, ℕ, Option, Some, None, Ok, Err, IfOk, IfSome};
+ghost use Rattle.std.specs.Option.{option_map, ok_or};
+ghost use Rattle.x3d_lists.specs.Answers.{Gives};
+ghost use Rattle.share_entries.specs.Entry.{EntryView};
+ghost use Rattle.share_etcd.specs.declared.outcome.Outcome.TheVariants.{Stored};
+ghost use Rattle.share_etcd.specs.Answers.{document, outcome_of as spec_outcome_of};
+ghost use Rattle.share_etcd.specs.Contents.{contents_of as spec_contents_of};
+ghost use Rattle.share_etcd.specs.Keys.{text_of};
+ghost use Rattle.share_etcd.specs.Requests.{reading_text};
+ghost use Rattle.share_etcd.specs.Views.{contents_view};
+ghost use Rattle.share_engine.specs.Exchanges.{grown};
+ghost use Rattle.share_engine.specs.Keys.{Held, Has, Moves, Always, IsKept, AfterReading, outcome_in};
 
 use crate::engine::{Engine, EngineFault};
 use crate::fault::ReadingFault;
@@ -9,11 +20,24 @@ use share_session::WorldName;
 use std::alloc::Global;
 
 /// Returns the revision of what was done, and `None` if nothing was.
-fn revision_of(outcome: Outcome) -> Result<Option<u64>, ReadingFault> {
+fn revision_of(outcome: Outcome) -> Result<Option<u64>, ReadingFault>
+    ensures { IfOk result (λ o. IfSome o (λ revision. outcome ≡ Stored revision)) }
+{
     match outcome {
         Outcome::Stored { revision } => Ok(Some(revision)),
         Outcome::Refused => Ok(None),
         Outcome::Malformed => Err(ReadingFault::Malformed),
+    }
+}
+
+/// Reads the answer to a making or an append.
+fn stored_in(alloc: Global, answer: &[u8]) -> Result<Option<u64>, ReadingFault>
+    ensures { IfOk result (λ o. IfSome o (λ revision.
+        spec_outcome_of (document answer.now) ≡ Stored revision)) }
+{
+    match outcome_of(alloc, answer) {
+        Ok(outcome) => revision_of(outcome),
+        Err(_) => Err(ReadingFault::Memory),
     }
 }
 
@@ -24,22 +48,61 @@ pub(crate) fn ask_for<E: Engine>(
     engine: &mut E,
     body: &[u8],
     answer: &mut Vec<u8>,
-) -> Result<Option<u64>, ReadingFault> {
+) -> Result<Option<u64>, ReadingFault>
+    ensures stays { (world run : List ℕ) (known : Held)
+        → IsKept world run (E.told engine.old) known
+        → IsKept world run (E.told engine.new) known }
+    ensures stored { IfOk result (λ o. IfSome o (λ revision. (said : Option (List ℕ))
+        × (E.told engine.new
+        ≡ grown (E.told engine.old) (record { asked = body.now; answer = said }))
+        × (outcome_in said ≡ Stored revision))) }
+{
     match engine.ask(body, answer) {
-        Ok(()) => match outcome_of(alloc, answer) {
-            Ok(outcome) => revision_of(outcome),
-            Err(_) => Err(ReadingFault::Memory),
-        },
+        Ok(()) => stored_in(alloc, answer),
         Err(EngineFault::Silent) => Err(ReadingFault::Silent),
         Err(EngineFault::Memory) => Err(ReadingFault::Memory),
     }
 }
 
-/// Returns why an answer isn't read.
-fn fault_of(fault: AnswerFault) -> ReadingFault {
-    match fault {
-        AnswerFault::Malformed => ReadingFault::Malformed,
-        AnswerFault::Memory => ReadingFault::Memory,
+/// Reads the answer to a reading from this number on.
+fn contents_in(
+    alloc: Global,
+    name: &WorldName,
+    first: u64,
+    answer: &[u8],
+) -> Result<Option<Contents>, ReadingFault>
+    ensures { IfOk result (λ o. spec_contents_of (text_of name.now) first (document answer.now)
+        ≡ Some (option_map contents_view o)) }
+{
+    match contents_of(alloc, name, first, answer) {
+        Ok(contents) => Ok(contents),
+        Err(AnswerFault::Malformed) => Err(ReadingFault::Malformed),
+        Err(AnswerFault::Memory) => Err(ReadingFault::Memory),
+    }
+}
+
+/// Asks for a reading by this request.
+fn ask_contents<E: Engine>(
+    alloc: Global,
+    engine: &mut E,
+    name: &WorldName,
+    first: u64,
+    body: &[u8],
+) -> Result<Option<Contents>, ReadingFault>
+    requires { body.now ≡ reading_text (text_of name.now) first }
+    ensures stays { (run : List ℕ) (known : Held)
+        → IsKept (text_of name.now) run (E.told engine.old) known
+        → IsKept (text_of name.now) run (E.told engine.new) known }
+    ensures read { IfOk result (λ o. IfSome o (λ c. (run : List ℕ) (known : List EntryView)
+        → Always (text_of name.now) run (E.told engine.old) (Has known)
+        → Always (text_of name.now) run (E.told engine.new)
+        (AfterReading run first (contents_view c) known))) }
+{
+    let mut answer = Vec::new(alloc);
+    match engine.ask(body, &mut answer) {
+        Ok(()) => contents_in(alloc, name, first, &answer),
+        Err(EngineFault::Silent) => Err(ReadingFault::Silent),
+        Err(EngineFault::Memory) => Err(ReadingFault::Memory),
     }
 }
 
@@ -49,15 +112,17 @@ pub(crate) fn read_from<E: Engine>(
     engine: &mut E,
     name: &WorldName,
     first: u64,
-) -> Result<Option<Contents>, ReadingFault> {
-    let body = reading_bytes(alloc, name, first)?;
-    let mut answer = Vec::new(alloc);
-    match engine.ask(&body, &mut answer) {
-        Ok(()) => match contents_of(alloc, name, first, &answer) {
-            Ok(contents) => Ok(contents),
-            Err(fault) => Err(fault_of(fault)),
-        },
-        Err(EngineFault::Silent) => Err(ReadingFault::Silent),
-        Err(EngineFault::Memory) => Err(ReadingFault::Memory),
+) -> Result<Option<Contents>, ReadingFault>
+    ensures stays { (run : List ℕ) (known : Held)
+        → IsKept (text_of name.now) run (E.told engine.old) known
+        → IsKept (text_of name.now) run (E.told engine.new) known }
+    ensures read { IfOk result (λ o. IfSome o (λ c. (run : List ℕ) (known : List EntryView)
+        → Always (text_of name.now) run (E.told engine.old) (Has known)
+        → Always (text_of name.now) run (E.told engine.new)
+        (AfterReading run first (contents_view c) known))) }
+{
+    match reading_bytes(alloc, name, first) {
+        Ok(body) => ask_contents(alloc, engine, name, first, &body),
+        Err(_) => Err(ReadingFault::Memory),
     }
 }

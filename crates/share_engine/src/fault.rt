@@ -2,6 +2,7 @@
 
 ghost use Rattle.std.specs.Prelude.{◌≡◌};
 ghost use Rattle.share_engine.specs.declared.fault.ReadingFault.TheVariants.{Memory};
+ghost use Rattle.share_engine.specs.Faults as spec;
 
 use share_store::ReadFault;
 use std::alloc::{AllocError, AllocFailed};
@@ -64,7 +65,9 @@ impl<T: Drop> From<AllocFailed<T>> for ReadingFault {
 }
 
 /// Returns what a log that is read on reports.
-pub(crate) fn read_fault(fault: ReadingFault) -> ReadFault {
+pub(crate) fn read_fault(fault: ReadingFault) -> ReadFault
+    ensures { result ≡ spec.read_fault fault }
+{
     match fault {
         ReadingFault::Silent => ReadFault::Silent,
         ReadingFault::Malformed => ReadFault::Silent,
@@ -74,7 +77,9 @@ pub(crate) fn read_fault(fault: ReadingFault) -> ReadFault {
 }
 
 /// Returns what opening reports, if `next` is the number of the first entry that isn't read.
-pub(crate) fn world_fault(fault: ReadingFault, next: u64) -> WorldFault {
+pub(crate) fn world_fault(fault: ReadingFault, next: u64) -> WorldFault
+    ensures { result ≡ spec.world_fault fault next }
+{
     match fault {
         ReadingFault::Silent => WorldFault::Silent,
         ReadingFault::Malformed => WorldFault::Malformed,

@@ -1,9 +1,10 @@
 //! The entries that a handle knows.
 
-ghost use Rattle.std.specs.Prelude.{◌≡◌, [], ◌++◌, length, take, IfOk, OnErr, OnOk, Ok};
+ghost use Rattle.std.specs.Prelude.{◌≡◌, ◌+◌, [], ◌∷◌, ◌++◌, List, length, map, take, Some, IfOk, OnErr, OnOk};
 ghost use Rattle.share_entries.specs.Chain.{chain_after};
 ghost use Rattle.share_engine.specs.Reading.{entries_from, next_in};
 ghost use Rattle.share_store.specs.OneLog.{Begins};
+ghost use Rattle.share_etcd.specs.Contents.{FrameView};
 ghost use Rattle.share_etcd.specs.Views.{frame_view};
 
 use crate::fault::ReadingFault;
@@ -49,6 +50,13 @@ impl Known {
         ensures { result ≡ length self.now.entries }
     {
         self.entries.len()
+    }
+
+    /// Returns the number of the next entry, counted from 1.
+    pub(crate) fn next_number(&self) -> u64
+        ensures { result ≡ length self.now.entries + 1 }
+    {
+        self.entries.len() as u64 + 1
     }
 
     /// Returns the entries.
@@ -99,7 +107,7 @@ impl Known {
         ensures { IfOk result (λ v. next_in self.now.run self.now.entries (frame_view frame.now)
             ≡ Some v.items) }
     {
-        let first = self.entries.len() as u64 + 1;
+        let first = self.next_number();
         if frame.first != first {
             return Err(ReadingFault::NotNext);
         }

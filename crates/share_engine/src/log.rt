@@ -1,14 +1,17 @@
 //! A log in etcd, as `Log`.
 
-ghost use Rattle.std.specs.Prelude.{◌≡◌, true, List};
+ghost use Rattle.std.specs.Prelude.{◌≡◌, ◌+◌, ◌<◌, ◌≤◌, ◌^◌, ◌++◌, true, false, length, Ok, IfOk, IsTrue, IsErrOf, OnErr, OnOk};
+ghost use Rattle.share_entries.specs.Chain.{chain_after};
+ghost use Rattle.share_entries.specs.Frame.{frame_in, frame_text};
 ghost use Rattle.share_etcd.specs.Keys.{text_of};
-ghost use Rattle.share_engine.specs.Keys.{MayLeave};
+ghost use Rattle.share_etcd.specs.Requests.{append_text};
+ghost use Rattle.share_store.specs.OneLog.{max_entries};
+ghost use Rattle.share_engine.specs.Keys.{held, IsKept, MayLeave};
 
 use crate::asking::ask_for;
 use crate::engine::Engine;
-use crate::fault::read_fault;
 use crate::known::Known;
-use crate::reading::read_all;
+use crate::reading::{Root, read_into};
 use share_entries::{Entry, Head, frame_bytes};
 use share_etcd::{Revisions, append_bytes};
 use share_session::WorldName;
@@ -33,6 +36,9 @@ pub struct EtcdLog<E: Engine> {
     /// The revisions of the keys when the last known entry was read or stored.
     revisions: Revisions,
     is_open: bool,
+    // What the keys may have is what the handle knows, or later.
+    ghost kept: { ∥ IsKept (text_of name) known.run (E.told engine)
+        (held revisions.head revisions.tail known.entries) ∥₁ },
 }
 
 impl<E: Engine> EtcdLog<E> {
@@ -44,7 +50,16 @@ impl<E: Engine> EtcdLog<E> {
         head: Head,
         known: Known,
         revisions: Revisions,
-    ) -> EtcdLog<E> {
+    ) -> EtcdLog<E>
+        requires { IsKept (text_of name) known.run (E.told engine)
+            (held revisions.head revisions.tail known.entries) }
+        ensures engine { result.engine ≡ engine }
+        ensures name { result.name ≡ name }
+        ensures head { result.head ≡ head }
+        ensures known { result.known ≡ known }
+        ensures revisions { result.revisions ≡ revisions }
+        ensures open { result.is_open ≡ true }
+    {
         EtcdLog {
             engine,
             alloc,
@@ -57,24 +72,45 @@ impl<E: Engine> EtcdLog<E> {
     }
 
     /// Returns the engine.
-    pub fn engine(&self) -> &E {
+    pub fn engine(&self) -> &E
+        ensures { result.now ≡ self.now.engine }
+    {
         &self.engine
     }
 
     /// Returns the engine, and lets go of the rest.
-    pub fn into_engine(self) -> E {
+    pub fn into_engine(self) -> E
+        ensures { result ≡ self.engine }
+    {
         let EtcdLog { engine, known, .. } = self;
         drop(known);
         engine
     }
 
     /// Returns the request for an append of these entries.
-    fn request(&self, entries: &[Entry]) -> Result<Vec<u8>, AllocError> {
+    fn request(&self, entries: &[Entry]) -> Result<Vec<u8>, AllocError>
+        requires room { length self.now.known.entries < 2 ^ 48 }
+        requires most { length entries.now ≤ max_entries }
+        ensures { let k = self.now.known in
+            let first = length k.entries + 1 in
+            let frame = frame_text (chain_after k.run k.entries) first entries.now in
+            IfOk result (λ v. (v.items ≡ append_text (text_of self.now.name)
+            self.now.revisions.head self.now.revisions.tail first
+            (length k.entries + length entries.now) frame)
+            × (frame_in (chain_after k.run k.entries) first frame ≡ Ok entries.now)) }
+    {
         let before = self.known.len() as u64;
-        let first = before + 1;
+        let first = self.known.next_number();
         let last = before + entries.len() as u64;
         let frame = frame_bytes(self.alloc, &self.known.chain(), first, entries)?;
         append_bytes(self.alloc, &self.name, self.revisions, first, last, &frame)
+    }
+
+    /// Makes room for more entries. Fails if memory is refused.
+    fn make_room(&mut self, count: usize) -> Result<(), AllocError>
+        ensures { self.new ≡ self.old }
+    {
+        self.known.reserve(count)
     }
 
     /// Asks for an append of these entries by this request.
@@ -83,21 +119,44 @@ impl<E: Engine> EtcdLog<E> {
         body: &[u8],
         answer: &mut Vec<u8>,
         entries: &[Entry],
-    ) -> Result<(), AppendFault> {
+    ) -> Result<(), AppendFault>
+        requires open { IsTrue self.old.is_open }
+        requires asks { let k = self.old.known in
+            let first = length k.entries + 1 in
+            body.now ≡ append_text (text_of self.old.name) self.old.revisions.head
+            self.old.revisions.tail first (length k.entries + length entries.now)
+            (frame_text (chain_after k.run k.entries) first entries.now) }
+        requires again { let k = self.old.known in
+            let first = length k.entries + 1 in
+            frame_in (chain_after k.run k.entries) first
+            (frame_text (chain_after k.run k.entries) first entries.now) ≡ Ok entries.now }
+        ensures name { self.new.name ≡ self.old.name }
+        ensures run { self.new.known.run ≡ self.old.known.run }
+        ensures stored { OnOk result
+            (self.new.known.entries ≡ self.old.known.entries ++ entries.now) }
+        ensures open { OnOk result (IsTrue self.new.is_open) }
+        ensures refused { OnErr result (self.new.known.entries ≡ self.old.known.entries) }
+        ensures closed { OnErr result (self.new.is_open ≡ false) }
+        ensures memory { IsErrOf result AppendFault.Memory → ⊥ }
+        ensures full { IsErrOf result AppendFault.Full → ⊥ }
+    {
         match ask_for(self.alloc, &mut self.engine, body, answer) {
-            Ok(Some(revision)) => {
-                if self.known.add(entries).is_err() {
-                    self.is_open = false;
-                    return Err(AppendFault::InDoubt);
+            Ok(Some(revision)) => match self.known.add(entries) {
+                Ok(()) => {
+                    self.revisions.tail = revision;
+                    Ok(())
                 }
-                self.revisions.tail = revision;
-                Ok(())
-            }
+                Err(_) => {
+                    self.is_open = false;
+                    Err(AppendFault::InDoubt)
+                }
+            },
             Ok(None) => {
                 self.is_open = false;
                 Err(AppendFault::Taken)
             }
             Err(_) => {
+                // It may have been stored.
                 self.is_open = false;
                 Err(AppendFault::InDoubt)
             }
@@ -132,39 +191,31 @@ impl<E: Engine> Log for EtcdLog<E> {
         let Ok(mut answer) = Vec::with_capacity(self.alloc, ANSWER_ROOM) else {
             return Err(AppendFault::Memory);
         };
-        if self.known.reserve(entries.len()).is_err() {
+        if self.make_room(entries.len()).is_err() {
             return Err(AppendFault::Memory);
         }
         self.store(&body, &mut answer, entries)
     }
 
     fn read_on(&mut self, into: &mut Vec<Entry>) -> Result<(), ReadFault> {
-        let count = self.known.len();
-        let chain = self.known.chain();
-        match read_all(
+        let root = Root {
+            head: self.head,
+            revision: self.revisions.head,
+        };
+        match read_into(
             self.alloc,
             &mut self.engine,
             &self.name,
-            &self.head,
-            self.revisions.head,
+            &root,
             &mut self.known,
+            into,
         ) {
             Ok(revisions) => {
-                if into
-                    .extend_from_slice(&self.known.entries()[count..])
-                    .is_err()
-                {
-                    self.known.cut(count, chain);
-                    return Err(ReadFault::Memory);
-                }
                 self.revisions = revisions;
                 self.is_open = true;
                 Ok(())
             }
-            Err(fault) => {
-                self.known.cut(count, chain);
-                Err(read_fault(fault))
-            }
+            Err(fault) => Err(fault),
         }
     }
 }

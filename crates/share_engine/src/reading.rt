@@ -1,21 +1,41 @@
 //! Reading a log until all of it is known.
 
+ghost use Rattle.std.specs.Prelude.{◌≡◌, ◌<◌, ◌^◌, ◌++◌, ℕ, List, length, map, Some, Ok, IfOk, IfSome, IsTrue, MatchOption, OnErr, OnOk};
+ghost use Rattle.share_entries.specs.Entry.{EntryView};
+ghost use Rattle.share_entries.specs.Head.{head_in};
+ghost use Rattle.share_etcd.specs.Keys.{text_of};
+ghost use Rattle.share_etcd.specs.Views.{contents_view, frame_view};
+ghost use Rattle.share_store.specs.OneLog.{Begins};
+ghost use Rattle.share_engine.specs.Keys.{Held, held, Has, Always, IsKept};
+ghost use Rattle.share_engine.specs.Reading.{entries_from};
+
 use crate::asking::read_from;
 use crate::engine::Engine;
-use crate::fault::ReadingFault;
+use crate::fault::{ReadingFault, read_fault};
 use crate::known::Known;
-use share_entries::{Head, head_of};
+use share_entries::{Entry, Head, head_of};
 use share_etcd::{Contents, Revisions};
 use share_session::WorldName;
+use share_store::ReadFault;
 use std::alloc::Global;
 
-/// Reports whether a world still has this head, unchanged since this revision.
-fn has_head(contents: &Contents, head: &Head, revision: u64) -> bool {
-    if contents.head_revision != revision {
+/// The head of a world, and the revision at which it was put.
+#[derive(Clone, Copy)]
+pub(crate) struct Root {
+    pub(crate) head: Head,
+    pub(crate) revision: u64,
+}
+
+/// Reports whether a world still has its head, unchanged.
+fn has_root(contents: &Contents, root: &Root) -> bool
+    ensures revision { IsTrue result → contents.now.head_revision ≡ root.now.revision }
+    ensures head { IsTrue result → head_in contents.now.head.items ≡ Ok root.now.head }
+{
+    if contents.head_revision != root.revision {
         return false;
     }
     match head_of(&contents.head) {
-        Ok(found) => found == *head,
+        Ok(found) => found == root.head,
         Err(_) => false,
     }
 }
@@ -26,7 +46,12 @@ fn progress(
     contents: &Contents,
     before: usize,
     now: usize,
-) -> Result<Option<Revisions>, ReadingFault> {
+) -> Result<Option<Revisions>, ReadingFault>
+    ensures { IfOk result (λ o. MatchOption o
+        ((before < now) × (now < 2 ^ 64))
+        (λ r. (now ≡ contents.now.tail) × (r.head ≡ contents.now.head_revision)
+        × (r.tail ≡ contents.now.tail_revision))) }
+{
     let number = now as u64;
     if number == contents.tail {
         return Ok(Some(Revisions {
@@ -46,7 +71,17 @@ pub(crate) fn add_contents(
     alloc: Global,
     contents: &Contents,
     known: &mut Known,
-) -> Result<Option<Revisions>, ReadingFault> {
+) -> Result<Option<Revisions>, ReadingFault>
+    ensures run { known.new.run ≡ known.old.run }
+    ensures longer { Begins known.old.entries known.new.entries }
+    ensures read { IfOk result (λ _. entries_from known.old.run known.old.entries
+        (map frame_view contents.now.frames.items) ≡ Some known.new.entries) }
+    ensures all { IfOk result (λ o. MatchOption o
+        ((length known.old.entries < length known.new.entries)
+        × (length known.new.entries < 2 ^ 64))
+        (λ r. (length known.new.entries ≡ contents.now.tail)
+        × (r.head ≡ contents.now.head_revision) × (r.tail ≡ contents.now.tail_revision))) }
+{
     let before = known.len();
     known.add_frames(alloc, &contents.frames)?;
     progress(contents, before, known.len())
@@ -58,33 +93,98 @@ fn read_more<E: Engine>(
     alloc: Global,
     engine: &mut E,
     name: &WorldName,
-    head: &Head,
-    revision: u64,
+    root: &Root,
     known: &mut Known,
-) -> Result<Option<Revisions>, ReadingFault> {
-    let first = known.len() as u64 + 1;
+) -> Result<Option<Revisions>, ReadingFault>
+    ensures run { known.new.run ≡ known.old.run }
+    ensures longer { Begins known.old.entries known.new.entries }
+    ensures more { IfOk result (λ o. MatchOption o
+        ((length known.old.entries < length known.new.entries)
+        × (length known.new.entries < 2 ^ 64)) (λ _. Unit {0})) }
+    ensures stays { (run : List ℕ) (k : Held)
+        → IsKept (text_of name.now) run (E.told engine.old) k
+        → IsKept (text_of name.now) run (E.told engine.new) k }
+    ensures has { IfOk result (λ _. (run : List ℕ) → known.old.run ≡ run
+        → Always (text_of name.now) run (E.told engine.old) (Has known.old.entries)
+        → Always (text_of name.now) run (E.told engine.new) (Has known.new.entries)) }
+    ensures all { IfOk result (λ o. IfSome o (λ r. (run : List ℕ) → known.old.run ≡ run
+        → Always (text_of name.now) run (E.told engine.old) (Has known.old.entries)
+        → IsKept (text_of name.now) run (E.told engine.new)
+        (held r.head r.tail known.new.entries))) }
+{
+    let first = known.next_number();
     let Some(contents) = read_from(alloc, engine, name, first)? else {
         return Err(ReadingFault::NotNext);
     };
-    if !has_head(&contents, head, revision) {
+    if !has_root(&contents, root) {
         return Err(ReadingFault::NotNext);
     }
     add_contents(alloc, &contents, known)
 }
 
-/// Reads until all entries of the log are known. The world must have this head, unchanged since
-/// this revision. Returns the revisions of its keys. After a failure some more entries may be known.
+/// Reads until all entries of the log are known. The world must have this head, unchanged. Returns
+/// the revisions of its keys. After a failure some more entries may be known.
 pub(crate) fn read_all<E: Engine>(
     alloc: Global,
     engine: &mut E,
     name: &WorldName,
-    head: &Head,
-    revision: u64,
+    root: &Root,
     known: &mut Known,
-) -> Result<Revisions, ReadingFault> {
-    loop {
-        if let Some(revisions) = read_more(alloc, engine, name, head, revision, known)? {
+) -> Result<Revisions, ReadingFault>
+    ensures run { known.new.run ≡ known.old.run }
+    ensures longer { Begins known.old.entries known.new.entries }
+    ensures stays { (run : List ℕ) (k : Held)
+        → IsKept (text_of name.now) run (E.told engine.old) k
+        → IsKept (text_of name.now) run (E.told engine.new) k }
+    ensures all { IfOk result (λ r.
+        Always (text_of name.now) known.old.run (E.told engine.old) (Has known.old.entries)
+        → IsKept (text_of name.now) known.old.run (E.told engine.new)
+        (held r.head r.tail known.new.entries)) }
+{
+    'reading: loop {
+        if let Some(revisions) = read_more(alloc, engine, name, root, known)? {
             return Ok(revisions);
+        }
+    }
+}
+
+/// Reads until all entries of the log are known, and adds those that were read to `into`. After a
+/// failure nothing more is known.
+pub(crate) fn read_into<E: Engine>(
+    alloc: Global,
+    engine: &mut E,
+    name: &WorldName,
+    root: &Root,
+    known: &mut Known,
+    into: &mut Vec<Entry>,
+) -> Result<Revisions, ReadFault>
+    ensures run { known.new.run ≡ known.old.run }
+    ensures more { OnOk result ((more : List EntryView)
+        × (known.new.entries ≡ known.old.entries ++ more)
+        × (into.new.items ≡ into.old.items ++ more)) }
+    ensures stays { (run : List ℕ) (k : Held)
+        → IsKept (text_of name.now) run (E.told engine.old) k
+        → IsKept (text_of name.now) run (E.told engine.new) k }
+    ensures all { IfOk result (λ r.
+        Always (text_of name.now) known.old.run (E.told engine.old) (Has known.old.entries)
+        → IsKept (text_of name.now) known.old.run (E.told engine.new)
+        (held r.head r.tail known.new.entries)) }
+    ensures refused { OnErr result (known.new ≡ known.old) }
+    ensures kept { OnErr result (into.new.items ≡ into.old.items) }
+{
+    let count = known.len();
+    let chain = known.chain();
+    match read_all(alloc, engine, name, root, known) {
+        Ok(revisions) => {
+            if into.extend_from_slice(&known.entries()[count..]).is_err() {
+                known.cut(count, chain);
+                return Err(ReadFault::Memory);
+            }
+            Ok(revisions)
+        }
+        Err(fault) => {
+            known.cut(count, chain);
+            Err(read_fault(fault))
         }
     }
 }
