@@ -8,7 +8,7 @@ use Rattle.share_store.specs.OneLog.{Begins}
 use Rattle.share_turns.specs.declared.traffic.Datagram.{Datagram}
 use Rattle.share_turns.specs.declared.traffic.Traffic.{Traffic}
 use Rattle.share_turns.specs.declared.traffic.Traffic.TheVariants.{Sent}
-use Rattle.app_standby.specs.Shared.{AreShownOf, ShowsFirst}
+use Rattle.app_standby.specs.Shared.{AreShownOf, IsShownOf, ShowsFirst}
 use Rattle.app_standby.specs.Steps.{Goes, Moment, moment}
 
 pub begins-same : (k : List EntryView) → Begins k k
@@ -17,14 +17,19 @@ begins-same k = ([], sym (append-nil k))
 pub begins-then : (a b c : List EntryView) → Begins a b → Begins b c → Begins a c
 begins-then a b c m n = (m.0 ++ n.0, n.1 ∙ ap (λ (l : List EntryView). l ++ n.0) m.1 ∙ append_assoc a m.0 n.0)
 
+pub begins-equal : (k l : List EntryView) → l ≡ k → Begins k l
+begins-equal k l same = ([], same ∙ sym (append-nil k))
+
 -- ---- what was sent
 
+shown-at : (mark : List ℕ) (v : ℕ) (k : List EntryView) (xs ys : List Traffic) → AreShownOf mark v k xs → AreShownOf mark v k ys → (n : ℕ) (d : Datagram) → slice_get (xs ++ ys) n ≡ Some (Sent d)
+    → IsShownOf mark v k d.bytes
+shown-at mark v k [] ys a b n d e = b n d e
+shown-at mark v k (x ∷ xs) ys a b zero d e = a zero d e
+shown-at mark v k (x ∷ xs) ys a b (suc n) d e = shown-at mark v k xs ys (λ m f is. a (suc m) f is) b n d e
+
 shown-append : (mark : List ℕ) (v : ℕ) (k : List EntryView) (xs ys : List Traffic) → AreShownOf mark v k xs → AreShownOf mark v k ys → AreShownOf mark v k (xs ++ ys)
-shown-append mark v k [] ys a b = b
-shown-append mark v k (x ∷ xs) ys a b = go where
-  go : AreShownOf mark v k (x ∷ (xs ++ ys))
-  go zero d e = a zero d e
-  go (suc n) d e = shown-append mark v k xs ys (λ m f is. a (suc m) f is) b n d e
+shown-append mark v k xs ys a b = λ n d e. shown-at mark v k xs ys a b n d e
 
 -- with more entries
 pub first-more : (mark : List ℕ) (v : ℕ) (k l : List EntryView) (a b : Option (List Traffic)) → ShowsFirst mark v k a b → Begins k l → ShowsFirst mark v l a b
@@ -48,7 +53,7 @@ shows-first mark v k (Some x) (Some y) s = (s.0, s.1, λ n d is. (k, begins-same
 
 -- nothing
 none-sent : (mark : List ℕ) (v : ℕ) (k : List EntryView) → AreShownOf mark v k []
-none-sent mark v k = λ n d is. absurd (none-some is)
+none-sent mark v k = λ n d is. absurd (none-some (Sent d) is)
 
 pub first-none : (mark : List ℕ) (v : ℕ) (k : List EntryView) (a b : Option (List Traffic)) → b ≡ a → ShowsFirst mark v k a b
 first-none mark v k a b same = subst (λ (x : Option (List Traffic)). ShowsFirst mark v k a x) (sym same) (go a) where
@@ -89,3 +94,13 @@ goes-silent mark v known other p q s t was is clean grows told stays = record {
   shown = λ x w. first-none mark v other s t told;
   stays = stays;
 }
+
+-- it read nothing, and sent nothing
+pub goes-unread : (mark : List ℕ) (v : ℕ) (known other : List EntryView) (p q : Bool) (s t : Option (List Traffic)) (P : List EntryView → Type 0) → (IsTrue q → IsTrue p) → (IsTrue q → other ≡ known)
+    → t ≡ s → Goes mark v (moment known p s) (moment other q t) (P known) (P other)
+goes-unread mark v known other p q s t P clean same told =
+    goes-silent mark v known other p q s t (P known) (P other) clean (λ x. begins-equal known other (same x)) told (λ x w. subst P (sym (same x)) w)
+
+-- the host may have been dropped
+pub goes-without : (mark : List ℕ) (v : ℕ) (a b : Moment) (was is : Type 0) → Goes mark v a b was is → Goes mark v a b was ⊤
+goes-without mark v a b was is g = record { clean = g.clean; grows = g.grows; shown = g.shown; stays = λ x w. tt }

@@ -1,1 +1,4 @@
 pub mod Going
+pub mod Turns
+pub mod Readings
+pub mod Clocks

@@ -20,7 +20,7 @@ mod state;
 mod turning;
 
 pub use fault::SharedFault;
-pub use pace::{READ_EVERY, must_read, stands_in};
+pub use pace::{BUSY, READ_EVERY, must_read, stands_in};
 pub use plan::SharedPlan;
 pub use running::shared_run;
 

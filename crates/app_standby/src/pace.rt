@@ -1,10 +1,12 @@
 //! When a host over a shared log reads on, and which clocks it makes.
 
-ghost use Rattle.std.specs.Prelude.{◌≡◌, slice_get};
-ghost use Rattle.app_standby.specs.Pace.{must_read, next_place, stands_in};
+ghost use Rattle.std.specs.Prelude.{◌≡◌, int_lt};
+ghost use Rattle.std.specs.List.{find};
+ghost use Rattle.app_standby.specs.Pace.{job_clock, must_read, place_after, stands_in};
 
 use crate::plan::SharedPlan;
-use app_logs::{clock_for, due_after};
+use app_logs::{Beat, clock_for, due_after, first_due};
+use share_entries::{Entry, Source};
 
 /// After this many milliseconds a host reads on.
 pub const READ_EVERY: u64 = 250;
@@ -16,25 +18,32 @@ pub fn stands_in(silent: u64, standby: u64) -> bool
     silent >= standby
 }
 
-/// Reports whether a host reads on before its turn, `since` milliseconds after it read on.
-pub fn must_read(takes_appends: bool, since: u64) -> bool
-    ensures { result ≡ must_read takes_appends since }
+/// For this many milliseconds after an entry of another host a host reads on before each turn: else
+/// the other one would be first in most of its appends.
+pub const BUSY: u64 = 2_000;
+
+/// Reports whether a host reads on before its turn, `since` milliseconds after it read on and
+/// `silent` milliseconds after it had an entry of another host.
+pub fn must_read(takes_appends: bool, since: u64, silent: u64) -> bool
+    ensures { result ≡ must_read takes_appends since silent }
 {
-    !takes_appends || since >= READ_EVERY
+    !takes_appends || since >= READ_EVERY || silent < BUSY
 }
 
 /// What a run counts, in milliseconds that its port's rests took.
 #[derive(Clone, Copy)]
 pub(crate) struct Pace {
-    /// Since it began.
+    /// The clocks of the beat. They go on from its base: from the last clock of another host.
+    pub(crate) beat: Beat,
+    /// Since it began, or had the last clock of another host.
     pub(crate) rested: u64,
     /// Since it last read on.
     pub(crate) since: u64,
     /// Since it last had an entry of another host, or began.
     pub(crate) silent: u64,
-    /// When the next clock of the beat is due, since it began.
+    /// When the next clock of the beat is due, as `rested` counts.
     pub(crate) due: u64,
-    /// How many clocks of the job are over.
+    /// How many clocks of the job it has taken to turns.
     pub(crate) place: u64,
 }
 
@@ -47,41 +56,78 @@ pub(crate) struct Next {
     pub(crate) place: u64,
 }
 
-/// Returns the item at a place, counted from 0, if there is one.
-fn item_at<T: Copy>(items: &[T], place: u64) -> Option<T>
-    ensures { result ≡ slice_get items.now place }
+/// Returns the first of the clocks that is later than `last`, if there is one.
+fn first_later(clocks: &[i64], last: i64) -> Option<i64>
+    ensures { result ≡ find (int_lt last) clocks.now }
 {
-    items.get(place as usize).copied()
+    for time in clocks {
+        if last < *time {
+            return Some(*time);
+        }
+    }
+    None
 }
 
-/// Returns the place of the job's next clock: the first from this one on that is later than `last`.
-/// Another host has made the others.
-fn next_place(clocks: &[i64], place: u64, last: i64) -> u64
-    ensures { result ≡ next_place clocks.now place last }
+/// Returns the job's next clock: the first from this place on that is later than the last input.
+/// Another host has made those before it.
+fn job_clock(clocks: &[i64], place: u64, last: i64) -> Option<i64>
+    ensures { result ≡ job_clock clocks.now place last }
 {
     let Some(left) = clocks.get(place as usize..) else {
-        return place;
+        return None;
     };
-    match left.iter().position(|time| last < *time) {
-        Some(more) => place + more as u64,
-        None => clocks.len() as u64,
+    first_later(left, last)
+}
+
+/// Returns the number of clocks of a job that are over after a turn with this one.
+fn place_after(job: Option<i64>, place: u64) -> u64
+    ensures { result ≡ place_after job place }
+{
+    match job {
+        Some(_) => place.saturating_add(1),
+        None => place,
     }
 }
 
 impl Pace {
     ghost use Rattle.std.specs.Prelude.{◌≡◌};
-    ghost use Rattle.app_standby.specs.Pace.{made_by, next_of, passed};
+    ghost use Rattle.app_standby.specs.Pace.{begun, followed, heard, made_by, next_of, passed};
 
-    /// Returns that of a run whose first clock of the beat is due after `due` milliseconds.
-    pub(crate) fn new(due: u64) -> Pace
-        ensures { result ≡ record { rested = 0; since = 0; silent = 0; due = due; place = 0 } }
+    /// Returns that of a run with this beat.
+    pub(crate) fn new(beat: Beat) -> Pace
+        ensures { result ≡ begun beat }
     {
         Pace {
+            beat,
             rested: 0,
             since: 0,
             silent: 0,
-            due,
+            due: first_due(beat.every),
             place: 0,
+        }
+    }
+
+    /// Goes on from an entry of another host, if it is a clock.
+    fn follow(&mut self, entry: &Entry)
+        ensures { self.new ≡ followed self.old entry.now }
+    {
+        match entry.source() {
+            Source::Clock => {
+                self.beat.base = entry.time();
+                self.rested = 0;
+                self.due = first_due(self.beat.every);
+            }
+            Source::Offer(_) => {}
+        }
+    }
+
+    /// Notes entries of another host.
+    pub(crate) fn hear(&mut self, entries: &[Entry])
+        ensures { self.new ≡ heard entries.now self.old }
+    {
+        self.silent = 0;
+        for entry in entries {
+            self.follow(entry);
         }
     }
 
@@ -95,19 +141,14 @@ impl Pace {
     }
 
     /// Returns the clock of a turn of a host that makes clocks, after an input at time `last`.
-    fn next_clock(&self, clocks: &[i64], plan: &SharedPlan, last: i64) -> Next
-        ensures { result ≡ made_by clocks.now plan.now last self.now }
+    fn next_clock(&self, clocks: &[i64], last: i64) -> Next
+        ensures { result ≡ made_by clocks.now last self.now }
     {
-        let place = next_place(clocks, self.place, last);
-        let job = item_at(clocks, place);
+        let job = job_clock(clocks, self.place, last);
         Next {
-            clock: clock_for(job, &plan.beat, last, self.due, self.rested),
-            due: due_after(job, plan.beat.every, self.due, self.rested),
-            place: if job.is_some() {
-                place.saturating_add(1)
-            } else {
-                place
-            },
+            clock: clock_for(job, &self.beat, last, self.due, self.rested),
+            due: due_after(job, self.beat.every, self.due, self.rested),
+            place: place_after(job, self.place),
         }
     }
 
@@ -122,6 +163,6 @@ impl Pace {
                 place: self.place,
             };
         }
-        self.next_clock(clocks, plan, last)
+        self.next_clock(clocks, last)
     }
 }

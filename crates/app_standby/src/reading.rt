@@ -63,7 +63,7 @@ fn learn_new<P: Learns>(new: &[Entry], pace: &mut Pace, port: &mut P) -> Result<
     if new.is_empty() {
         return Ok(());
     }
-    pace.silent = 0;
+    pace.hear(new);
     match port.learn(new) {
         Ok(()) => Ok(()),
         Err(_failed) => Err(SharedFault::Turn(LoggedFault::Turn(TurnFault::Port))),
@@ -132,7 +132,11 @@ pub(crate) fn keep_up<L: Remembers, P: Learns>(
     ensures lasts { Last (L.may_leave log.old) (L.known log.old) → IsTrue (L.is_clean log.new)
         → Last (L.may_leave log.new) (L.known log.new) }
 {
-    if !must_read(now.is_hosting() && log.takes_appends(), pace.since) {
+    if !must_read(
+        now.is_hosting() && log.takes_appends(),
+        pace.since,
+        pace.silent,
+    ) {
         return Ok(now);
     }
     read(alloc, mark, viewers, now, pace, log, port)

@@ -1,10 +1,11 @@
 //! Turns of a host over a shared log, one after another.
 
-ghost use Rattle.std.specs.Prelude.{◌≡◌, ◌≤◌, IfErr, IsTrue, OnOk, false, is_none, true};
+ghost use Rattle.std.specs.Prelude.{◌≡◌, ◌≤◌, IfErr, IsTrue, OnOk, false, is_none, true, ⊤};
 ghost use Rattle.x3d_values.specs.Ranges.{max_viewers};
 ghost use Rattle.share_store.specs.OneLog.{Begins, Last};
 ghost use Rattle.share_logged.specs.Making.{IsOfLog};
 ghost use Rattle.app_standby.specs.Shared.{ShowsFirst};
+ghost use Rattle.app_standby.specs.Steps.{Goes, moment};
 ghost use Rattle.app_standby.specs.declared.fault.SharedFault.TheVariants.{TurnsUsedUp};
 
 use crate::fault::SharedFault;
@@ -13,7 +14,6 @@ use crate::plan::SharedPlan;
 use crate::reading::keep_up;
 use crate::state::Now;
 use crate::turning::act;
-use app_logs::first_due;
 use share_logged::{Learns, LoggedHost};
 use share_store::Remembers;
 use std::alloc::Global;
@@ -30,14 +30,53 @@ fn used_up(until: Option<u32>) -> Result<(), SharedFault>
     }
 }
 
+/// Runs the turns of a host.
+fn turns<L: Remembers, P: Learns>(
+    alloc: Global,
+    hosting: LoggedHost,
+    clocks: &[i64],
+    plan: &SharedPlan,
+    log: &mut L,
+    port: &mut P,
+) -> Result<(), SharedFault>
+    requires some { 1 ≤ plan.now.viewers }
+    requires most { plan.now.viewers ≤ max_viewers }
+    ensures goes { Goes hosting.mark plan.now.viewers
+        (moment (L.known log.old) (L.is_clean log.old) (P.told port.old))
+        (moment (L.known log.new) (L.is_clean log.new) (P.told port.new))
+        (IsOfLog plan.now.viewers (L.known log.old) hosting.part) ⊤ }
+    ensures lasts { Last (L.may_leave log.old) (L.known log.old) → IsTrue (L.is_clean log.new)
+        → Last (L.may_leave log.new) (L.known log.new) }
+{
+    let mark = hosting.mark();
+    let mut now = Now::Hosting(hosting);
+    let mut pace = Pace::new(plan.beat);
+    for _turn in 0..plan.turns {
+        if now.is_over(&plan.host) {
+            drop(now);
+            return Ok(());
+        }
+        let kept = keep_up(alloc, mark, plan.viewers, now, &mut pace, log, port)?;
+        now = act(clocks, plan, kept, &mut pace, log, port)?;
+    }
+    let over = now.is_over(&plan.host);
+    drop(now);
+    if over {
+        return Ok(());
+    }
+    used_up(plan.host.until)
+}
+
 /// Runs turns of a host over a log that other hosts append to as well, until it is done as `plan`
 /// says; all of them, if `plan` names no number of inputs.
 ///
-/// Before a turn it reads on, if the log takes no appends or 250 milliseconds have passed since it
-/// did. It takes what other hosts have stored, and the port learns that. While it has had entries
+/// Before a turn it reads on, if the log takes no appends, if 250 milliseconds have passed since it
+/// did, or if it had an entry of another host in the last 2 seconds. It takes what other hosts have
+/// stored, and the port learns that. While it has had entries
 /// in the last `standby` milliseconds it stands by: its turns number offers, and no clock. Else
 /// each numbers the next of the clocks, at times in microseconds, that is later than the last
-/// input, and after them those of the beat. If the log has other entries than the host, or is in
+/// input, and after them those of the beat, which go on from the last clock of another host. If the
+/// log has other entries than the host, or is in
 /// doubt, the host is dropped, and begins again with all entries of the log. While it can't be
 /// read, the port rests.
 ///
@@ -64,21 +103,5 @@ pub fn shared_run<L: Remembers, P: Learns>(
     ensures lasts { Last (L.may_leave log.old) (L.known log.old) → IsTrue (L.is_clean log.new)
         → Last (L.may_leave log.new) (L.known log.new) }
 {
-    let mark = hosting.mark();
-    let mut now = Now::Hosting(hosting);
-    let mut pace = Pace::new(first_due(plan.beat.every));
-    for _turn in 0..plan.turns {
-        if now.is_over(&plan.host) {
-            drop(now);
-            return Ok(());
-        }
-        now = keep_up(alloc, mark, plan.viewers, now, &mut pace, log, port)?;
-        now = act(clocks, plan, now, &mut pace, log, port)?;
-    }
-    let over = now.is_over(&plan.host);
-    drop(now);
-    if over {
-        return Ok(());
-    }
-    used_up(plan.host.until)
+    turns(alloc, hosting, clocks, plan, log, port)
 }

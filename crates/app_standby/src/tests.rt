@@ -52,10 +52,12 @@ impl<P: Port> Learns for Steady<P> {
     }
 }
 
-/// A log with two handles whose first append has this outcome, if one is given.
+/// A log with two handles. If an outcome is given, it is that of the append of turn 1, before which
+/// the host reads on: a reading has a place in the plan too.
 fn log(alloc: Global, first: Option<Outcome>) -> Result<MemoryLog, Fail> {
     let mut plan = Vec::new(alloc);
     if let Some(outcome) = first {
+        plan.push(Outcome::Stored)?;
         plan.push(outcome)?;
     }
     Ok(MemoryLog::new(alloc, 2, plan)?)
@@ -80,15 +82,9 @@ fn begin(alloc: Global) -> Result<LoggedHost, Fail> {
     }
 }
 
-/// Runs turns of a host that begins with an empty log, with rests of 300 milliseconds.
-fn run(
-    alloc: Global,
-    log: &mut MemoryLog,
-    clocks: &[i64],
-    standby: u64,
-    turns: u64,
-) -> Result<usize, Fail> {
-    let plan = SharedPlan {
+/// What a host does that makes no clocks of its own.
+fn plan(standby: u64, turns: u64) -> SharedPlan {
+    SharedPlan {
         host: HostPlan {
             keep: None,
             until: None,
@@ -100,7 +96,20 @@ fn run(
         turns,
         standby,
         viewers: 1,
-    };
+    }
+}
+
+/// Runs turns of a host that begins with an empty log, with rests of 300 milliseconds. Returns how
+/// many entries the port learned.
+fn run(
+    alloc: Global,
+    log: &mut MemoryLog,
+    clocks: &[i64],
+    plan: &SharedPlan,
+) -> Result<usize, Fail> {
+    if plan.viewers != 1 {
+        return Err(Fail::from("the host has one viewer"));
+    }
     let mut port = Steady {
         port: FakePort::failing_at(alloc, 0),
         millis: 300,
@@ -109,7 +118,7 @@ fn run(
     };
     let hosting = begin(alloc)?;
     let mut handle = log.handle(0);
-    let ended = shared_run(alloc, hosting, clocks, &plan, &mut handle, &mut port);
+    let ended = shared_run(alloc, hosting, clocks, plan, &mut handle, &mut port);
     let MemoryHandle { log: _, number: _ } = handle;
     match ended {
         Ok(()) => Ok(port.learned),
@@ -130,25 +139,24 @@ fn has_clocks(log: &MemoryLog, times: &[i64]) -> bool {
     true
 }
 
-/// It stands by for a second: the other host's two entries are taken in turn 2, at 300
-/// milliseconds, and turn 6, at 1500, makes the first clock after them.
+/// It stands by for a second: the other host's two entries are taken in turn 1, and turn 5, at 1200
+/// milliseconds, is the first after a second.
 #[test]
 fn follows_and_then_stands_in(rt: HostRuntime) -> Result<(), Fail> {
     let mut log = log(rt.alloc(), None)?;
     append(&mut log, 5)?;
     append(&mut log, 6)?;
-    assert_eq!(rt; run(rt.alloc(), &mut log, &[5, 8], 1000, 5)?, 2);
+    assert_eq!(rt; run(rt.alloc(), &mut log, &[5, 8, 9], &plan(1000, 4))?, 2);
     assert!(rt; has_clocks(&log, &[5, 6]));
     Ok(())
 }
 
-/// Turn 2 takes the entries at 300 milliseconds, and turn 6, at 1500, is the first after a second.
 #[test]
 fn makes_the_next_clock(rt: HostRuntime) -> Result<(), Fail> {
     let mut log = log(rt.alloc(), None)?;
     append(&mut log, 5)?;
     append(&mut log, 6)?;
-    assert_eq!(rt; run(rt.alloc(), &mut log, &[5, 8, 9], 1000, 6)?, 3);
+    assert_eq!(rt; run(rt.alloc(), &mut log, &[5, 8, 9], &plan(1000, 5))?, 3);
     assert!(rt; has_clocks(&log, &[5, 6, 8]));
     Ok(())
 }
@@ -157,25 +165,41 @@ fn makes_the_next_clock(rt: HostRuntime) -> Result<(), Fail> {
 #[test]
 fn makes_no_clock_before_its_time(rt: HostRuntime) -> Result<(), Fail> {
     let mut log = log(rt.alloc(), None)?;
-    assert_eq!(rt; run(rt.alloc(), &mut log, &[5], 1000, 4)?, 0);
-    assert_eq!(rt; run(rt.alloc(), &mut log, &[5], 1000, 5)?, 1);
+    assert_eq!(rt; run(rt.alloc(), &mut log, &[5], &plan(1000, 4))?, 0);
+    assert_eq!(rt; run(rt.alloc(), &mut log, &[5], &plan(1000, 5))?, 1);
     Ok(())
 }
 
-/// The clock at 4 is refused, as the other host's at 5 is there: that is taken in turn 2.
+/// The beat of a second goes on from the other host's clock at 500 microseconds: turn 5, at 1200
+/// milliseconds, makes the first.
+#[test]
+fn goes_on_from_the_clock_of_another(rt: HostRuntime) -> Result<(), Fail> {
+    let mut log = log(rt.alloc(), None)?;
+    append(&mut log, 500)?;
+    let beat = Beat {
+        every: Some(1000),
+        base: 0,
+    };
+    let plan = SharedPlan { beat, ..plan(0, 5) };
+    assert_eq!(rt; run(rt.alloc(), &mut log, &[], &plan)?, 2);
+    assert!(rt; has_clocks(&log, &[500, 1_200_500]));
+    Ok(())
+}
+
+/// The first append is refused. Turn 2 reads on, and appends again.
 #[test]
 fn begins_again_if_it_is_taken(rt: HostRuntime) -> Result<(), Fail> {
-    let mut log = log(rt.alloc(), None)?;
-    append(&mut log, 5)?;
-    assert_eq!(rt; run(rt.alloc(), &mut log, &[4, 9], 0, 2)?, 2);
-    assert!(rt; has_clocks(&log, &[5, 9]));
+    let mut log = log(rt.alloc(), Some(Outcome::Taken))?;
+    assert_eq!(rt; run(rt.alloc(), &mut log, &[5], &plan(0, 1))?, 0);
+    assert_eq!(rt; run(rt.alloc(), &mut log, &[5], &plan(0, 2))?, 1);
+    assert!(rt; has_clocks(&log, &[5]));
     Ok(())
 }
 
 #[test]
 fn finds_what_was_stored_in_doubt(rt: HostRuntime) -> Result<(), Fail> {
     let mut log = log(rt.alloc(), Some(Outcome::InDoubtStored))?;
-    assert_eq!(rt; run(rt.alloc(), &mut log, &[5], 0, 3)?, 1);
+    assert_eq!(rt; run(rt.alloc(), &mut log, &[5], &plan(0, 3))?, 1);
     assert!(rt; has_clocks(&log, &[5]));
     Ok(())
 }
@@ -183,7 +207,7 @@ fn finds_what_was_stored_in_doubt(rt: HostRuntime) -> Result<(), Fail> {
 #[test]
 fn makes_a_clock_again_that_was_lost_in_doubt(rt: HostRuntime) -> Result<(), Fail> {
     let mut log = log(rt.alloc(), Some(Outcome::InDoubtLost))?;
-    assert_eq!(rt; run(rt.alloc(), &mut log, &[5], 0, 2)?, 1);
+    assert_eq!(rt; run(rt.alloc(), &mut log, &[5], &plan(0, 2))?, 1);
     assert!(rt; has_clocks(&log, &[5]));
     Ok(())
 }

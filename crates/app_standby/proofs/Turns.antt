@@ -1,0 +1,90 @@
+-- A turn of a run, and what ends it.
+use Rattle.std.proofs.Common.{◌≡◌, ℕ, ℤ, List, ap, sym, subst, inl, inr}
+use Rattle.std.specs.Prelude.{Bool, Option, Result, Ok, Err, IfOk, IsTrue, OnErr, ⊤}
+use Rattle.share_entries.specs.Entry.{EntryView}
+use Rattle.share_law.specs.Parts.{HostPart}
+use Rattle.share_logged.specs.Hosting.{LoggedView}
+use Rattle.share_logged.specs.Making.{IsOfLog}
+use Rattle.share_logged.specs.Resting.{IsRestedTurn}
+use Rattle.share_logged.specs.Shown.{Shows}
+use Rattle.share_logged.specs.Turn.{IsLoggedEnd}
+use Rattle.share_logged.specs.declared.fault.LoggedFault.{LoggedFault}
+use Rattle.share_logged.specs.declared.fault.LoggedFault.TheVariants as logged_fault
+use Rattle.share_store.specs.OneLog.{Begins}
+use Rattle.share_store.specs.declared.fault.AppendFault.TheVariants as append
+use Rattle.share_turns.specs.Runs.{Hosting}
+use Rattle.share_turns.specs.Told.{Passed}
+use Rattle.share_turns.specs.declared.traffic.Traffic.{Traffic}
+use Rattle.app_standby.specs.State.{IsMarked, IsNowOf, after_fault}
+use Rattle.app_standby.specs.Steps.{Goes, Moment, moment}
+use Rattle.app_standby.specs.declared.fault.SharedFault.{SharedFault}
+use Rattle.app_standby.specs.declared.state.Now.{Now}
+use Rattle.app_standby.specs.declared.state.Now.TheVariants as now
+use Rattle.app_standby.proofs.Going.{begins-equal, shows-first}
+
+turn-grows : (mark : List ℕ) (keep : Option ℕ) (clock : Option ℤ) (clean : Bool) (known stored : List EntryView) (a b : Passed) (old new : Hosting)
+    → IsRestedTurn mark keep clock clean known stored a b old new → IsTrue clean → Begins known stored
+turn-grows mark keep clock clean known stored a b old new r x = (r.turned.entries, r.turned.has_stored x)
+
+end-grows : (mark : List ℕ) (clock : Option ℤ) (fault : LoggedFault) (clean : Bool) (known stored : List EntryView) (a b : Option (List Traffic)) (old : HostPart) (before : List ℕ)
+    → IsLoggedEnd mark clock fault clean known stored a b old before → IsTrue clean → Begins known stored
+end-grows mark clock (logged_fault.Turn f) clean known stored a b old before (inl cut) x = begins-equal known stored cut.same
+end-grows mark clock (logged_fault.Turn f) clean known stored a b old before (inr rest) x = (rest.1.entries, rest.1.has_stored x)
+end-grows mark clock (logged_fault.Log f) clean known stored a b old before un x = begins-equal known stored (un.same x)
+
+-- a whole turn
+pub turn-goes : (v : ℕ) (mark : List ℕ) (keep : Option ℕ) (clock : Option ℤ) (p q : Bool) (known stored : List EntryView) (a b : Passed) (old new : Hosting)
+    → IsRestedTurn mark keep clock q known stored a b old new → (IsTrue q → IsTrue p)
+    → ((w : ℕ) → IsTrue q → IsOfLog w known old.part → Shows mark w stored a.told b.told)
+    → ((w : ℕ) → IsTrue q → IsOfLog w known old.part → IsOfLog w stored new.part)
+    → Goes mark v (moment known p a.told) (moment stored q b.told) (IsOfLog v known old.part) (IsOfLog v stored new.part)
+turn-goes v mark keep clock p q known stored a b old new done clean shown stays = record {
+  clean = clean;
+  grows = turn-grows mark keep clock q known stored a b old new done;
+  shown = λ x w. shows-first mark v stored a.told b.told (shown v x w);
+  stays = λ x w. stays v x w;
+}
+
+-- a turn that ended early
+pub end-goes : (v : ℕ) (mark : List ℕ) (clock : Option ℤ) (fault : LoggedFault) (p q : Bool) (known stored : List EntryView) (a b : Option (List Traffic)) (old : HostPart) (before : List ℕ)
+    → IsLoggedEnd mark clock fault q known stored a b old before → (IsTrue q → IsTrue p)
+    → ((w : ℕ) → IsTrue q → IsOfLog w known old → Shows mark w stored a b)
+    → Goes mark v (moment known p a) (moment stored q b) (IsOfLog v known old) ⊤
+end-goes v mark clock fault p q known stored a b old before ended clean shown = record {
+  clean = clean;
+  grows = end-grows mark clock fault q known stored a b old before ended;
+  shown = λ x w. shows-first mark v stored a b (shown v x w);
+  stays = λ x w. tt;
+}
+
+-- the run goes on without its host, or it ends
+pub fault-ok : (fault : LoggedFault) (result : Result Now SharedFault) (P : Now → Type 0) → result ≡ after_fault fault → P now.Behind → IfOk result P
+fault-ok (logged_fault.Turn f) result P is h = subst (λ (r : Result Now SharedFault). IfOk r P) (sym is) tt
+fault-ok (logged_fault.Log append.Taken) result P is h = subst (λ (r : Result Now SharedFault). IfOk r P) (sym is) h
+fault-ok (logged_fault.Log append.InDoubt) result P is h = subst (λ (r : Result Now SharedFault). IfOk r P) (sym is) h
+fault-ok (logged_fault.Log append.Memory) result P is h = subst (λ (r : Result Now SharedFault). IfOk r P) (sym is) tt
+fault-ok (logged_fault.Log append.Full) result P is h = subst (λ (r : Result Now SharedFault). IfOk r P) (sym is) tt
+
+pub on-err : {A : Type 0} (result : Result Now SharedFault) → A → OnErr result A
+on-err (Ok n) h = tt
+on-err (Err fault) h = h
+
+pub if-ok : (result : Result Now SharedFault) (P Q : Now → Type 0) → ((n : Now) → P n → Q n) → IfOk result P → IfOk result Q
+if-ok (Ok n) P Q f h = f n h
+if-ok (Err fault) P Q f h = tt
+
+pub then-err : {A B : Type 0} (result : Result Now SharedFault) → (A → B) → OnErr result A → OnErr result B
+then-err (Ok n) f h = tt
+then-err (Err fault) f h = f h
+
+-- a turn of the host that there is
+pub goes-of : (mark : List ℕ) (v : ℕ) (a b : Moment) (n : Now) (h : LoggedView) (known : List EntryView) (is : Type 0) → n ≡ now.Hosting h → IsMarked mark n
+    → Goes h.mark v a b (IsOfLog v known h.part) is → Goes mark v a b (IsNowOf v known n) is
+goes-of mark v a b n h known is here marked g =
+    let same : h.mark ≡ mark = subst (IsMarked mark) here marked in
+    subst (λ (x : Now). Goes mark v a b (IsNowOf v known x) is) (sym here) (subst (λ (m : List ℕ). Goes m v a b (IsOfLog v known h.part) is) same g)
+
+pub marked-of : (mark : List ℕ) (n other : Now) (h : LoggedView) → n ≡ now.Hosting h → IsMarked mark n → IsMarked h.mark other → IsMarked mark other
+marked-of mark n other h here marked is =
+    let same : h.mark ≡ mark = subst (IsMarked mark) here marked in
+    subst (λ (m : List ℕ). IsMarked m other) same is
