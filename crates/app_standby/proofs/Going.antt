@@ -1,7 +1,6 @@
 -- Steps of a run, one after another.
-use Rattle.std.proofs.Common.{◌≡◌, ℕ, zero, suc, List, [], ◌∷◌, ◌++◌, refl, ap, sym, ◌∙◌, subst, append_assoc, append-nil}
-use Rattle.std.specs.Prelude.{Bool, Option, Some, None, IsTrue, slice_get, ⊤}
-use Rattle.std.proofs.lemmas.Option.{none-some}
+use Rattle.std.proofs.Common.{◌≡◌, ℕ, zero, suc, List, [], ◌∷◌, ◌++◌, ap, sym, ◌∙◌, append_assoc, append-nil}
+use Rattle.std.specs.Prelude.{Option, Some, None, slice_get}
 use Rattle.share_entries.specs.Entry.{EntryView}
 use Rattle.share_logged.specs.Shown.{Shows}
 use Rattle.share_store.specs.OneLog.{Begins}
@@ -9,7 +8,7 @@ use Rattle.share_turns.specs.declared.traffic.Datagram.{Datagram}
 use Rattle.share_turns.specs.declared.traffic.Traffic.{Traffic}
 use Rattle.share_turns.specs.declared.traffic.Traffic.TheVariants.{Sent}
 use Rattle.app_standby.specs.Shared.{AreShownOf, IsShownOf, ShowsFirst}
-use Rattle.app_standby.specs.Steps.{Goes, Moment, moment}
+use Rattle.app_standby.specs.Steps.{Goes, Moment}
 
 pub begins-same : (k : List EntryView) → Begins k k
 begins-same k = ([], sym (append-nil k))
@@ -51,16 +50,6 @@ shows-first mark v k None b s = tt
 shows-first mark v k (Some x) None s = absurd s
 shows-first mark v k (Some x) (Some y) s = (s.0, s.1, λ n d is. (k, begins-same k, s.2 n d is))
 
--- nothing
-none-sent : (mark : List ℕ) (v : ℕ) (k : List EntryView) → AreShownOf mark v k []
-none-sent mark v k = λ n d is. absurd (none-some (Sent d) is)
-
-pub first-none : (mark : List ℕ) (v : ℕ) (k : List EntryView) (a b : Option (List Traffic)) → b ≡ a → ShowsFirst mark v k a b
-first-none mark v k a b same = subst (λ (x : Option (List Traffic)). ShowsFirst mark v k a x) (sym same) (go a) where
-  go : (a : Option (List Traffic)) → ShowsFirst mark v k a a
-  go None = tt
-  go (Some x) = ([], sym (append-nil x), none-sent mark v k)
-
 -- ---- steps
 
 pub goes-then : (mark : List ℕ) (v : ℕ) (a b c : Moment) (was mid is : Type 0) → Goes mark v a b was mid → Goes mark v b c mid is → Goes mark v a c was is
@@ -73,34 +62,3 @@ goes-then mark v a b c was mid is g h = record {
       (h.shown x (g.stays (h.clean x) w));
   stays = λ x w. h.stays x (g.stays (h.clean x) w);
 }
-
--- nothing happened
-pub goes-nothing : (mark : List ℕ) (v : ℕ) (a b : Moment) (was : Type 0) → b ≡ a → Goes mark v a b was was
-goes-nothing mark v a b was same = subst (λ (x : Moment). Goes mark v a x was was) (sym same) here where
-  here : Goes mark v a a was was
-  here = record {
-    clean = λ x. x;
-    grows = λ x. begins-same a.known;
-    shown = λ x w. first-none mark v a.known a.told a.told refl;
-    stays = λ x w. w;
-  }
-
--- it read on, and sent nothing
-pub goes-silent : (mark : List ℕ) (v : ℕ) (known other : List EntryView) (p q : Bool) (s t : Option (List Traffic)) (was is : Type 0) → (IsTrue q → IsTrue p) → (IsTrue q → Begins known other)
-    → t ≡ s → (IsTrue q → was → is) → Goes mark v (moment known p s) (moment other q t) was is
-goes-silent mark v known other p q s t was is clean grows told stays = record {
-  clean = clean;
-  grows = grows;
-  shown = λ x w. first-none mark v other s t told;
-  stays = stays;
-}
-
--- it read nothing, and sent nothing
-pub goes-unread : (mark : List ℕ) (v : ℕ) (known other : List EntryView) (p q : Bool) (s t : Option (List Traffic)) (P : List EntryView → Type 0) → (IsTrue q → IsTrue p) → (IsTrue q → other ≡ known)
-    → t ≡ s → Goes mark v (moment known p s) (moment other q t) (P known) (P other)
-goes-unread mark v known other p q s t P clean same told =
-    goes-silent mark v known other p q s t (P known) (P other) clean (λ x. begins-equal known other (same x)) told (λ x w. subst P (sym (same x)) w)
-
--- the host may have been dropped
-pub goes-without : (mark : List ℕ) (v : ℕ) (a b : Moment) (was is : Type 0) → Goes mark v a b was is → Goes mark v a b was ⊤
-goes-without mark v a b was is g = record { clean = g.clean; grows = g.grows; shown = g.shown; stays = λ x w. tt }

@@ -1,4 +1,3 @@
 pub mod Going
 pub mod Turns
 pub mod Readings
-pub mod Clocks

@@ -1,9 +1,8 @@
 -- A turn of a run, and what ends it.
-use Rattle.std.proofs.Common.{◌≡◌, ℕ, ℤ, List, ap, sym, subst, inl, inr}
+use Rattle.std.proofs.Common.{◌≡◌, ℕ, ℤ, List, sym, subst, inl, inr}
 use Rattle.std.specs.Prelude.{Bool, Option, Result, Ok, Err, IfOk, IsTrue, OnErr, ⊤}
 use Rattle.share_entries.specs.Entry.{EntryView}
 use Rattle.share_law.specs.Parts.{HostPart}
-use Rattle.share_logged.specs.Hosting.{LoggedView}
 use Rattle.share_logged.specs.Making.{IsOfLog}
 use Rattle.share_logged.specs.Resting.{IsRestedTurn}
 use Rattle.share_logged.specs.Shown.{Shows}
@@ -15,8 +14,8 @@ use Rattle.share_store.specs.declared.fault.AppendFault.TheVariants as append
 use Rattle.share_turns.specs.Runs.{Hosting}
 use Rattle.share_turns.specs.Told.{Passed}
 use Rattle.share_turns.specs.declared.traffic.Traffic.{Traffic}
-use Rattle.app_standby.specs.State.{IsMarked, IsNowOf, after_fault}
-use Rattle.app_standby.specs.Steps.{Goes, Moment, moment}
+use Rattle.app_standby.specs.State.{after_fault}
+use Rattle.app_standby.specs.Steps.{Goes, moment}
 use Rattle.app_standby.specs.declared.fault.SharedFault.{SharedFault}
 use Rattle.app_standby.specs.declared.state.Now.{Now}
 use Rattle.app_standby.specs.declared.state.Now.TheVariants as now
@@ -68,23 +67,3 @@ fault-ok (logged_fault.Log append.Full) result P is h = subst (λ (r : Result No
 pub on-err : {A : Type 0} (result : Result Now SharedFault) → A → OnErr result A
 on-err (Ok n) h = tt
 on-err (Err fault) h = h
-
-pub if-ok : (result : Result Now SharedFault) (P Q : Now → Type 0) → ((n : Now) → P n → Q n) → IfOk result P → IfOk result Q
-if-ok (Ok n) P Q f h = f n h
-if-ok (Err fault) P Q f h = tt
-
-pub then-err : {A B : Type 0} (result : Result Now SharedFault) → (A → B) → OnErr result A → OnErr result B
-then-err (Ok n) f h = tt
-then-err (Err fault) f h = f h
-
--- a turn of the host that there is
-pub goes-of : (mark : List ℕ) (v : ℕ) (a b : Moment) (n : Now) (h : LoggedView) (known : List EntryView) (is : Type 0) → n ≡ now.Hosting h → IsMarked mark n
-    → Goes h.mark v a b (IsOfLog v known h.part) is → Goes mark v a b (IsNowOf v known n) is
-goes-of mark v a b n h known is here marked g =
-    let same : h.mark ≡ mark = subst (IsMarked mark) here marked in
-    subst (λ (x : Now). Goes mark v a b (IsNowOf v known x) is) (sym here) (subst (λ (m : List ℕ). Goes m v a b (IsOfLog v known h.part) is) same g)
-
-pub marked-of : (mark : List ℕ) (n other : Now) (h : LoggedView) → n ≡ now.Hosting h → IsMarked mark n → IsMarked h.mark other → IsMarked mark other
-marked-of mark n other h here marked is =
-    let same : h.mark ≡ mark = subst (IsMarked mark) here marked in
-    subst (λ (m : List ℕ). IsMarked m other) same is

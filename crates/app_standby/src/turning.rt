@@ -1,10 +1,9 @@
 //! A turn of a host over a shared log.
 
-ghost use Rattle.std.specs.Prelude.{◌≡◌, ℕ, IfOk, IfErr, IsTrue, List, OnErr, ⊤};
+ghost use Rattle.std.specs.Prelude.{◌≡◌, ℕ, IfOk, IsTrue, List, OnErr, ⊤};
 ghost use Rattle.share_store.specs.OneLog.{Last};
 ghost use Rattle.share_logged.specs.Making.{IsOfLog};
 ghost use Rattle.app_standby.specs.State.{IsMarked, IsNowOf, after_fault};
-ghost use Rattle.app_standby.specs.Pace.{passed};
 ghost use Rattle.app_standby.specs.Steps.{Goes, moment};
 
 use crate::fault::SharedFault;

@@ -3,7 +3,7 @@ use Rattle.std.specs.Prelude.{⊤}
 use Rattle.share_logged.specs.Making.{IsOfLog}
 use Rattle.app_standby.specs.State.{IsNowOf}
 use Rattle.app_standby.specs.Steps.{Goes, Moment, moment}
-use Rattle.app_standby.proofs.Going.{goes-then, goes-without}
+use Rattle.app_standby.proofs.Going.{goes-then}
 use Rattle.app_standby.proofs.running.turns.Goals as goal
 
 pub returns-in_err-kept-clause-goes : goal.returns-in_err-kept-clause-goes
