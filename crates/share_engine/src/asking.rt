@@ -1,16 +1,18 @@
 //! One request to an engine, and what its answer says.
 
-ghost use Rattle.std.specs.Prelude.{◌≡◌, ◌++◌, List, ℕ, Option, Some, None, Ok, Err, IfOk, IfSome};
+ghost use Rattle.std.specs.Prelude.{◌≡◌, ◌⊎◌, List, ℕ, Option, Some, None, Ok, Err, IfOk, IfSome, MatchOption};
 ghost use Rattle.std.specs.Option.{option_map, ok_or};
 ghost use Rattle.x3d_lists.specs.Answers.{Gives};
 ghost use Rattle.share_entries.specs.Entry.{EntryView};
-ghost use Rattle.share_etcd.specs.declared.outcome.Outcome.TheVariants.{Stored};
+ghost use Rattle.share_etcd.specs.declared.outcome.Outcome.TheVariants.{Stored, Refused};
 ghost use Rattle.share_etcd.specs.Answers.{document, outcome_of as spec_outcome_of};
 ghost use Rattle.share_etcd.specs.Contents.{contents_of as spec_contents_of};
 ghost use Rattle.share_etcd.specs.Keys.{text_of};
 ghost use Rattle.share_etcd.specs.Requests.{reading_text};
 ghost use Rattle.share_etcd.specs.Views.{contents_view};
+ghost use Rattle.share_engine.specs.declared.fault.ReadingFault.TheVariants.{Malformed, Memory};
 ghost use Rattle.share_engine.specs.Exchanges.{grown};
+ghost use Rattle.share_engine.specs.Faults.{revision_of as spec_revision_of};
 ghost use Rattle.share_engine.specs.Keys.{Held, Has, Moves, Always, IsKept, AfterReading, outcome_in};
 
 use crate::engine::{Engine, EngineFault};
@@ -21,7 +23,9 @@ use std::alloc::Global;
 
 /// Returns the revision of what was done, and `None` if nothing was.
 fn revision_of(outcome: Outcome) -> Result<Option<u64>, ReadingFault>
-    ensures { IfOk result (λ o. IfSome o (λ revision. outcome ≡ Stored revision)) }
+    ensures exact { result ≡ spec_revision_of outcome }
+    ensures refused { IfOk result (λ o. MatchOption o (outcome ≡ Refused) (λ _. Unit {0})) }
+    ensures stored { IfOk result (λ o. IfSome o (λ revision. outcome ≡ Stored revision)) }
 {
     match outcome {
         Outcome::Stored { revision } => Ok(Some(revision)),
@@ -32,7 +36,11 @@ fn revision_of(outcome: Outcome) -> Result<Option<u64>, ReadingFault>
 
 /// Reads the answer to a making or an append.
 fn stored_in(alloc: Global, answer: &[u8]) -> Result<Option<u64>, ReadingFault>
-    ensures { IfOk result (λ o. IfSome o (λ revision.
+    ensures exact { (result ≡ Err Memory)
+        ⊎ (result ≡ spec_revision_of (spec_outcome_of (document answer.now))) }
+    ensures refused { IfOk result (λ o. MatchOption o
+        (spec_outcome_of (document answer.now) ≡ Refused) (λ _. Unit {0})) }
+    ensures stored { IfOk result (λ o. IfSome o (λ revision.
         spec_outcome_of (document answer.now) ≡ Stored revision)) }
 {
     match outcome_of(alloc, answer) {
@@ -56,6 +64,10 @@ pub(crate) fn ask_for<E: Engine>(
         × (E.told engine.new
         ≡ grown (E.told engine.old) (record { asked = body.now; answer = said }))
         × (outcome_in said ≡ Stored revision))) }
+    ensures refused { IfOk result (λ o. MatchOption o ((said : Option (List ℕ))
+        × (E.told engine.new
+        ≡ grown (E.told engine.old) (record { asked = body.now; answer = said }))
+        × (outcome_in said ≡ Refused)) (λ _. Unit {0})) }
 {
     match engine.ask(body, answer) {
         Ok(()) => stored_in(alloc, answer),
@@ -71,8 +83,10 @@ fn contents_in(
     first: u64,
     answer: &[u8],
 ) -> Result<Option<Contents>, ReadingFault>
-    ensures { IfOk result (λ o. spec_contents_of (text_of name.now) first (document answer.now)
-        ≡ Some (option_map contents_view o)) }
+    ensures exact { Gives Memory (option_map contents_view) result
+        (ok_or (spec_contents_of (text_of name.now) first (document answer.now)) Malformed) }
+    ensures found { IfOk result (λ o. spec_contents_of (text_of name.now) first
+        (document answer.now) ≡ Some (option_map contents_view o)) }
 {
     match contents_of(alloc, name, first, answer) {
         Ok(contents) => Ok(contents),

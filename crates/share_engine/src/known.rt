@@ -1,7 +1,9 @@
 //! The entries that a handle knows.
 
-ghost use Rattle.std.specs.Prelude.{◌≡◌, ◌+◌, [], ◌∷◌, ◌++◌, List, length, map, take, Some, IfOk, OnErr, OnOk};
+ghost use Rattle.std.specs.Prelude.{◌≡◌, ◌⊎◌, ◌+◌, [], ◌∷◌, ◌++◌, List, length, map, take, None, Some, IfErr, MatchResult, OnErr, OnOk};
+ghost use Rattle.share_entries.specs.declared.frame.FrameFault.TheVariants.{Memory as NoMemory};
 ghost use Rattle.share_entries.specs.Chain.{chain_after};
+ghost use Rattle.share_engine.specs.declared.fault.ReadingFault.TheVariants.{NotNext, Memory};
 ghost use Rattle.share_engine.specs.Reading.{entries_from, next_in};
 ghost use Rattle.share_store.specs.OneLog.{Begins};
 ghost use Rattle.share_etcd.specs.Contents.{FrameView};
@@ -31,6 +33,17 @@ impl Model for Known {
     ghost view = { λ k. record { run = k.run; entries = k.entries.items } };
 
     ghost invariant = { λ k. k.chain ≡ chain_after k.run k.entries.items };
+}
+
+/// Returns the fault of a frame that isn't read.
+fn fault_of(fault: FrameFault) -> ReadingFault
+    ensures memory { fault ≡ NoMemory → result ≡ Memory }
+    ensures either { (result ≡ Memory) ⊎ (result ≡ NotNext) }
+{
+    match fault {
+        FrameFault::Memory => ReadingFault::Memory,
+        _ => ReadingFault::NotNext,
+    }
 }
 
 impl Known {
@@ -104,8 +117,10 @@ impl Known {
 
     /// Reads the next frame.
     fn next(&self, alloc: Global, frame: &Frame) -> Result<Vec<Entry>, ReadingFault>
-        ensures { IfOk result (λ v. next_in self.now.run self.now.entries (frame_view frame.now)
-            ≡ Some v.items) }
+        ensures { MatchResult result
+            (λ v. next_in self.now.run self.now.entries (frame_view frame.now) ≡ Some v.items)
+            (λ e. (e ≡ Memory) ⊎ ((e ≡ NotNext)
+            × (next_in self.now.run self.now.entries (frame_view frame.now) ≡ None))) }
     {
         let first = self.next_number();
         if frame.first != first {
@@ -113,8 +128,7 @@ impl Known {
         }
         match frame_of(alloc, &self.chain, first, &frame.bytes) {
             Ok(entries) => Ok(entries),
-            Err(FrameFault::Memory) => Err(ReadingFault::Memory),
-            Err(_) => Err(ReadingFault::NotNext),
+            Err(fault) => Err(fault_of(fault)),
         }
     }
 
@@ -125,6 +139,9 @@ impl Known {
         ensures next { OnOk result ((fs : List FrameView)
             → entries_from self.old.run self.old.entries (frame_view frame.now ∷ fs)
             ≡ entries_from self.old.run self.new.entries fs) }
+        ensures fault { IfErr result (λ e. (e ≡ Memory) ⊎ ((e ≡ NotNext)
+            × ((fs : List FrameView) → entries_from self.old.run self.old.entries
+            (frame_view frame.now ∷ fs) ≡ None))) }
     {
         let entries = self.next(alloc, frame)?;
         self.add(&entries)?;
@@ -137,6 +154,8 @@ impl Known {
         ensures grows { Begins self.old.entries self.new.entries }
         ensures read { OnOk result (entries_from self.old.run self.old.entries
             (map frame_view frames.now) ≡ Some self.new.entries) }
+        ensures fault { IfErr result (λ e. (e ≡ Memory) ⊎ ((e ≡ NotNext)
+            × (entries_from self.old.run self.old.entries (map frame_view frames.now) ≡ None))) }
     {
         for frame in frames {
             self.add_frame(alloc, frame)?;

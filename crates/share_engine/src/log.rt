@@ -1,12 +1,14 @@
 //! A log in etcd, as `Log`.
 
-ghost use Rattle.std.specs.Prelude.{◌≡◌, ◌+◌, ◌<◌, ◌≤◌, ◌^◌, ◌++◌, true, false, length, Ok, IfOk, IsTrue, IsErrOf, OnErr, OnOk};
+ghost use Rattle.std.specs.Prelude.{◌≡◌, ◌+◌, ◌<◌, ◌≤◌, ◌^◌, ◌++◌, ℕ, List, Option, true, false, length, Ok, IfOk, IsTrue, IsErrOf, OnErr, OnOk};
 ghost use Rattle.share_entries.specs.Chain.{chain_after};
 ghost use Rattle.share_entries.specs.Frame.{frame_in, frame_text};
+ghost use Rattle.share_etcd.specs.declared.outcome.Outcome.TheVariants.{Refused};
 ghost use Rattle.share_etcd.specs.Keys.{text_of};
 ghost use Rattle.share_etcd.specs.Requests.{append_text};
 ghost use Rattle.share_store.specs.OneLog.{max_entries};
-ghost use Rattle.share_engine.specs.Keys.{held, IsKept, MayLeave};
+ghost use Rattle.share_engine.specs.Exchanges.{grown};
+ghost use Rattle.share_engine.specs.Keys.{held, IsKept, MayLeave, outcome_in};
 
 use crate::asking::ask_for;
 use crate::engine::Engine;
@@ -137,6 +139,11 @@ impl<E: Engine> EtcdLog<E> {
         ensures open { OnOk result (IsTrue self.new.is_open) }
         ensures refused { OnErr result (self.new.known.entries ≡ self.old.known.entries) }
         ensures closed { OnErr result (self.new.is_open ≡ false) }
+        // It is taken if the answer says that it was refused.
+        ensures taken { IsErrOf result AppendFault.Taken → (said : Option (List ℕ))
+            × (E.told self.new.engine
+            ≡ grown (E.told self.old.engine) (record { asked = body.now; answer = said }))
+            × (outcome_in said ≡ Refused) }
         ensures memory { IsErrOf result AppendFault.Memory → ⊥ }
         ensures full { IsErrOf result AppendFault.Full → ⊥ }
     {

@@ -4,8 +4,8 @@ mod by_hand;
 
 use crate::{EtcdLog, FakeEngine, OpenedWorld, WorldFault, open_world};
 use by_hand::{
-    APPENDED, ERROR, FRAME_1, FRAME_2, HEAD, MADE, NOT_APPENDED, NOT_MADE, NOTHING, OTHER_HEAD,
-    TAIL_0, TAIL_1, TAIL_3,
+    APPENDED, ERROR, MADE, NOT_APPENDED, NOT_MADE, NOTHING, READ_1, READ_1_NONE, READ_1_TOO_MANY,
+    READ_3, READ_3_FIRST, READ_3_NONE, READ_3_REST, READ_NO_HEAD, READ_OTHER,
 };
 use share_entries::{Entry, Head, Source, frame_bytes};
 use share_etcd::{Revisions, append_bytes, making_bytes};
@@ -29,123 +29,59 @@ fn door() -> Result<WorldName, Fail> {
     Ok(name)
 }
 
-/// Returns an answer to a reading; what is empty isn't there.
-fn reading(alloc: Global, pairs: [&str; 4]) -> Result<Vec<u8>, AllocError> {
-    let [head, tail, first, second] = pairs;
-    let comma = if first.is_empty() || second.is_empty() {
-        ""
-    } else {
-        ","
-    };
-    let pieces = [
-        "{\"header\":{\"revision\":\"4\"},\"succeeded\":true,\"responses\":[",
-        "{\"response_range\":{\"kvs\":[",
-        head,
-        "]}},{\"response_range\":{\"kvs\":[",
-        tail,
-        "]}},{\"response_range\":{\"kvs\":[",
-        first,
-        comma,
-        second,
-        "]}}]}",
-    ];
-    let mut body = Vec::new(alloc);
-    for piece in pieces {
-        body.extend_from_slice(piece.as_bytes())?;
+/// Returns an answer; none if the text is empty.
+fn answer(alloc: Global, text: &str) -> Result<Option<Vec<u8>>, AllocError> {
+    if text.is_empty() {
+        return Ok(None);
     }
-    Ok(body)
+    Ok(Some(Vec::from_slice(alloc, text.as_bytes())?))
 }
 
-/// A plan of answers.
-#[derive(Drop)]
-struct Plan {
+/// Returns an engine with these answers.
+fn engine(alloc: Global, texts: &[&str]) -> Result<FakeEngine, AllocError> {
+    let mut answers = Vec::new(alloc);
+    for text in texts {
+        answers.push(answer(alloc, text)?)?;
+    }
+    Ok(FakeEngine::new(alloc, answers))
+}
+
+/// Opens the world over these answers.
+fn opened(
     alloc: Global,
-    answers: Vec<Option<Vec<u8>>>,
+    texts: &[&str],
+    viewers: Option<u8>,
+) -> Result<Result<OpenedWorld<FakeEngine>, WorldFault>, Fail> {
+    let name = door()?;
+    let engine = engine(alloc, texts)?;
+    Ok(open_world(alloc, engine, name, &GIVEN, viewers))
 }
 
-impl Plan {
-    fn new(alloc: Global) -> Plan {
-        Plan {
-            alloc,
-            answers: Vec::new(alloc),
-        }
-    }
-
-    /// Adds an answer of etcd's; none if it is empty.
-    fn add(&mut self, answer: &str) -> Result<(), AllocError> {
-        if answer.is_empty() {
-            self.answers.push(None)?;
-            return Ok(());
-        }
-        let body = Vec::from_slice(self.alloc, answer.as_bytes())?;
-        self.answers.push(Some(body))?;
-        Ok(())
-    }
-
-    /// Adds an answer to a reading.
-    fn add_reading(&mut self, pairs: [&str; 4]) -> Result<(), AllocError> {
-        let body = reading(self.alloc, pairs)?;
-        self.answers.push(Some(body))?;
-        Ok(())
-    }
-
-    /// Opens the world over this plan.
-    fn open(self, viewers: Option<u8>) -> Result<OpenedWorld<FakeEngine>, WorldFault> {
-        let Plan { alloc, answers } = self;
-        let Some(name) = WorldName::new(b"door") else {
-            drop(answers);
-            return Err(WorldFault::BadHead);
-        };
-        open_world(
-            alloc,
-            FakeEngine::new(alloc, answers),
-            name,
-            &GIVEN,
-            viewers,
-        )
-    }
-
-    /// Opens the world over this plan, after answers that make it.
-    fn make(alloc: Global, answers: [&str; 2]) -> Result<Plan, AllocError> {
-        let [first, second] = answers;
-        let mut plan = Plan::new(alloc);
-        plan.add(NOTHING)?;
-        plan.add(MADE)?;
-        plan.add(first)?;
-        if !second.is_empty() {
-            plan.add(second)?;
-        }
-        Ok(plan)
-    }
-
-    fn log(self) -> Result<EtcdLog<FakeEngine>, Fail> {
-        match self.open(Some(2)) {
-            Ok(opened) => Ok(opened.log),
-            Err(_) => Err(Fail::from("a world isn't opened")),
-        }
+/// Makes the world, over answers of which the first two make it.
+fn made(alloc: Global, texts: &[&str]) -> Result<EtcdLog<FakeEngine>, Fail> {
+    match opened(alloc, texts, None)? {
+        Ok(opened) => Ok(opened.log),
+        Err(_) => Err(Fail::from("a world isn't opened")),
     }
 }
 
-/// Appends a clock.
-fn append(log: &mut EtcdLog<FakeEngine>, time: i64) -> Result<Result<(), AppendFault>, Fail> {
-    if !log.takes_appends() {
-        return Err(Fail::from("the log takes no appends"));
+/// Appends a clock. `Full` if the log takes no appends.
+fn append(log: &mut EtcdLog<FakeEngine>, time: i64) -> Result<(), AppendFault> {
+    if !log.takes_appends() || time < 1 || time > 1000 {
+        return Err(AppendFault::Full);
     }
-    if time < 1 || time > 1000 {
-        return Err(Fail::from("the time is out of range"));
-    }
-    Ok(log.append(&[Entry::new(time, Source::Clock)]))
+    log.append(&[Entry::new(time, Source::Clock)])
 }
 
 /// Reads on, and returns how many entries were read.
 fn read_on(alloc: Global, log: &mut EtcdLog<FakeEngine>) -> Result<usize, ReadFault> {
     let mut found = Vec::new(alloc);
-    match log.read_on(&mut found) {
-        Ok(()) => Ok(found.len()),
-        Err(fault) => {
-            drop(found);
-            Err(fault)
-        }
+    let read = log.read_on(&mut found);
+    let count = found.len();
+    drop(found);
+    match read {
+        Ok(()) => Ok(count),
+        Err(fault) => Err(fault),
     }
 }
 
@@ -157,48 +93,57 @@ fn asked(log: &EtcdLog<FakeEngine>, number: usize, body: &[u8]) -> bool {
     }
 }
 
-#[test]
-fn a_world_is_made_and_an_entry_appended(rt: HostRuntime) -> Result<(), Fail> {
-    let alloc = rt.alloc();
+/// Returns the request for an append of one clock.
+fn appending(
+    alloc: Global,
+    chain: &[u8; 16],
+    tail: u64,
+    number: u64,
+    time: i64,
+) -> Result<Vec<u8>, Fail> {
+    if time < 1 || time > 1000 {
+        return Err(Fail::from("the time is out of range"));
+    }
     let name = door()?;
-    let making = making_bytes(alloc, &name, &GIVEN)?;
-    let frame = frame_bytes(alloc, &RUN, 1, &[Entry::new(5, Source::Clock)])?;
-    let known = Revisions { head: 2, tail: 2 };
-    let appending = append_bytes(alloc, &name, known, 1, 1, &frame)?;
-    let mut log = Plan::make(alloc, [APPENDED, ""])?.log()?;
-    assert!(rt; append(&mut log, 5)? == Ok(()));
-    assert!(rt; asked(&log, 1, &making) && asked(&log, 2, &appending));
-    assert!(rt; log.len() == 1 && log.takes_appends());
+    let frame = frame_bytes(alloc, chain, number, &[Entry::new(time, Source::Clock)])?;
+    let known = Revisions { head: 2, tail };
+    Ok(append_bytes(alloc, &name, known, number, number, &frame)?)
+}
+
+/// The chain after a clock at 5 microseconds, of the frame in `READ_1`.
+const CHAIN: [u8; 16] = [
+    0x69, 0x2c, 0x3c, 0x20, 0x43, 0xfb, 0x2b, 0x8a, 0x5a, 0x1c, 0x0b, 0xa0, 0x1a, 0x6f, 0xe5, 0xb5,
+];
+
+#[test]
+fn a_world_is_made(rt: HostRuntime) -> Result<(), Fail> {
+    let making = making_bytes(rt.alloc(), &door()?, &GIVEN)?;
+    let log = made(rt.alloc(), &[NOTHING, MADE])?;
+    assert!(rt; asked(&log, 1, &making));
+    assert!(rt; log.len() == 0 && log.takes_appends());
     Ok(())
 }
 
 #[test]
-fn the_next_append_compares_the_new_revision(rt: HostRuntime) -> Result<(), Fail> {
-    let alloc = rt.alloc();
-    let mut log = Plan::make(alloc, [APPENDED, APPENDED])?.log()?;
-    assert!(rt; append(&mut log, 5)? == Ok(()));
-    assert!(rt; append(&mut log, 6)? == Ok(()));
-    let first = frame_bytes(alloc, &RUN, 1, &[Entry::new(5, Source::Clock)])?;
-    let mut chain = [0; 16];
-    chain.copy_from_slice(&first[first.len() - 16..]);
-    let frame = frame_bytes(alloc, &chain, 2, &[Entry::new(6, Source::Clock)])?;
-    let known = Revisions { head: 2, tail: 3 };
-    let appending = append_bytes(alloc, &door()?, known, 2, 2, &frame)?;
-    assert!(rt; asked(&log, 3, &appending));
+fn each_append_compares_the_last_revision(rt: HostRuntime) -> Result<(), Fail> {
+    let first = appending(rt.alloc(), &RUN, 2, 1, 5)?;
+    let second = appending(rt.alloc(), &CHAIN, 3, 2, 6)?;
+    let mut log = made(rt.alloc(), &[NOTHING, MADE, APPENDED, APPENDED])?;
+    assert!(rt; append(&mut log, 5) == Ok(()));
+    assert!(rt; append(&mut log, 6) == Ok(()));
+    assert!(rt; asked(&log, 2, &first) && asked(&log, 3, &second));
+    assert!(rt; log.len() == 2 && log.takes_appends());
     Ok(())
 }
 
 #[test]
 fn a_handle_that_is_behind_reads_on(rt: HostRuntime) -> Result<(), Fail> {
     let alloc = rt.alloc();
-    let mut plan = Plan::make(alloc, [NOT_APPENDED, ""])?;
-    plan.add_reading([HEAD, TAIL_1, FRAME_1, ""])?;
-    plan.add(APPENDED)?;
-    let mut log = plan.log()?;
-    assert!(rt; append(&mut log, 6)? == Err(AppendFault::Taken));
+    let mut log = made(alloc, &[NOTHING, MADE, NOT_APPENDED, READ_1, APPENDED])?;
+    assert!(rt; append(&mut log, 6) == Err(AppendFault::Taken));
     assert!(rt; !log.takes_appends());
     assert!(rt; read_on(alloc, &mut log) == Ok(1));
-    assert!(rt; append(&mut log, 6)? == Ok(()));
+    assert!(rt; append(&mut log, 6) == Ok(()));
     assert!(rt; log.entries().len() == 2);
     Ok(())
 }
@@ -206,11 +151,8 @@ fn a_handle_that_is_behind_reads_on(rt: HostRuntime) -> Result<(), Fail> {
 #[test]
 fn silence_is_doubt(rt: HostRuntime) -> Result<(), Fail> {
     let alloc = rt.alloc();
-    let mut plan = Plan::make(alloc, ["", ""])?;
-    plan.add("")?;
-    plan.add_reading([HEAD, TAIL_1, FRAME_1, ""])?;
-    let mut log = plan.log()?;
-    assert!(rt; append(&mut log, 5)? == Err(AppendFault::InDoubt));
+    let mut log = made(alloc, &[NOTHING, MADE, "", "", READ_1])?;
+    assert!(rt; append(&mut log, 5) == Err(AppendFault::InDoubt));
     assert!(rt; read_on(alloc, &mut log) == Err(ReadFault::Silent));
     assert!(rt; log.len() == 0 && !log.takes_appends());
     assert!(rt; read_on(alloc, &mut log) == Ok(1));
@@ -220,9 +162,8 @@ fn silence_is_doubt(rt: HostRuntime) -> Result<(), Fail> {
 
 #[test]
 fn a_malformed_answer_is_doubt(rt: HostRuntime) -> Result<(), Fail> {
-    let alloc = rt.alloc();
-    let mut log = Plan::make(alloc, [ERROR, ""])?.log()?;
-    assert!(rt; append(&mut log, 5)? == Err(AppendFault::InDoubt));
+    let mut log = made(rt.alloc(), &[NOTHING, MADE, ERROR])?;
+    assert!(rt; append(&mut log, 5) == Err(AppendFault::InDoubt));
     assert!(rt; !log.takes_appends());
     Ok(())
 }
@@ -230,12 +171,16 @@ fn a_malformed_answer_is_doubt(rt: HostRuntime) -> Result<(), Fail> {
 #[test]
 fn another_head_is_a_failure(rt: HostRuntime) -> Result<(), Fail> {
     let alloc = rt.alloc();
-    let mut plan = Plan::make(alloc, [NOT_APPENDED, ""])?;
-    plan.add_reading([OTHER_HEAD, TAIL_0, "", ""])?;
-    plan.add_reading([HEAD, TAIL_1, "", ""])?;
-    plan.add(NOTHING)?;
-    let mut log = plan.log()?;
-    assert!(rt; append(&mut log, 5)? == Err(AppendFault::Taken));
+    let answers = [
+        NOTHING,
+        MADE,
+        NOT_APPENDED,
+        READ_OTHER,
+        READ_1_NONE,
+        NOTHING,
+    ];
+    let mut log = made(alloc, &answers)?;
+    assert!(rt; append(&mut log, 5) == Err(AppendFault::Taken));
     assert!(rt; read_on(alloc, &mut log) == Err(ReadFault::Device));
     assert!(rt; read_on(alloc, &mut log) == Err(ReadFault::Device));
     assert!(rt; read_on(alloc, &mut log) == Err(ReadFault::Device));
@@ -246,12 +191,8 @@ fn another_head_is_a_failure(rt: HostRuntime) -> Result<(), Fail> {
 #[test]
 fn a_log_is_read_in_parts(rt: HostRuntime) -> Result<(), Fail> {
     let alloc = rt.alloc();
-    let mut plan = Plan::make(alloc, ["", ""])?;
-    plan.add_reading([HEAD, TAIL_3, FRAME_1, ""])?;
-    plan.add_reading([HEAD, TAIL_3, FRAME_2, ""])?;
-    plan.add_reading([HEAD, TAIL_3, "", ""])?;
-    let mut log = plan.log()?;
-    assert!(rt; append(&mut log, 5)? == Err(AppendFault::InDoubt));
+    let answers = [NOTHING, MADE, READ_3_FIRST, READ_3_REST, READ_3_NONE];
+    let mut log = made(alloc, &answers)?;
     assert!(rt; read_on(alloc, &mut log) == Ok(3));
     assert!(rt; read_on(alloc, &mut log) == Ok(0));
     assert!(rt; log.len() == 3);
@@ -261,27 +202,17 @@ fn a_log_is_read_in_parts(rt: HostRuntime) -> Result<(), Fail> {
 #[test]
 fn a_part_that_is_damaged_leaves_what_was_known(rt: HostRuntime) -> Result<(), Fail> {
     let alloc = rt.alloc();
-    let mut plan = Plan::make(alloc, [NOT_APPENDED, ""])?;
-    plan.add_reading([HEAD, TAIL_3, FRAME_1, ""])?;
-    plan.add_reading([HEAD, TAIL_3, "", ""])?;
-    plan.add_reading([HEAD, TAIL_3, FRAME_1, FRAME_2])?;
-    let mut log = plan.log()?;
-    assert!(rt; append(&mut log, 5)? == Err(AppendFault::Taken));
+    let answers = [NOTHING, MADE, READ_3_FIRST, READ_3_NONE, READ_3];
+    let mut log = made(alloc, &answers)?;
     assert!(rt; read_on(alloc, &mut log) == Err(ReadFault::Device));
-    assert!(rt; log.len() == 0);
+    assert!(rt; log.len() == 0 && log.takes_appends());
     assert!(rt; read_on(alloc, &mut log) == Ok(3));
     Ok(())
 }
 
-/// Opens a world over one answer to a reading.
-fn opened(
-    alloc: Global,
-    pairs: [&str; 4],
-    viewers: Option<u8>,
-) -> Result<Result<u64, WorldFault>, AllocError> {
-    let mut plan = Plan::new(alloc);
-    plan.add_reading(pairs)?;
-    match plan.open(viewers) {
+/// Opens a world over one answer, and returns how many entries it has.
+fn count(alloc: Global, text: &str, viewers: Option<u8>) -> Result<Result<u64, WorldFault>, Fail> {
+    match opened(alloc, &[text], viewers)? {
         Ok(opened) => Ok(Ok(opened.log.len())),
         Err(fault) => Ok(Err(fault)),
     }
@@ -290,26 +221,18 @@ fn opened(
 #[test]
 fn a_world_that_is_there_is_opened(rt: HostRuntime) -> Result<(), Fail> {
     let alloc = rt.alloc();
-    let all = [HEAD, TAIL_3, FRAME_1, FRAME_2];
-    assert!(rt; opened(alloc, all, None)? == Ok(3));
-    assert!(rt; opened(alloc, all, Some(3))? == Err(WorldFault::WrongSeats));
-    let damaged = [HEAD, TAIL_3, FRAME_2, ""];
-    assert!(rt; opened(alloc, damaged, None)? == Err(WorldFault::Damaged(1)));
-    let short = [HEAD, TAIL_1, FRAME_1, FRAME_2];
-    assert!(rt; opened(alloc, short, None)? == Err(WorldFault::Damaged(4)));
-    let nameless = [TAIL_1, TAIL_1, "", ""];
-    assert!(rt; opened(alloc, nameless, None)? == Err(WorldFault::Malformed));
+    assert!(rt; count(alloc, READ_3, None)? == Ok(3));
+    assert!(rt; count(alloc, READ_3, Some(3))? == Err(WorldFault::WrongSeats));
+    assert!(rt; count(alloc, READ_3_REST, None)? == Err(WorldFault::Damaged(1)));
+    assert!(rt; count(alloc, READ_1_TOO_MANY, None)? == Err(WorldFault::Damaged(4)));
+    assert!(rt; count(alloc, READ_NO_HEAD, None)? == Err(WorldFault::Malformed));
     Ok(())
 }
 
 #[test]
 fn another_host_makes_the_world_first(rt: HostRuntime) -> Result<(), Fail> {
-    let alloc = rt.alloc();
-    let mut plan = Plan::new(alloc);
-    plan.add(NOTHING)?;
-    plan.add(NOT_MADE)?;
-    plan.add_reading([OTHER_HEAD, TAIL_0, "", ""])?;
-    let Ok(opened) = plan.open(None) else {
+    let answers = [NOTHING, NOT_MADE, READ_OTHER];
+    let Ok(opened) = opened(rt.alloc(), &answers, None)? else {
         return Err(Fail::from("a world isn't opened"));
     };
     assert!(rt; !opened.is_new && opened.head.run == [8; 16]);

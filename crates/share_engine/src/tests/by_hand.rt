@@ -37,39 +37,85 @@ pub(crate) const ERROR: &str = "\
     {\"error\":\"illegal base64 data at input byte 0\",\
     \"message\":\"illegal base64 data at input byte 0\",\"code\":3}";
 
-/// `x3d/door/head`, of run 9, at revision 2.
-pub(crate) const HEAD: &str = "\
-    {\"key\":\"eDNkL2Rvb3IvaGVhZA==\",\"mod_revision\":\"2\",\
-    \"value\":\"WDNETAECAAAHBwcHBwcHBwcHBwcHBwcHBwcHBwcHBwcHBwcHBwcHBwkJCQkJCQkJCQkJCQkJCQkLUZ6sEK\
-    S/Yw==\"}";
+/// To a reading: entry 1, a clock at 5 microseconds, is all.
+pub(crate) const READ_1: &str = "\
+    {\"header\":{\"revision\":\"4\"},\"succeeded\":true,\"responses\":[{\"response_range\":{\"kvs\
+    \":[{\"key\":\"eDNkL2Rvb3IvaGVhZA==\",\"mod_revision\":\"2\",\"value\":\"WDNETAECAAAHBwcHBwcH\
+    BwcHBwcHBwcHBwcHBwcHBwcHBwcHBwcHBwkJCQkJCQkJCQkJCQkJCQkLUZ6sEKS/Yw==\"}]}},{\"response_range\
+    \":{\"kvs\":[{\"key\":\"eDNkL2Rvb3IvdGFpbA==\",\"mod_revision\":\"3\",\"value\":\"MDAwMDAwMDA\
+    wMDAwMDAwMQ==\"}]}},{\"response_range\":{\"kvs\":[{\"key\":\"eDNkL2Rvb3IvbG9nLzAwMDAwMDAwMDAw\
+    MDAwMDE=\",\"mod_revision\":\"3\",\"value\":\"AAABAAAAAAAAAAEAAAAAAAAABQBpLDwgQ/srilocC6Aab+W\
+    1\"}]}}]}";
 
-/// The same of run 8.
-pub(crate) const OTHER_HEAD: &str = "\
-    {\"key\":\"eDNkL2Rvb3IvaGVhZA==\",\"mod_revision\":\"2\",\
-    \"value\":\"WDNETAECAAAHBwcHBwcHBwcHBwcHBwcHBwcHBwcHBwcHBwcHBwcHBwgICAgICAgICAgICAgICAg5m1faHf\
-    oPDA==\"}";
+/// Entry 1, and entries 2 and 3, clocks at 6 and 7 microseconds.
+pub(crate) const READ_3: &str = "\
+    {\"header\":{\"revision\":\"4\"},\"succeeded\":true,\"responses\":[{\"response_range\":{\"kvs\
+    \":[{\"key\":\"eDNkL2Rvb3IvaGVhZA==\",\"mod_revision\":\"2\",\"value\":\"WDNETAECAAAHBwcHBwcH\
+    BwcHBwcHBwcHBwcHBwcHBwcHBwcHBwcHBwkJCQkJCQkJCQkJCQkJCQkLUZ6sEKS/Yw==\"}]}},{\"response_range\
+    \":{\"kvs\":[{\"key\":\"eDNkL2Rvb3IvdGFpbA==\",\"mod_revision\":\"4\",\"value\":\"MDAwMDAwMDA\
+    wMDAwMDAwMw==\"}]}},{\"response_range\":{\"kvs\":[{\"key\":\"eDNkL2Rvb3IvbG9nLzAwMDAwMDAwMDAw\
+    MDAwMDE=\",\"mod_revision\":\"3\",\"value\":\"AAABAAAAAAAAAAEAAAAAAAAABQBpLDwgQ/srilocC6Aab+W\
+    1\"},{\"key\":\"eDNkL2Rvb3IvbG9nLzAwMDAwMDAwMDAwMDAwMDI=\",\"mod_revision\":\"4\",\"value\":\
+    \"AAACAAAAAAAAAAIAAAAAAAAABgAAAAAAAAAABwAr4CjbhbECStDmOqDF7wRY\"}]}}]}";
 
-/// `x3d/door/tail`, of number 0 at revision 2.
-pub(crate) const TAIL_0: &str = "\
-    {\"key\":\"eDNkL2Rvb3IvdGFpbA==\",\"mod_revision\":\"2\",\
-    \"value\":\"MDAwMDAwMDAwMDAwMDAwMA==\"}";
+/// Entry 1 of three.
+pub(crate) const READ_3_FIRST: &str = "\
+    {\"header\":{\"revision\":\"4\"},\"succeeded\":true,\"responses\":[{\"response_range\":{\"kvs\
+    \":[{\"key\":\"eDNkL2Rvb3IvaGVhZA==\",\"mod_revision\":\"2\",\"value\":\"WDNETAECAAAHBwcHBwcH\
+    BwcHBwcHBwcHBwcHBwcHBwcHBwcHBwcHBwkJCQkJCQkJCQkJCQkJCQkLUZ6sEKS/Yw==\"}]}},{\"response_range\
+    \":{\"kvs\":[{\"key\":\"eDNkL2Rvb3IvdGFpbA==\",\"mod_revision\":\"4\",\"value\":\"MDAwMDAwMDA\
+    wMDAwMDAwMw==\"}]}},{\"response_range\":{\"kvs\":[{\"key\":\"eDNkL2Rvb3IvbG9nLzAwMDAwMDAwMDAw\
+    MDAwMDE=\",\"mod_revision\":\"3\",\"value\":\"AAABAAAAAAAAAAEAAAAAAAAABQBpLDwgQ/srilocC6Aab+W\
+    1\"}]}}]}";
 
-/// The same of number 1 at revision 3.
-pub(crate) const TAIL_1: &str = "\
-    {\"key\":\"eDNkL2Rvb3IvdGFpbA==\",\"mod_revision\":\"3\",\
-    \"value\":\"MDAwMDAwMDAwMDAwMDAwMQ==\"}";
+/// Entries 2 and 3 of three.
+pub(crate) const READ_3_REST: &str = "\
+    {\"header\":{\"revision\":\"4\"},\"succeeded\":true,\"responses\":[{\"response_range\":{\"kvs\
+    \":[{\"key\":\"eDNkL2Rvb3IvaGVhZA==\",\"mod_revision\":\"2\",\"value\":\"WDNETAECAAAHBwcHBwcH\
+    BwcHBwcHBwcHBwcHBwcHBwcHBwcHBwcHBwkJCQkJCQkJCQkJCQkJCQkLUZ6sEKS/Yw==\"}]}},{\"response_range\
+    \":{\"kvs\":[{\"key\":\"eDNkL2Rvb3IvdGFpbA==\",\"mod_revision\":\"4\",\"value\":\"MDAwMDAwMDA\
+    wMDAwMDAwMw==\"}]}},{\"response_range\":{\"kvs\":[{\"key\":\"eDNkL2Rvb3IvbG9nLzAwMDAwMDAwMDAw\
+    MDAwMDI=\",\"mod_revision\":\"4\",\"value\":\"AAACAAAAAAAAAAIAAAAAAAAABgAAAAAAAAAABwAr4CjbhbE\
+    CStDmOqDF7wRY\"}]}}]}";
 
-/// The same of number 3 at revision 4.
-pub(crate) const TAIL_3: &str = "\
-    {\"key\":\"eDNkL2Rvb3IvdGFpbA==\",\"mod_revision\":\"4\",\
-    \"value\":\"MDAwMDAwMDAwMDAwMDAwMw==\"}";
+/// None of three entries.
+pub(crate) const READ_3_NONE: &str = "\
+    {\"header\":{\"revision\":\"4\"},\"succeeded\":true,\"responses\":[{\"response_range\":{\"kvs\
+    \":[{\"key\":\"eDNkL2Rvb3IvaGVhZA==\",\"mod_revision\":\"2\",\"value\":\"WDNETAECAAAHBwcHBwcH\
+    BwcHBwcHBwcHBwcHBwcHBwcHBwcHBwcHBwkJCQkJCQkJCQkJCQkJCQkLUZ6sEKS/Yw==\"}]}},{\"response_range\
+    \":{\"kvs\":[{\"key\":\"eDNkL2Rvb3IvdGFpbA==\",\"mod_revision\":\"4\",\"value\":\"MDAwMDAwMDA\
+    wMDAwMDAwMw==\"}]}},{\"response_range\":{\"kvs\":[]}}]}";
 
-/// The frame of entry 1 in run 9: a clock at 5 microseconds.
-pub(crate) const FRAME_1: &str = "\
-    {\"key\":\"eDNkL2Rvb3IvbG9nLzAwMDAwMDAwMDAwMDAwMDE=\",\"mod_revision\":\"3\",\
-    \"value\":\"AAABAAAAAAAAAAEAAAAAAAAABQBpLDwgQ/srilocC6Aab+W1\"}";
+/// Not the one entry.
+pub(crate) const READ_1_NONE: &str = "\
+    {\"header\":{\"revision\":\"4\"},\"succeeded\":true,\"responses\":[{\"response_range\":{\"kvs\
+    \":[{\"key\":\"eDNkL2Rvb3IvaGVhZA==\",\"mod_revision\":\"2\",\"value\":\"WDNETAECAAAHBwcHBwcH\
+    BwcHBwcHBwcHBwcHBwcHBwcHBwcHBwcHBwkJCQkJCQkJCQkJCQkJCQkLUZ6sEKS/Yw==\"}]}},{\"response_range\
+    \":{\"kvs\":[{\"key\":\"eDNkL2Rvb3IvdGFpbA==\",\"mod_revision\":\"3\",\"value\":\"MDAwMDAwMDA\
+    wMDAwMDAwMQ==\"}]}},{\"response_range\":{\"kvs\":[]}}]}";
 
-/// The frame of entries 2 and 3 after it: clocks at 6 and 7 microseconds.
-pub(crate) const FRAME_2: &str = "\
-    {\"key\":\"eDNkL2Rvb3IvbG9nLzAwMDAwMDAwMDAwMDAwMDI=\",\"mod_revision\":\"4\",\
-    \"value\":\"AAACAAAAAAAAAAIAAAAAAAAABgAAAAAAAAAABwAr4CjbhbECStDmOqDF7wRY\"}";
+/// Three entries, of which one is said to be there.
+pub(crate) const READ_1_TOO_MANY: &str = "\
+    {\"header\":{\"revision\":\"4\"},\"succeeded\":true,\"responses\":[{\"response_range\":{\"kvs\
+    \":[{\"key\":\"eDNkL2Rvb3IvaGVhZA==\",\"mod_revision\":\"2\",\"value\":\"WDNETAECAAAHBwcHBwcH\
+    BwcHBwcHBwcHBwcHBwcHBwcHBwcHBwcHBwkJCQkJCQkJCQkJCQkJCQkLUZ6sEKS/Yw==\"}]}},{\"response_range\
+    \":{\"kvs\":[{\"key\":\"eDNkL2Rvb3IvdGFpbA==\",\"mod_revision\":\"3\",\"value\":\"MDAwMDAwMDA\
+    wMDAwMDAwMQ==\"}]}},{\"response_range\":{\"kvs\":[{\"key\":\"eDNkL2Rvb3IvbG9nLzAwMDAwMDAwMDAw\
+    MDAwMDE=\",\"mod_revision\":\"3\",\"value\":\"AAABAAAAAAAAAAEAAAAAAAAABQBpLDwgQ/srilocC6Aab+W\
+    1\"},{\"key\":\"eDNkL2Rvb3IvbG9nLzAwMDAwMDAwMDAwMDAwMDI=\",\"mod_revision\":\"4\",\"value\":\
+    \"AAACAAAAAAAAAAIAAAAAAAAABgAAAAAAAAAABwAr4CjbhbECStDmOqDF7wRY\"}]}}]}";
+
+/// Another head, of run 8, and no entries.
+pub(crate) const READ_OTHER: &str = "\
+    {\"header\":{\"revision\":\"4\"},\"succeeded\":true,\"responses\":[{\"response_range\":{\"kvs\
+    \":[{\"key\":\"eDNkL2Rvb3IvaGVhZA==\",\"mod_revision\":\"2\",\"value\":\"WDNETAECAAAHBwcHBwcH\
+    BwcHBwcHBwcHBwcHBwcHBwcHBwcHBwcHBwgICAgICAgICAgICAgICAg5m1faHfoPDA==\"}]}},{\"response_range\
+    \":{\"kvs\":[{\"key\":\"eDNkL2Rvb3IvdGFpbA==\",\"mod_revision\":\"2\",\"value\":\"MDAwMDAwMDA\
+    wMDAwMDAwMA==\"}]}},{\"response_range\":{\"kvs\":[]}}]}";
+
+/// A tail in the place of the head.
+pub(crate) const READ_NO_HEAD: &str = "\
+    {\"header\":{\"revision\":\"4\"},\"succeeded\":true,\"responses\":[{\"response_range\":{\"kvs\
+    \":[{\"key\":\"eDNkL2Rvb3IvdGFpbA==\",\"mod_revision\":\"3\",\"value\":\"MDAwMDAwMDAwMDAwMDAw\
+    MQ==\"}]}},{\"response_range\":{\"kvs\":[{\"key\":\"eDNkL2Rvb3IvdGFpbA==\",\"mod_revision\":\
+    \"3\",\"value\":\"MDAwMDAwMDAwMDAwMDAwMQ==\"}]}},{\"response_range\":{\"kvs\":[]}}]}";

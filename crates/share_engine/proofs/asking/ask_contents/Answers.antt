@@ -13,7 +13,7 @@ returns-in-Ok-clause-stays g c = λ run known kept.
 pub returns-in-Ok-clause-read : goal.returns-in-Ok-clause-read
 returns-in-Ok-clause-read g c =
     read_if contents_view (text_of c.args.name.now) c.args.first (g.E.Engine.told c.args.engine.now) (g.E.Engine.told c.ask.new.self) c.args.body.now c.ask.new.into.items c.deref.result.now c.contents_in.result
-    c.requires c.in-Ok.ensures.ok c.deref.ensures.value c.contents_in.ensures
+    c.requires c.in-Ok.ensures.ok c.deref.ensures.value c.contents_in.ensures.found
 
 pub returns-in-Err-Silent-clause-stays : goal.returns-in-Err-Silent-clause-stays
 returns-in-Err-Silent-clause-stays g c = λ run known kept.
