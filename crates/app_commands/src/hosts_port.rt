@@ -36,7 +36,7 @@ fn is_silent(heard: Option<u64>, now: u64) -> bool
     }
 }
 
-/// Returns the place after this one, of so many.
+/// Returns the place after this one, of `count` places.
 fn next_place(at: usize, count: usize) -> usize
     ensures { result ≡ next_place at count }
 {

@@ -70,7 +70,7 @@ impl FakeEngine {
         }
     }
 
-    /// Returns what is told of a request.
+    /// Returns what is recorded of a request.
     fn told_of(&self, body: &[u8]) -> Result<Told, AllocError>
         ensures { IfOk result (λ told. told_view told ≡ record {
           asked = body.now;

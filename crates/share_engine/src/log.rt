@@ -80,7 +80,7 @@ impl<E: Engine> EtcdLog<E> {
         &self.engine
     }
 
-    /// Returns the engine, and lets go of the rest.
+    /// Returns the engine, and drops the rest.
     pub fn into_engine(self) -> E
         ensures { result ≡ self.engine }
     {

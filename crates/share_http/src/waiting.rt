@@ -37,7 +37,7 @@ impl Deadline {
         }
     }
 
-    /// Returns the earlier of this time and of that at which so many milliseconds will have passed.
+    /// Returns this time, or that at which `millis` milliseconds will have passed if it is earlier.
     pub(crate) fn within<C: Clock>(self, clock: &C, millis: u64) -> Deadline {
         Deadline {
             at: self.at.min(millis_now(clock).saturating_add(millis)),

@@ -113,7 +113,7 @@ pub(crate) const READ_OTHER: &str = "\
     \":{\"kvs\":[{\"key\":\"eDNkL2Rvb3IvdGFpbA==\",\"mod_revision\":\"2\",\"value\":\"MDAwMDAwMDA\
     wMDAwMDAwMA==\"}]}},{\"response_range\":{\"kvs\":[]}}]}";
 
-/// A tail in the place of the head.
+/// A tail where the head belongs.
 pub(crate) const READ_NO_HEAD: &str = "\
     {\"header\":{\"revision\":\"4\"},\"succeeded\":true,\"responses\":[{\"response_range\":{\"kvs\
     \":[{\"key\":\"eDNkL2Rvb3IvdGFpbA==\",\"mod_revision\":\"3\",\"value\":\"MDAwMDAwMDAwMDAwMDAw\
