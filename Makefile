@@ -143,7 +143,7 @@ fuzz:
 # that are too small, and a world
 # with killed viewers and malicious datagrams;
 # hosts over a log that are killed; logs that are damaged, and power cuts; an attacker on worlds with keys, and strangers;
-# folders of worlds that one process serves, a thousand of them at last;
+# folders of worlds that one process serves, a thousand of them at last; hosts that share a log, where etcd is installed;
 # and jobs from C, Rust and Python, by the library of `make library`, or where it isn't built or is older than a
 # source by one that is built of the same sources without a proof.
 test: definitions
@@ -162,6 +162,8 @@ test: definitions
 	scripts/logs --seed 67; \
 	scripts/hostile 30 --seed 68; \
 	scripts/worlds 5; \
+	scripts/cluster 60 --seed 69; \
+	scripts/cluster --races 60; \
 	if $(call fresh,out/libx3d.so); then scripts/abi out/libx3d.so; scripts/bindings --quick; scripts/log_calls; \
 	elif ! command -v "$${CC:-cc}" > /dev/null; then echo "bindings: skipped: no C compiler"; \
 	else $(call fresh,out/quick/libx3d.so) || scripts/unproved_library out/quick; \
