@@ -122,6 +122,7 @@ SECONDS ?= 60
 cluster:
 	@cd crates/x3d_share && $(RT) run -- --version > /dev/null
 	@scripts/cluster $(SECONDS)
+	@scripts/cluster --majority
 	@scripts/cluster --races
 
 # Proves and builds the program, and gives it FILES that are no whole log, and logs after CUTS of the power.
@@ -163,6 +164,7 @@ test: definitions
 	scripts/hostile 30 --seed 68; \
 	scripts/worlds 5; \
 	scripts/cluster 60 --seed 69; \
+	scripts/cluster --majority; \
 	scripts/cluster --races 60; \
 	if $(call fresh,out/libx3d.so); then scripts/abi out/libx3d.so; scripts/bindings --quick; scripts/log_calls; \
 	elif ! command -v "$${CC:-cc}" > /dev/null; then echo "bindings: skipped: no C compiler"; \
