@@ -6,8 +6,7 @@ use crate::login::{Login, token_of};
 use crate::waiting::{Deadline, Waiting};
 use share_engine::{Engine, EngineFault};
 use std::alloc::{AllocError, Global};
-use std::net::{Net, SocketAddr};
-use std::time::Clock;
+use std::net::SocketAddr;
 
 /// How many milliseconds an exchange takes at most.
 const EXCHANGE: u64 = 2_000;
@@ -37,8 +36,8 @@ struct Endpoint {
 /// etcd, at one of its addresses. If that one is silent, the next is asked. It records no
 /// exchanges.
 #[derive(Drop)]
-pub struct EtcdEngine<R> {
-    rt: R,
+pub struct EtcdEngine<'a> {
+    rt: &'a HostRuntime,
     alloc: Global,
     endpoints: Vec<Endpoint>,
     /// Which of them is asked.
@@ -57,15 +56,15 @@ fn endpoint_of(alloc: Global, address: &SocketAddr) -> Result<Endpoint, AllocErr
     })
 }
 
-impl<R: Net + Clock + Drop> EtcdEngine<R> {
+impl<'a> EtcdEngine<'a> {
     /// Returns etcd at these addresses, with a login if its users need one. Nothing is sent. Fails
     /// with `Memory`, or with `Silent` if the system lets nothing be waited for.
     pub fn new(
-        rt: R,
+        rt: &'a HostRuntime,
         alloc: Global,
         addresses: &[SocketAddr],
         login: Option<Login>,
-    ) -> Result<EtcdEngine<R>, EngineFault> {
+    ) -> Result<EtcdEngine<'a>, EngineFault> {
         let mut endpoints = Vec::new(alloc);
         for address in addresses {
             let Ok(endpoint) = endpoint_of(alloc, address) else {
@@ -75,7 +74,7 @@ impl<R: Net + Clock + Drop> EtcdEngine<R> {
                 return Err(EngineFault::Memory);
             }
         }
-        let waiting = match Waiting::new(&rt, alloc) {
+        let waiting = match Waiting::new(rt, alloc) {
             Ok(Some(waiting)) => waiting,
             Ok(None) => return Err(EngineFault::Silent),
             Err(_) => return Err(EngineFault::Memory),
@@ -115,9 +114,9 @@ impl<R: Net + Clock + Drop> EtcdEngine<R> {
         let mut link = match self.link.take() {
             Some(link) if link.is_idle() => link,
             _ => {
-                let soon = until.within(&self.rt, CONNECT);
+                let soon = until.within(self.rt, CONNECT);
                 Link::connect(
-                    &self.rt,
+                    self.rt,
                     self.alloc,
                     endpoint.address,
                     &mut self.waiting,
@@ -131,7 +130,7 @@ impl<R: Net + Clock + Drop> EtcdEngine<R> {
             token: self.token.as_slice(),
             body,
         };
-        let status = link.post(&self.rt, &request, into, &mut self.waiting, until)?;
+        let status = link.post(self.rt, &request, into, &mut self.waiting, until)?;
         self.link = Some(link);
         Ok(status)
     }
@@ -183,10 +182,10 @@ impl<R: Net + Clock + Drop> EtcdEngine<R> {
     }
 }
 
-impl<R: Net + Clock + Drop> Engine for EtcdEngine<R> {
+impl Engine for EtcdEngine<'_> {
     // After 2 seconds no answer is waited for.
     fn ask(&mut self, body: &[u8], into: &mut Vec<u8>) -> Result<(), EngineFault> {
-        let until = Deadline::after(&self.rt, EXCHANGE);
+        let until = Deadline::after(self.rt, EXCHANGE);
         let mut status = self.transact(body, into, until);
         if status == Ok(UNKNOWN_USER) {
             self.token.clear();

@@ -31,12 +31,12 @@ pub struct EtcdTexts<'a> {
 }
 
 /// The log of a world in etcd.
-type WorldLog<'a> = EtcdLog<EtcdEngine<&'a HostRuntime>>;
+type WorldLog<'a> = EtcdLog<EtcdEngine<'a>>;
 
 /// A world whose log etcd has, or will have.
 #[derive(Drop)]
 struct SharedWorld<'a> {
-    etcd: EtcdEngine<&'a HostRuntime>,
+    etcd: EtcdEngine<'a>,
     world: WorldName,
 }
 
@@ -67,10 +67,7 @@ fn login_in(rt: &HostRuntime, file: Option<&str>) -> Result<Option<Login>, End> 
 }
 
 /// Returns etcd at the addresses of a text.
-fn etcd_at<'a>(
-    rt: &'a HostRuntime,
-    texts: &EtcdTexts<'_>,
-) -> Result<EtcdEngine<&'a HostRuntime>, End> {
+fn etcd_at<'a>(rt: &'a HostRuntime, texts: &EtcdTexts<'_>) -> Result<EtcdEngine<'a>, End> {
     let Some(text) = texts.etcd else {
         return Err(End::from(OrderFault::Words));
     };
@@ -100,7 +97,7 @@ fn opened_world<'a>(
     mark: [u8; 32],
     asked: &HostOrder,
     shared: SharedWorld<'a>,
-) -> Result<OpenedWorld<EtcdEngine<&'a HostRuntime>>, End>
+) -> Result<OpenedWorld<EtcdEngine<'a>>, End>
     requires { HostInRange asked.now }
 {
     let SharedWorld { etcd, world } = shared;
@@ -162,7 +159,7 @@ fn run_over_world(
     rt: &HostRuntime,
     job: HostJob,
     asked: &HostOrder,
-    opened: OpenedWorld<EtcdEngine<&HostRuntime>>,
+    opened: OpenedWorld<EtcdEngine<'_>>,
     door: Door<'_>,
 ) -> Result<(), End> {
     let OpenedWorld {
@@ -196,7 +193,7 @@ fn begun_at<'a>(
     asked: &HostOrder,
     way: Way,
     texts: &EtcdTexts<'_>,
-) -> Result<(OpenedWorld<EtcdEngine<&'a HostRuntime>>, Door<'a>), End>
+) -> Result<(OpenedWorld<EtcdEngine<'a>>, Door<'a>), End>
     requires { HostInRange asked.now }
 {
     let shared = shared_world(rt, texts)?;

@@ -1,6 +1,7 @@
 //! The program: its words, its input, and what it prints.
 #![tactic(auto)]
 
+mod addresses;
 mod defaults;
 mod doors;
 mod ends;

@@ -1,6 +1,6 @@
 //! How a host's turns go over its log.
 
-ghost use Rattle.std.specs.Prelude.{IsTrue};
+ghost use Rattle.std.specs.Prelude.{◌≡◌, IsTrue};
 
 use app_logs::{
     Log, LogFault, LogPlan, LoggedHost, RunFault as LogRunFault, is_viewer_count, log_run,
@@ -104,7 +104,9 @@ fn shared_end(fault: SharedFault) -> End {
 }
 
 /// Returns what a host does over a log that other hosts share.
-fn shared_plan(turns: &HostTurns) -> SharedPlan {
+fn shared_plan(turns: &HostTurns) -> SharedPlan
+    ensures { result.viewers ≡ turns.now.viewers }
+{
     SharedPlan {
         host: turns.plan.host,
         beat: turns.plan.beat,

@@ -2,6 +2,7 @@
 
 ghost use Rattle.app_words.specs.Words.{ViewInRange};
 
+use crate::addresses::{hosts_of, may_all_be_reached, numbers_of};
 use crate::doors::OverSocket;
 use crate::ends::{tell_others, tell_port, tell_unsealed, tell_view_end};
 use crate::meets::{WorldAt, met_port};
@@ -245,24 +246,6 @@ fn viewed_here(
     sealed_and_viewed(rt, viewer, asked, door, peers, bound)
 }
 
-/// Returns the numbers of a viewer's hosts, which are at these addresses.
-fn numbers_of<R: Eprint>(
-    alloc: Global,
-    port: &mut AddressedPort<R>,
-    hosts: &[SocketAddr],
-) -> Result<Vec<u16>, ShareFault> {
-    let mut numbers = Vec::new(alloc);
-    for host in hosts {
-        let Some(number) = port.number_of(*host) else {
-            return Err(ShareFault::Port);
-        };
-        if numbers.push(number).is_err() {
-            return Err(ShareFault::Memory);
-        }
-    }
-    Ok(numbers)
-}
-
 /// Returns the numbers of the peers of a viewer whose first host is at this address.
 fn peers_at<R: Eprint>(
     port: &mut AddressedPort<R>,
@@ -305,24 +288,6 @@ fn viewed_there(
         peers,
         HostsPort::new(bound, rt, numbers),
     )
-}
-
-/// Fails with `NoKeys` if one of the hosts may be beyond this machine, and there are neither a key
-/// nor the word that any will do.
-fn may_all_be_reached(hosts: &[SocketAddr], has_key: bool, is_open: bool) -> Result<(), End> {
-    for host in hosts {
-        may_be_reached(&Place::Address(*host), has_key, is_open)?;
-    }
-    Ok(())
-}
-
-/// Returns the addresses of the hosts that `--host` names, if it does. Fails with `NoAddress` or
-/// `Memory`.
-fn hosts_of(rt: &HostRuntime, text: Option<&str>) -> Result<Option<Vec<SocketAddr>>, End> {
-    match text {
-        Some(text) => Ok(Some(addresses_at(rt, rt.alloc(), text)?)),
-        None => Ok(None),
-    }
 }
 
 /// Returns the key of the file that `--key` names, if it does.
