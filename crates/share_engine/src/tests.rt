@@ -121,6 +121,8 @@ fn a_world_is_made(rt: HostRuntime) -> Result<(), Fail> {
     let log = made(rt.alloc(), &[NOTHING, MADE])?;
     assert!(rt; asked(&log, 1, &making));
     assert!(rt; log.len() == 0 && log.takes_appends());
+    let engine = log.into_engine();
+    assert!(rt; engine.asked(2).is_none());
     Ok(())
 }
 
