@@ -2,6 +2,7 @@ pub mod Outputs
 pub mod Cascade
 pub mod Apply
 pub mod Held
+pub mod Forgetting
 pub mod InOrder
 pub mod Walks
 pub mod Work

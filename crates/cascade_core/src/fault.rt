@@ -63,6 +63,15 @@ pub enum PlaceFault {
     Memory,
 }
 
+/// Why lines of a trace were not forgotten, in the order of precedence.
+#[derive(Clone, Copy, Debug, PartialEq, Eq, Error)]
+pub enum ForgetFault {
+    #[error("memory was refused at an earlier input")]
+    Spoiled,
+    #[error("the number is above that of the next input")]
+    Ahead,
+}
+
 impl From<AllocError> for LoadFault {
     ghost from_gives = { λ _ fault. fault ≡ Memory };
 

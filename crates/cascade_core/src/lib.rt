@@ -3,7 +3,7 @@
 //!
 //! | Modules | Content |
 //! |---|---|
-//! | `stage`, `texts`, `series` | a scene with its world, what is written of it, inputs applied |
+//! | `stage`, `texts`, `series`, `forgetting` | a scene with its world, its texts, inputs applied, lines forgotten |
 //! | `input`, `clock`, `pointer`, `pressed`, `walk` | what an input does, node by node |
 //! | `course`, `stack`, `tasks`, `sending`, `boxes` | a cascade, as a stack of tasks |
 //! | `settle`, `opening` | scripts after the events of a timestamp, and before all inputs |
@@ -16,6 +16,7 @@ mod buffers;
 mod clock;
 mod course;
 mod fault;
+mod forgetting;
 mod input;
 mod laws;
 mod nodes;
@@ -38,7 +39,7 @@ pub use boxes::{deliver, put_boxes};
 pub use buffers::Buffers;
 pub use cascade_trace::{LineHead, Trace, TraceLine, WritesLines};
 pub use cascade_world::{State, Watched, WorldData};
-pub use fault::{ApplyFault, LoadFault, PlaceFault, StatesFault, TextFault};
+pub use fault::{ApplyFault, ForgetFault, LoadFault, PlaceFault, StatesFault, TextFault};
 pub use laws::{kinds_law, places_law, settling_law, states_law};
 pub use nodes::is_clock;
 pub use pick_core::is_sensor;

@@ -7,3 +7,5 @@ mod Traces
 mod Told
 mod Behind
 mod Passed
+mod Forgets
+mod Shifts

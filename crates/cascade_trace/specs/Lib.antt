@@ -1,5 +1,6 @@
 pub mod Bits
 pub mod Ends
+pub mod Forgetting
 pub mod LineText
 pub mod Since
 pub mod Spans

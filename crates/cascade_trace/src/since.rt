@@ -13,7 +13,7 @@ use std::alloc::AllocError;
 use x3d_values::Value;
 
 /// Reports whether the value of an entry is kept separately.
-fn takes_value(entry: &Entry) -> bool
+pub(crate) fn takes_value(entry: &Entry) -> bool
     ensures { result ≡ takes_value entry.now }
 {
     matches!(entry.kind, EntryKind::Other)

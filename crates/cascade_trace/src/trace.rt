@@ -246,6 +246,7 @@ impl Model for Trace {
 impl Trace {
     ghost use Rattle.std.specs.Prelude.{◌≡◌, ◌++◌, [], ◌∷◌, OnErr, OnOk, length};
     ghost use Rattle.std.specs.List.{flat_map, list_all};
+    ghost use Rattle.cascade_trace.specs.Forgetting.{lines_from};
     ghost use Rattle.cascade_trace.specs.Since.{IsSilent};
     ghost use Rattle.cascade_trace.specs.Trace.{line};
 
@@ -286,6 +287,13 @@ impl Trace {
         ensures { result ≡ length self.now }
     {
         lines_in(&self.kept.entries) as u64
+    }
+
+    /// Drops the lines of inputs with a number below `below`. Takes no memory.
+    pub fn forget(&mut self, below: u32)
+        ensures { self.new ≡ lines_from below self.old }
+    {
+        self.kept.forget(below);
     }
 
     /// Reports whether every line passes a test.

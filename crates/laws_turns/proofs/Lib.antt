@@ -7,3 +7,4 @@ pub mod Giving
 pub mod ViewerRuns
 pub mod Rounds
 pub mod Steps
+mod Forgetting

@@ -130,4 +130,5 @@ viewer_doings_are_steps law ps net old has (viewer.Asks sent) new is =
     (ask-at law ps net has.are old.who s.0 s.1 sent.bytes) is.1
 viewer_doings_are_steps law ps net old has (viewer.Discards came) new is = tt
 viewer_doings_are_steps law ps net old has (viewer.Gives piece sent) new is = tt
+viewer_doings_are_steps law ps net old has (viewer.Forgets last) new is = tt
 viewer_doings_are_steps law ps net old has viewer.Waits new is = tt

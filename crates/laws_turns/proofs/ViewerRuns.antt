@@ -9,11 +9,11 @@ use Rattle.share_turns.specs.declared.fault.TurnFault.{TurnFault}
 use Rattle.share_turns.specs.declared.traffic.Traffic.{Traffic}
 use Rattle.share_turns.specs.declared.view.ViewPlan.{ViewPlan}
 use Rattle.share_turns.specs.Gathers.{with_both}
-use Rattle.share_turns.specs.Views.{HasGiven, HasViewed, IsBeginEnd, IsBegunAs, IsGivenEnd, IsLateCut, IsRun, IsRunEnd}
+use Rattle.share_turns.specs.Views.{HasGiven, HasViewed, IsBeginEnd, IsBegunAs, IsGivenEnd, IsLateCut, IsRun, IsRunEnd, forgot_as}
 use Rattle.laws_turns.specs.ViewerDoings.{ViewerDoes}
 use Rattle.laws_turns.specs.Turns.{ViewerRunsAreCalls}
 use Rattle.laws_turns.proofs.Viewers.{does_none, does_then}
-use Rattle.laws_turns.proofs.ViewerTurns.{turns, view_end}
+use Rattle.laws_turns.proofs.ViewerTurns.{does_silently, forgets_as, turns, view_end}
 use Rattle.laws_turns.proofs.Joining.{join_end, joined}
 use Rattle.laws_turns.proofs.Giving.{gives, gives_end}
 
@@ -31,9 +31,12 @@ given-end v (Some to) n a b fault g = gives_end v to n a b fault g
 
 viewed : (v : ViewerView) (host : ℕ) (points : List Point) (plan : ViewPlan) (a b : Option (List Traffic)) (left : ℕ) (new : ViewerView) → HasViewed v host points plan a b left new → ViewerDoes a b v new
 viewed v host points plan a b left new h =
+    let seen = with_state h.begun h.seen in
     subst (ViewerDoes a b v) (sym h.same)
-    (does_then a h.between b v h.begun (with_state h.begun new.state) (begun v plan.join plan.turns h.joining a h.between h.begun h.joined)
-    (turns h.begun host points plan.until h.viewing h.between b h.viewed.offered new.state h.viewed.turned))
+    (does_then a h.between b v h.begun (with_state seen (forgot_as plan.forget h.seen)) (begun v plan.join plan.turns h.joining a h.between h.begun h.joined)
+    (does_then h.between b b h.begun seen (with_state seen (forgot_as plan.forget h.seen))
+    (turns h.begun host points plan.until plan.forget h.viewing h.between b h.viewed.offered h.seen h.viewed.turned)
+    (does_silently b seen (with_state seen (forgot_as plan.forget h.seen)) (forgets_as seen plan.forget))))
 
 late : (v : ViewerView) (host : ℕ) (points : List Point) (plan : ViewPlan) (a b : Option (List Traffic)) (fault : SeriesFault) (new : ViewerView) → IsLateCut v host points plan a b fault new → ViewerDoes a b v new
 late v host points plan a b fault new c =
@@ -64,11 +67,12 @@ viewer-runs-ended v host points plan a b fault new (inr (inl c)) =
       c.begun.gathering,
       subst (ViewerDoes a b v) same
           (does_then a c.between b v c.begun (with_state c.begun new.state) (begun v plan.join plan.turns c.joining a c.between c.begun c.joined)
-          (view_end c.begun host points plan.until (plan.turns - c.joining) c.between b fault new.state c.ended)),
+          (view_end c.begun host points plan.until plan.forget (plan.turns - c.joining) c.between b fault new.state c.ended)),
     )
 viewer-runs-ended v host points plan a b fault new (inr (inr c)) =
     let h = c.viewed in
-    let same = h.same ∙ ap (λ (x : ViewerView). with_state x new.state) (kept v plan.join plan.turns h.joining a h.between h.begun h.joined) in
+    let last : new ≡ with_state h.begun new.state = h.same ∙ ap (with_state h.begun) (sym (ap (λ (x : ViewerView). x.state) h.same)) in
+    let same = last ∙ ap (λ (x : ViewerView). with_state x new.state) (kept v plan.join plan.turns h.joining a h.between h.begun h.joined) in
     (h.begun.gathering, subst (ViewerDoes a b v) same (late v host points plan a b fault new c))
 
 pub viewer_runs_are_calls : ViewerRunsAreCalls

@@ -1,12 +1,12 @@
 -- Turns of a viewer are calls on it, one after another.
-use Rattle.std.proofs.Common.{◌≡◌, ◌⊎◌, inl, inr, ℕ, zero, suc, List, [], ◌∷◌, ◌++◌, length, true, Bool, refl, ap, sym, ◌∙◌}
+use Rattle.std.proofs.Common.{◌≡◌, ◌⊎◌, inl, inr, ℕ, zero, suc, List, [], ◌∷◌, ◌++◌, length, true, Bool, refl, ap, sym, subst, ◌∙◌}
 use Rattle.std.specs.Prelude.{slice_get, Option, None, Some, Result, Ok, Err, is_ok}
 use Rattle.std.specs.Option.{option_map}
 use Rattle.x3d_values.specs.declared.pointing.Point.{Point}
 use Rattle.cascade_core.specs.Course.{Scripted}
 use Rattle.share_wire.specs.declared.message.Body.{Body}
 use Rattle.share_law.specs.Viewer.{ViewerWorld, Running, Spoiled, ViewerState, viewer_ask, viewer_resend}
-use Rattle.share_core.specs.Viewer.{IfRunning, IfSpoiled, ViewerView, machine_of, with_state}
+use Rattle.share_core.specs.Viewer.{IfRunning, IfSpoiled, ViewerView, forgot_but, machine_of, with_state}
 use Rattle.share_turns.specs.declared.fault.SeriesFault.{SeriesFault}
 use Rattle.share_turns.specs.declared.fault.SeriesFault.TheVariants as series
 use Rattle.share_turns.specs.declared.fault.TurnFault.{TurnFault}
@@ -16,10 +16,11 @@ use Rattle.share_turns.specs.declared.traffic.Traffic.TheVariants.{Received, Sen
 use Rattle.share_turns.specs.Exchanges.{IsEnd, sent_to}
 use Rattle.share_turns.specs.HostTurn.{datagram_of, listed}
 use Rattle.share_turns.specs.ViewerTurn.{AreTaken, IsCut, IsOffered, IsViewerTurn, Taking, received, requests}
-use Rattle.share_turns.specs.Views.{IsViewEnd, ViewerTurns}
+use Rattle.share_turns.specs.Views.{IsViewEnd, MayForget, ViewerTurns, forgot_as}
 use Rattle.laws_turns.specs.ViewerDoings.{ViewerDoes, ViewerDoing, IsViewerDoing, viewer_traffic}
 use Rattle.laws_turns.specs.ViewerDoings as doing
 use Rattle.laws_turns.specs.Turns.{ViewerTurnsAreCalls}
+use Rattle.share_turns.proofs.Sending.{grows_none}
 use Rattle.laws_turns.proofs.Viewers.{Did, Made, did_none, did_then, does_did, does_none, does_then, ended, front, made_append, not_waited, sends}
 
 offers : (v : ViewerView) (point : Option Point) (offered : Bool) (y : ViewerState Scripted) → IsOffered v.state point offered y → Did v (with_state v y) []
@@ -78,15 +79,39 @@ turn-by v host point a b result new (Running w window) spoiled turn = running v 
 pub viewer_turns_are_calls : ViewerTurnsAreCalls
 viewer_turns_are_calls v host point a b result new t = turn-by v host point a b result new v.state.view t.spoiled t.turn
 
-pub turns : (v : ViewerView) (host : ℕ) (points : List Point) (until n : ℕ) (a b : Option (List Traffic)) (offered : ℕ) (new : ViewerState Scripted) → ViewerTurns v host points until n a b offered new → ViewerDoes a b v (with_state v new)
-turns v host points until zero a b offered new t = does_none a b v (with_state v new) t.0 (ap (with_state v) t.2)
-turns v host points until (suc n) a b offered new t =
-    does_then a t.0 b v (with_state v t.2) (with_state v new) (turns v host points until n a t.0 t.1 t.2 t.4)
-    (viewer_turns_are_calls (with_state v t.2) host (slice_get points t.1) t.0 b (Ok t.3) new t.6)
+-- ---- old lines are forgotten
 
-pub view_end : (v : ViewerView) (host : ℕ) (points : List Point) (until n : ℕ) (a b : Option (List Traffic)) (fault : SeriesFault) (new : ViewerState Scripted) → IsViewEnd v host points until n a b fault new → ViewerDoes a b v (with_state v new)
-view_end v host points until n a b series.TurnsUsedUp new r = turns v host points until n a b r.offered new r.turned
-view_end v host points until n a b (series.Turn fault) new r =
-    does_then a r.between b v (with_state v r.mid) (with_state v new) (turns v host points until r.done a r.between r.offered r.mid r.before)
+forgets : (v : ViewerView) (last : ℕ) → Did v (with_state v (forgot_but last v.state)) []
+forgets v last = (doing.Forgets last ∷ [], (with_state v (forgot_but last v.state), refl, refl), refl)
+
+pub forgets_as : (v : ViewerView) (forget : Option ℕ) → Did v (with_state v (forgot_as forget v.state)) []
+forgets_as v None = did_none v v refl
+forgets_as v (Some last) = forgets v last
+
+may-forget : (v : ViewerView) (forget : Option ℕ) (new : ViewerState Scripted) → MayForget forget v.state new → Did v (with_state v new) []
+may-forget v forget new (inl same) = did_none v (with_state v new) (ap (with_state v) same)
+may-forget v forget new (inr forgot) = subst (λ (x : ViewerState Scripted). Did v (with_state v x) []) (sym forgot) (forgets_as v forget)
+
+-- what is done without a word to the port
+pub does_silently : (a : Option (List Traffic)) (x y : ViewerView) → Did x y [] → ViewerDoes a a x y
+does_silently a x y did = does_did a a x y [] did (grows_none a)
+
+-- a turn, and then perhaps old lines are forgotten
+turn-then : (v : ViewerView) (host : ℕ) (point : Option Point) (forget : Option ℕ) (a b : Option (List Traffic)) (result : Result Bool TurnFault) (turned new : ViewerState Scripted)
+    → ViewerDoes a b v (with_state v turned) → MayForget forget turned new → ViewerDoes a b v (with_state v new)
+turn-then v host point forget a b result turned new turn forgot =
+    does_then a b b v (with_state v turned) (with_state v new) turn (does_silently b (with_state v turned) (with_state v new) (may-forget (with_state v turned) forget new forgot))
+
+pub turns : (v : ViewerView) (host : ℕ) (points : List Point) (until : ℕ) (forget : Option ℕ) (n : ℕ) (a b : Option (List Traffic)) (offered : ℕ) (new : ViewerState Scripted) → ViewerTurns v host points until forget n a b offered new → ViewerDoes a b v (with_state v new)
+turns v host points until forget zero a b offered new t = does_none a b v (with_state v new) t.0 (ap (with_state v) t.2)
+turns v host points until forget (suc n) a b offered new t =
+    does_then a t.0 b v (with_state v t.2) (with_state v new) (turns v host points until forget n a t.0 t.1 t.2 t.5)
+    (turn-then (with_state v t.2) host (slice_get points t.1) forget t.0 b (Ok t.4) t.3 new
+    (viewer_turns_are_calls (with_state v t.2) host (slice_get points t.1) t.0 b (Ok t.4) t.3 t.7) t.8)
+
+pub view_end : (v : ViewerView) (host : ℕ) (points : List Point) (until : ℕ) (forget : Option ℕ) (n : ℕ) (a b : Option (List Traffic)) (fault : SeriesFault) (new : ViewerState Scripted) → IsViewEnd v host points until forget n a b fault new → ViewerDoes a b v (with_state v new)
+view_end v host points until forget n a b series.TurnsUsedUp new r = turns v host points until forget n a b r.offered new r.turned
+view_end v host points until forget n a b (series.Turn fault) new r =
+    does_then a r.between b v (with_state v r.mid) (with_state v new) (turns v host points until forget r.done a r.between r.offered r.mid r.before)
     (viewer_turns_are_calls (with_state v r.mid) host (slice_get points r.offered) r.between b (Err fault) new r.last)
-view_end v host points until n a b (series.Join fault) new r = absurd r
+view_end v host points until forget n a b (series.Join fault) new r = absurd r

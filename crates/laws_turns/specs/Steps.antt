@@ -1,6 +1,8 @@
 -- Each doing is its step of the network: in every network that has the peer, with its other peers.
-use Rattle.std.specs.Prelude.{◌≡◌, ℕ, List, length, slice_get, Some}
+use Rattle.std.specs.Prelude.{◌≡◌, ℕ, ◌+◌, ◌-◌, List, length, slice_get, Option, Some}
+use Rattle.x3d_values.specs.Stamp.{StampedView}
 use Rattle.cascade_core.specs.Course.{Scripted}
+use Rattle.cascade_core.specs.Forgetting.{forget}
 use Rattle.share_wire.specs.Decoding.{decoded}
 use Rattle.share_wire.specs.declared.message.Body.{Body}
 use Rattle.share_law.specs.declared.step.Step.{Step}
@@ -8,13 +10,15 @@ use Rattle.share_law.specs.declared.step.Step.TheVariants.{HostClock, HostDropBe
 use Rattle.share_law.specs.declared.step.Step.TheVariants.{ViewerAsk, ViewerGather, ViewerJoin}
 use Rattle.share_law.specs.declared.step.Step.TheVariants.{ViewerOffer, ViewerResend, ViewerTake}
 use Rattle.share_law.specs.CallSteps.{IsPacket}
-use Rattle.share_law.specs.Network.{Network, Clocked, Collected, Dropped, HostTook, Joined, Offered}
-use Rattle.share_law.specs.Network.{Sent, ViewerTook}
+use Rattle.share_law.specs.Network.{Network, Seat, Clocked, Collected, Dropped, HostTook, Joined}
+use Rattle.share_law.specs.Network.{Offered, Sent, ViewerTook, with_node, with_seat}
 use Rattle.share_law.specs.Parts.{HostPart}
+use Rattle.share_law.specs.Viewer.{Running}
 use Rattle.share_core.specs.Viewer.{ViewerView}
 use Rattle.laws_calls.specs.Leads.{Leads}
 use Rattle.laws_calls.specs.Moves.{HasViewer}
-use Rattle.laws_calls.specs.Peers.{AreIn, Peers, with_host, with_viewer}
+use Rattle.laws_calls.specs.Peers.{AreIn, Peers, machine_for, with_host, with_viewer}
+use Rattle.laws_forget.specs.Network.{Forgets, Forgot, IsMove}
 use Rattle.laws_turns.specs.HostDoings as host
 use Rattle.laws_turns.specs.HostDoings.{HostDoing, IsHostDoing}
 use Rattle.share_turns.specs.HostTurn.{datagram_of}
@@ -50,7 +54,8 @@ HostDoingsAreSteps =
     → (doing : HostDoing) (new : HostPart) → IsHostDoing ps.mark ps.host.part doing new
     → HostBrings ps net doing new
 
--- what a doing of a viewer leads to; of a piece of its snapshot `PieceSends` of laws_calls says it
+-- what a doing of a viewer leads to; of a piece of its snapshot `PieceSends` of laws_calls says it,
+-- and of lines that are forgotten `ForgettingsAreMoves`
 abbrev pub ViewerBrings : Peers → Network Scripted → (old : ViewerView) → ViewerDoing → ViewerView
     → Type 0
 ViewerBrings ps net old (viewer.Offers point result) new =
@@ -73,3 +78,14 @@ ViewerDoingsAreSteps =
     (ps : Peers) (net : Network Scripted) (old : ViewerView) → HasViewer ps net old
     → (doing : ViewerDoing) (new : ViewerView) → IsViewerDoing old doing new
     → ViewerBrings ps net old doing new
+
+-- a running viewer that forgets makes the move of a network in which viewers forget, where it has
+-- this seat: its seat then has its new state, and all else stays
+abbrev pub ForgettingsAreMoves : Type 0
+ForgettingsAreMoves =
+    (ps : Peers) (net : Network Scripted) (x : Seat Scripted) (old new : ViewerView) (last : ℕ)
+    (w : Scripted) (window : List (Option StampedView))
+    → slice_get net.viewers old.who ≡ Some x → x.node ≡ old.state
+    → old.state.view ≡ Running w window → IsViewerDoing old (viewer.Forgets last) new
+    → IsMove (machine_for ps) forget net (Forgets old.who (w.world.applied + 1 - last)) Forgot
+    (with_seat net old.who (with_node x new.state))

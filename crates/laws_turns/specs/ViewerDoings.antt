@@ -17,7 +17,7 @@ use Rattle.share_law.specs.Pieces.{whole_of}
 use Rattle.share_law.specs.Viewer.{Running, viewer_ask, viewer_offer, viewer_resend}
 use Rattle.share_core.specs.Pieces.{piece_of}
 use Rattle.share_core.specs.Rewinds.{IsJoined, IsLawfulJoin}
-use Rattle.share_core.specs.Viewer.{ViewerView, machine_of, with_gathering, with_state}
+use Rattle.share_core.specs.Viewer.{ViewerView, forgot_but, machine_of, with_gathering, with_state}
 use Rattle.share_turns.specs.declared.traffic.Datagram.{Datagram}
 use Rattle.share_turns.specs.declared.traffic.Traffic.{Traffic}
 use Rattle.share_turns.specs.declared.traffic.Traffic.TheVariants.{Nothing, Received, Sent}
@@ -25,8 +25,8 @@ use Rattle.share_turns.specs.Told.{Grows}
 use Rattle.share_turns.specs.HostTurn.{datagram_of}
 
 -- a point that is offered; a datagram that is taken, gathered or discarded; the waiting offer at a
--- place, an ask, or a piece of the viewer's own snapshot, that is sent; a join; and a receive for
--- which nothing had arrived
+-- place, an ask, or a piece of the viewer's own snapshot, that is sent; a join; lines of the trace
+-- that are forgotten, all but those of the last inputs; and a receive for which nothing had arrived
 pub data ViewerDoing : Type 0 where
   Offers : Point → Result ℕ OfferFault → ViewerDoing
   Takes : (came : Datagram) → Result Taken TakeFault → ViewerDoing
@@ -36,6 +36,7 @@ pub data ViewerDoing : Type 0 where
   Asks : (sent : Datagram) → ViewerDoing
   Gives : (piece : ℕ) → (sent : Datagram) → ViewerDoing
   Joins : (boot : ℕ) → Result ℕ JoinFault → ViewerDoing
+  Forgets : (last : ℕ) → ViewerDoing
   Waits : ViewerDoing
 
 -- what the call's contract ensures of the viewer
@@ -65,6 +66,7 @@ IsViewerDoing old (Joins boot result) new =
     (new ≡ with_gathering (with_state old new.state) new.gathering)
     × IsJoined old (whole_of old.gathering) boot result new.state new.gathering
     × IsLawfulJoin old boot result new.state new.gathering
+IsViewerDoing old (Forgets last) new = new ≡ with_state old (forgot_but last old.state)
 IsViewerDoing old (Discards came) new = new ≡ old
 IsViewerDoing old Waits new = new ≡ old
 
@@ -84,6 +86,7 @@ viewer_traffic (Resends place sent) = Sent sent ∷ []
 viewer_traffic (Asks sent) = Sent sent ∷ []
 viewer_traffic (Gives piece sent) = Sent sent ∷ []
 viewer_traffic (Joins boot result) = []
+viewer_traffic (Forgets last) = []
 viewer_traffic Waits = Nothing ∷ []
 
 abbrev pub all_viewer_traffic : List ViewerDoing → List Traffic

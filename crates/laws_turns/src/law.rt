@@ -2,7 +2,8 @@
 
 ghost use Rattle.laws_turns.specs.Turns.{HostRunsAreCalls, HostTurnsAreCalls};
 ghost use Rattle.laws_turns.specs.Turns.{ViewerRunsAreCalls, ViewerTurnsAreCalls};
-ghost use Rattle.laws_turns.specs.Steps.{HostDoingsAreSteps, ViewerDoingsAreSteps};
+ghost use Rattle.laws_turns.specs.Steps.{ForgettingsAreMoves, HostDoingsAreSteps};
+ghost use Rattle.laws_turns.specs.Steps.{ViewerDoingsAreSteps};
 ghost use Rattle.share_turns.specs.Seats.{ways_of};
 ghost use Rattle.laws_turns.specs.Rounds.{RoundsAreCalls};
 
@@ -32,6 +33,8 @@ pub fn rounds_law<P: Port>()
 pub fn doings_law()
     ensures host { HostDoingsAreSteps }
     ensures viewer { ViewerDoingsAreSteps }
+    // A viewer that forgets makes a move of laws_forget's network.
+    ensures forgettings { ForgettingsAreMoves }
 {
     steps_law();
 }

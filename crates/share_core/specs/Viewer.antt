@@ -1,15 +1,16 @@
 -- A viewer as its contracts see it.
-use Rattle.std.specs.Prelude.{ℕ, Bool, true, false, List, Option}
+use Rattle.std.specs.Prelude.{ℕ, ◌+◌, ◌-◌, Bool, true, false, List, Option}
 use Rattle.x3d_values.specs.Stamp.{StampedView}
 use Rattle.scene_core.specs.declared.scene.Route.{Route}
 use Rattle.scene_core.specs.Scene.{SceneView}
 use Rattle.cascade_core.specs.Course.{Scripted}
+use Rattle.cascade_core.specs.Forgetting.{forget}
 use Rattle.cascade_core.specs.Held.{Held, StageView}
 use Rattle.cascade_core.specs.Held as held
 use Rattle.share_law.specs.Cascade.{cascade}
 use Rattle.share_law.specs.Machine.{Machine}
 use Rattle.share_law.specs.Pieces.{Gathering}
-use Rattle.share_law.specs.Viewer.{ViewerWorld, Spoiled, Running, ViewerState}
+use Rattle.share_law.specs.Viewer.{ViewerWorld, Spoiled, Running, ViewerState, with_view}
 
 -- the mark of the scene, the viewer's number, the scene and its routes, the state of the viewer in
 -- the law, and what it gathers of a snapshot
@@ -60,3 +61,11 @@ IfRunning (Spoiled count) P = Unit {0}
 abbrev pub IfSpoiled : ViewerWorld Scripted → Type 0 → Type 0
 IfSpoiled (Running w window) P = Unit {0}
 IfSpoiled (Spoiled count) P = P
+
+-- a viewer that has forgotten the lines of its trace of all inputs but the last so many
+abbrev pub forgot_in : (last : ℕ) → ViewerWorld Scripted → ViewerWorld Scripted
+forgot_in last (Running w window) = Running (forget (w.world.applied + 1 - last) w) window
+forgot_in last (Spoiled count) = Spoiled count
+
+abbrev pub forgot_but : (last : ℕ) → ViewerState Scripted → ViewerState Scripted
+forgot_but last x = with_view x (forgot_in last x.view)

@@ -4,6 +4,7 @@
 #![tactic(auto)]
 
 mod ahead;
+mod forgetting;
 mod gathering;
 mod host;
 mod inputs;

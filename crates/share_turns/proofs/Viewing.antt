@@ -6,13 +6,13 @@ use Rattle.cascade_core.specs.declared.fault.TextFault.{TextFault}
 use Rattle.cascade_core.specs.declared.fault.TextFault.TheVariants as text_fault
 use Rattle.cascade_core.specs.Course.{Scripted}
 use Rattle.cascade_core.specs.Texts.{texts}
-use Rattle.share_law.specs.Viewer.{ViewerWorld, Running, Spoiled}
+use Rattle.share_law.specs.Viewer.{ViewerState, ViewerWorld, Running, Spoiled}
 use Rattle.share_core.specs.Viewer.{IfRunning, IfSpoiled, ViewerView, machine_of, with_state}
 use Rattle.share_turns.specs.declared.traffic.Traffic.{Traffic}
 use Rattle.share_turns.specs.declared.fault.TurnFault.{TurnFault}
 use Rattle.share_turns.specs.declared.fault.TurnFault.TheVariants as turn_fault
 use Rattle.share_turns.specs.ViewerTurn.{IsViewerTurn}
-use Rattle.share_turns.specs.Views.{AreAppended, IsTextFault, IsTurnOf, ViewerTurns, applied_by, one_more_if, turn_fault_of}
+use Rattle.share_turns.specs.Views.{AreAppended, IsTextFault, IsTurnOf, MayForget, ViewerTurns, applied_by, one_more_if, turn_fault_of}
 
 if_spoiled : (view : ViewerWorld Scripted) (P Q : Type 0) → (P → Q) → IfSpoiled view P → IfSpoiled view Q
 if_spoiled (Running w window) P Q f p = tt
@@ -34,16 +34,17 @@ turn_of v x y host point a b result same spoiled turn =
 abbrev pub turned : Bool → Result Bool TurnFault
 turned did = Ok did
 
--- one turn more
-pub viewed_more : (v x y : ViewerView) (host : ℕ) (points : List Point) (until n : ℕ) (a b c : Option (List Traffic)) (before : ℕ) (did : Bool)
-    → ViewerTurns v host points until n a b before x.state → x ≡ with_state v x.state → applied_by v x.state < until
+-- one turn more, after which old lines may be forgotten
+pub viewed_more : (v x y : ViewerView) (host : ℕ) (points : List Point) (until : ℕ) (forget : Option ℕ) (n : ℕ) (a b c : Option (List Traffic)) (before : ℕ) (did : Bool) (new : ViewerState Scripted)
+    → ViewerTurns v host points until forget n a b before x.state → x ≡ with_state v x.state → applied_by v x.state < until
     → IfSpoiled x.state.view ((turned did ≡ Err turn_fault.Spoiled) × (y ≡ x) × (c ≡ b))
     → IfRunning x.state.view (λ w. IsViewerTurn (machine_of x) x.mark x.who host (slice_get points before) b c x.state (Ok did) y.state)
-    → ViewerTurns v host points until (n + 1) a c (one_more_if did before) y.state
-viewed_more v x y host points until n a b c before did turns same few spoiled turn =
+    → MayForget forget y.state new
+    → ViewerTurns v host points until forget (n + 1) a c (one_more_if did before) new
+viewed_more v x y host points until forget n a b c before did new turns same few spoiled turn forgot =
     let next : suc n ≡ n + 1 = omega arith in
-    subst (λ k. ViewerTurns v host points until k a c (one_more_if did before) y.state) next
-    (b, before, x.state, did, turns, few, turn_of v x y host (slice_get points before) b c (Ok did) same spoiled turn, refl)
+    subst (λ k. ViewerTurns v host points until forget k a c (one_more_if did before) new) next
+    (b, before, x.state, y.state, did, turns, few, turn_of v x y host (slice_get points before) b c (Ok did) same spoiled turn, forgot, refl)
 
 -- ---- texts
 

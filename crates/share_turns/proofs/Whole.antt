@@ -2,7 +2,9 @@
 use Rattle.std.proofs.Common.{◌≡◌, ℕ, ◌-◌, ◌≤◌, List, refl, ap, sym, ◌∙◌, inl, inr}
 use Rattle.std.specs.Prelude.{Option, Result, Ok, Err, IfOk}
 use Rattle.x3d_values.specs.declared.pointing.Point.{Point}
+use Rattle.cascade_core.specs.Course.{Scripted}
 use Rattle.share_law.specs.Pieces.{Gathering}
+use Rattle.share_law.specs.Viewer.{ViewerState}
 use Rattle.share_core.specs.Viewer.{ViewerView, with_state}
 use Rattle.share_turns.specs.declared.traffic.Traffic.{Traffic}
 use Rattle.share_turns.specs.declared.fault.SeriesFault.{SeriesFault}
@@ -11,7 +13,7 @@ use Rattle.share_turns.specs.declared.fault.TurnFault.{TurnFault}
 use Rattle.share_turns.specs.declared.fault.TurnFault.TheVariants as turn_fault
 use Rattle.share_turns.specs.declared.view.ViewPlan.{ViewPlan}
 use Rattle.share_turns.specs.Gathers.{with_both}
-use Rattle.share_turns.specs.Views.{AreAppended, AreViewed, HasGiven, HasViewed, IsBegunAs, IsGivenEnd, IsLateCut, IsRun, IsTextFault, IsViewCut, IsViewEnd, failures_in}
+use Rattle.share_turns.specs.Views.{AreAppended, AreViewed, HasGiven, HasViewed, IsBegunAs, IsGivenEnd, IsLateCut, IsRun, IsTextFault, IsViewCut, IsViewEnd, failures_in, forgot_as}
 
 -- three facts of one answer
 pub begun_as : (result : Result ℕ SeriesFault) (P Q : ℕ → Type 0) (X : Type 0) → IfOk result P → IfOk result Q → X → IfOk result (λ used. P used × Q used × X)
@@ -24,23 +26,30 @@ same_both v begun new first then =
     let gathering : begun.gathering ≡ new.gathering = sym (ap (λ (z : ViewerView). z.gathering) then) in
     then ∙ ap (λ (z : ViewerView). with_state z new.state) first ∙ ap (λ (g : Option Gathering). with_both v new.state g) gathering
 
-pub has_viewed : (v begun new : ViewerView) (host : ℕ) (points : List Point) (plan : ViewPlan) (joining viewing : ℕ) (a b c : Option (List Traffic))
-    → IsBegunAs v plan.join plan.turns joining a b begun → viewing ≤ plan.turns - joining → AreViewed begun host points plan.until viewing b c new.state
-    → new ≡ with_state begun new.state → HasViewed v host points plan a c (plan.turns - joining - viewing) new
-has_viewed v begun new host points plan joining viewing a b c joined most viewed same = record {
+pub has_viewed : (v begun seen new : ViewerView) (host : ℕ) (points : List Point) (plan : ViewPlan) (joining viewing : ℕ) (a b c : Option (List Traffic))
+    → IsBegunAs v plan.join plan.turns joining a b begun → viewing ≤ plan.turns - joining → AreViewed begun host points plan.until plan.forget viewing b c seen.state
+    → seen ≡ with_state begun seen.state → new ≡ with_state seen (forgot_as plan.forget seen.state) → HasViewed v host points plan a c (plan.turns - joining - viewing) new
+has_viewed v begun seen new host points plan joining viewing a b c joined most viewed same then = record {
   joining = joining;
   between = b;
   begun = begun;
   joined = joined;
   viewing = viewing;
   most = most;
+  seen = seen.state;
   viewed = viewed;
-  same = same;
+  same = then ∙ ap (λ (z : ViewerView). with_state z (forgot_as plan.forget seen.state)) same;
   is = refl;
 }
 
+-- what comes of a viewer that saw enough
+pub same_rest : (begun seen new : ViewerView) (forget : Option ℕ) → seen ≡ with_state begun seen.state → new ≡ with_state seen (forgot_as forget seen.state) → new ≡ with_state begun new.state
+same_rest begun seen new forget same then =
+    let whole : new ≡ with_state begun (forgot_as forget seen.state) = then ∙ ap (λ (z : ViewerView). with_state z (forgot_as forget seen.state)) same in
+    whole ∙ ap (λ (x : ViewerState Scripted). with_state begun x) (sym (ap (λ (z : ViewerView). z.state) whole))
+
 pub view_cut : (v begun new : ViewerView) (host : ℕ) (points : List Point) (plan : ViewPlan) (joining : ℕ) (a b c : Option (List Traffic)) (fault : SeriesFault)
-    → IsBegunAs v plan.join plan.turns joining a b begun → IsViewEnd begun host points plan.until (plan.turns - joining) b c fault new.state
+    → IsBegunAs v plan.join plan.turns joining a b begun → IsViewEnd begun host points plan.until plan.forget (plan.turns - joining) b c fault new.state
     → IsViewCut v host points plan a c fault new
 view_cut v begun new host points plan joining a b c fault joined ended =
     record { joining = joining; between = b; begun = begun; joined = joined; ended = ended }

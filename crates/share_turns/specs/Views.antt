@@ -8,7 +8,7 @@ use Rattle.cascade_core.specs.declared.fault.TextFault.TheVariants as text_fault
 use Rattle.cascade_core.specs.Course.{Scripted}
 use Rattle.cascade_core.specs.Texts.{texts}
 use Rattle.share_law.specs.Viewer.{ViewerWorld, Running, ViewerState, applied_in}
-use Rattle.share_core.specs.Viewer.{IfRunning, IfSpoiled, ViewerView, machine_of, with_state}
+use Rattle.share_core.specs.Viewer.{IfRunning, IfSpoiled, ViewerView, forgot_but, machine_of, with_state}
 use Rattle.share_turns.specs.declared.traffic.Traffic.{Traffic}
 use Rattle.share_turns.specs.declared.fault.SeriesFault.{SeriesFault}
 use Rattle.share_turns.specs.declared.fault.SeriesFault.TheVariants.{Turn, TurnsUsedUp, Join}
@@ -34,6 +34,17 @@ pub record IsTurnOf (v : ViewerView) (host : ℕ) (point : Option Point)
 abbrev pub applied_by : ViewerView → ViewerState Scripted → ℕ
 applied_by v x = applied_in (machine_of v) x.view
 
+-- ---- old lines of the trace
+
+-- a viewer without the lines of all inputs but the last `forget`; without a number it keeps all
+abbrev pub forgot_as : (forget : Option ℕ) → ViewerState Scripted → ViewerState Scripted
+forgot_as None x = x
+forgot_as (Some last) x = forgot_but last x
+
+-- between two turns a viewer forgets those lines, or waits until more are old
+abbrev pub MayForget : (forget : Option ℕ) → (old new : ViewerState Scripted) → Type 0
+MayForget forget old new = (new ≡ old) ⊎ (new ≡ forgot_as forget old)
+
 -- ---- turns, one after another
 
 -- the number of offered points after a turn that offered the next one or didn't
@@ -42,54 +53,58 @@ one_more_if true n = n + 1
 one_more_if false n = n
 
 -- `turns` turns, each while too few inputs are applied. Each turn offers the first point that
--- wasn't offered yet, and `offered` points were offered in all.
-abbrev pub ViewerTurns : ViewerView → (host : ℕ) → List Point → (until turns : ℕ)
-    → (told_before told_after : Option (List Traffic)) → (offered : ℕ) → ViewerState Scripted
-    → Type 0
-ViewerTurns v host points until zero a b offered new = (b ≡ a) × (offered ≡ 0) × (new ≡ v.state)
-ViewerTurns v host points until (suc n) a b offered new =
-    (between : Option (List Traffic)) × (before : ℕ) × (mid : ViewerState Scripted)
-    × (did : Bool) × ViewerTurns v host points until n a between before mid
+-- wasn't offered yet, and `offered` points were offered in all. After each turn the viewer may
+-- forget old lines.
+abbrev pub ViewerTurns : ViewerView → (host : ℕ) → List Point → (until : ℕ)
+    → (forget : Option ℕ) → (turns : ℕ) → (told_before told_after : Option (List Traffic))
+    → (offered : ℕ) → ViewerState Scripted → Type 0
+ViewerTurns v host points until forget zero a b offered new =
+    (b ≡ a) × (offered ≡ 0) × (new ≡ v.state)
+ViewerTurns v host points until forget (suc n) a b offered new =
+    (between : Option (List Traffic)) × (before : ℕ) × (mid turned : ViewerState Scripted)
+    × (did : Bool) × ViewerTurns v host points until forget n a between before mid
     × (applied_by v mid < until)
-    × IsTurnOf (with_state v mid) host (slice_get points before) between b (Ok did) new
-    × (offered ≡ one_more_if did before)
+    × IsTurnOf (with_state v mid) host (slice_get points before) between b (Ok did) turned
+    × MayForget forget turned new × (offered ≡ one_more_if did before)
 
 -- `done` turns, until enough inputs are applied
-pub record AreViewed (v : ViewerView) (host : ℕ) (points : List Point) (until done : ℕ)
-    (told_before told_after : Option (List Traffic)) (new : ViewerState Scripted) : Type 0 where
+pub record AreViewed (v : ViewerView) (host : ℕ) (points : List Point) (until : ℕ)
+    (forget : Option ℕ) (done : ℕ) (told_before told_after : Option (List Traffic))
+    (new : ViewerState Scripted) : Type 0 where
   pub offered : ℕ
-  pub turned : ViewerTurns v host points until done told_before told_after offered new
+  pub turned : ViewerTurns v host points until forget done told_before told_after offered new
   pub enough : until ≤ applied_by v new
 
 -- all the turns were taken, and too few inputs are applied
-pub record AreUsedUp (v : ViewerView) (host : ℕ) (points : List Point) (until turns : ℕ)
-    (told_before told_after : Option (List Traffic)) (new : ViewerState Scripted) : Type 0 where
+pub record AreUsedUp (v : ViewerView) (host : ℕ) (points : List Point) (until : ℕ)
+    (forget : Option ℕ) (turns : ℕ) (told_before told_after : Option (List Traffic))
+    (new : ViewerState Scripted) : Type 0 where
   pub offered : ℕ
-  pub turned : ViewerTurns v host points until turns told_before told_after offered new
+  pub turned : ViewerTurns v host points until forget turns told_before told_after offered new
   pub too_few : applied_by v new < until
 
 -- turns, up to one that ended early
-pub record AreStopped (v : ViewerView) (host : ℕ) (points : List Point) (until turns : ℕ)
-    (told_before told_after : Option (List Traffic)) (fault : TurnFault)
-    (new : ViewerState Scripted) : Type 0 where
+pub record AreStopped (v : ViewerView) (host : ℕ) (points : List Point) (until : ℕ)
+    (forget : Option ℕ) (turns : ℕ) (told_before told_after : Option (List Traffic))
+    (fault : TurnFault) (new : ViewerState Scripted) : Type 0 where
   pub done : ℕ
   pub fewer : done < turns
   pub between : Option (List Traffic)
   pub offered : ℕ
   pub mid : ViewerState Scripted
-  pub before : ViewerTurns v host points until done told_before between offered mid
+  pub before : ViewerTurns v host points until forget done told_before between offered mid
   pub too_few : applied_by v mid < until
   pub last : IsTurnOf (with_state v mid) host (slice_get points offered) between told_after
       (Err fault) new
 
-abbrev pub IsViewEnd : ViewerView → (host : ℕ) → List Point → (until turns : ℕ)
-    → (told_before told_after : Option (List Traffic)) → SeriesFault → ViewerState Scripted
-    → Type 0
-IsViewEnd v host points until turns a b TurnsUsedUp new =
-    AreUsedUp v host points until turns a b new
-IsViewEnd v host points until turns a b (Turn fault) new =
-    AreStopped v host points until turns a b fault new
-IsViewEnd v host points until turns a b (Join fault) new = ⊥
+abbrev pub IsViewEnd : ViewerView → (host : ℕ) → List Point → (until : ℕ) → (forget : Option ℕ)
+    → (turns : ℕ) → (told_before told_after : Option (List Traffic)) → SeriesFault
+    → ViewerState Scripted → Type 0
+IsViewEnd v host points until forget turns a b TurnsUsedUp new =
+    AreUsedUp v host points until forget turns a b new
+IsViewEnd v host points until forget turns a b (Turn fault) new =
+    AreStopped v host points until forget turns a b fault new
+IsViewEnd v host points until forget turns a b (Join fault) new = ⊥
 
 -- the number of sends and receives of a port that failed, after a series of turns
 abbrev pub failures_in : {A : Type 0} → Result A SeriesFault → ℕ → ℕ
@@ -143,7 +158,8 @@ abbrev pub IsGivenEnd : ViewerView → (give : Option ℕ) → (turns : ℕ)
 IsGivenEnd v None turns a b fault = ⊥
 IsGivenEnd v (Some to) turns a b fault = IsGiveEnd v to turns a b fault
 
--- the viewer joined, and then enough inputs were applied; `left` turns remain
+-- the viewer joined, then enough inputs were applied, and then all old lines were forgotten; `left`
+-- turns remain
 pub record HasViewed (v : ViewerView) (host : ℕ) (points : List Point) (plan : ViewPlan)
     (a b : Option (List Traffic)) (left : ℕ) (new : ViewerView) : Type 0 where
   pub joining : ℕ
@@ -152,8 +168,9 @@ pub record HasViewed (v : ViewerView) (host : ℕ) (points : List Point) (plan :
   pub joined : IsBegunAs v plan.join plan.turns joining a between begun
   pub viewing : ℕ
   pub most : viewing ≤ plan.turns - joining
-  pub viewed : AreViewed begun host points plan.until viewing between b new.state
-  pub same : new ≡ with_state begun new.state
+  pub seen : ViewerState Scripted
+  pub viewed : AreViewed begun host points plan.until plan.forget viewing between b seen
+  pub same : new ≡ with_state begun (forgot_as plan.forget seen)
   pub is : left ≡ plan.turns - joining - viewing
 
 -- then the viewer gave its snapshot in the remaining turns, and its texts are appended
@@ -172,8 +189,8 @@ pub record IsViewCut (v : ViewerView) (host : ℕ) (points : List Point) (plan :
   pub between : Option (List Traffic)
   pub begun : ViewerView
   pub joined : IsBegunAs v plan.join plan.turns joining a between begun
-  pub ended : IsViewEnd begun host points plan.until (plan.turns - joining) between b fault
-      new.state
+  pub ended : IsViewEnd begun host points plan.until plan.forget (plan.turns - joining) between b
+      fault new.state
 
 -- the viewer viewed, and then its turns of giving, or a text, ended with this fault
 pub record IsLateCut (v : ViewerView) (host : ℕ) (points : List Point) (plan : ViewPlan)

@@ -6,6 +6,7 @@
 //! | `host`, `viewer`, `most` | one turn |
 //! | `runs`, `view`, `rounds` | turns one after another: a host, a viewer, all of them together |
 //! | `gather`, `give` | a viewer that joins by pieces of a snapshot, and one that gives them |
+//! | `forgetting` | a viewer that forgets old lines of its trace |
 //! | `heard`, `attendance` | what each viewer has asked for, and which of them a host counts |
 //! | `ends` | when a host drops inputs or is done |
 //! | `fault` | why a turn ends early |
@@ -15,6 +16,7 @@ mod attendance;
 mod ends;
 mod fake;
 mod fault;
+mod forgetting;
 mod gather;
 mod give;
 mod heard;

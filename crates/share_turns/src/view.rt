@@ -11,6 +11,7 @@ ghost use Rattle.share_turns.specs.Views.{IsGivenEnd, IsRun, IsRunEnd, IsTextFau
 ghost use Rattle.share_turns.specs.Views.{IsViewEnd, failures_in, one_more_if};
 
 use crate::fault::{SeriesFault, TurnFault};
+use crate::forgetting::{forget_rest, forget_some};
 use crate::gather::join_run;
 use crate::give::give_run;
 use crate::port::Port;
@@ -26,6 +27,8 @@ use x3d_values::Point;
 pub struct ViewPlan {
     /// The number of inputs to apply.
     pub until: u32,
+    /// If the viewer forgets old lines of its trace: of how many of the last inputs it keeps them.
+    pub forget: Option<u32>,
     /// The largest number of turns.
     pub turns: u32,
     /// If the viewer joins: the boot in which it first starts from the snapshot that arrives in
@@ -46,7 +49,8 @@ pub(crate) fn one_more_if(offered: bool, count: u32) -> u32
 }
 
 /// Runs at most `turns` turns of a viewer, until at least `until` inputs are applied. Returns the
-/// number of turns. Each turn offers the first point that wasn't offered yet.
+/// number of turns. Each turn offers the first point that wasn't offered yet. If `forget` is a
+/// number, lines of the trace of inputs before the last `forget` are forgotten now and then.
 ///
 /// Fails with `TurnsUsedUp` if fewer inputs are applied after the last turn. A turn that ends early
 /// ends the series.
@@ -54,20 +58,22 @@ pub fn view_until<B: Behaviour, P: Port>(
     viewer: &mut Viewer<B>,
     points: &[Point],
     until: u32,
+    forget: Option<u32>,
     turns: u32,
     host: u16,
     port: &mut P,
 ) -> Result<u32, SeriesFault>
     ensures others { viewer.new ≡ with_state viewer.old viewer.new.state }
-    ensures done { IfOk result (λ done. AreViewed viewer.old host points.now until done
+    ensures done { IfOk result (λ done. AreViewed viewer.old host points.now until forget done
         (P.told port.old) (P.told port.new) viewer.new.state) }
     ensures most { IfOk result (λ done. done ≤ turns) }
-    ensures ended { IfErr result (λ fault. IsViewEnd viewer.old host points.now until turns
+    ensures ended { IfErr result (λ fault. IsViewEnd viewer.old host points.now until forget turns
         (P.told port.old) (P.told port.new) fault viewer.new.state) }
     ensures failures { P.failure_count port.new
         ≡ failures_in result (P.failure_count port.old) }
 {
     let mut offered = 0;
+    let mut due = 0;
     for turn in 0..turns {
         let before = viewer.applied();
         if before >= until {
@@ -75,6 +81,7 @@ pub fn view_until<B: Behaviour, P: Port>(
         }
         let point = item_at(points, offered);
         offered = one_more_if(viewer_turn(viewer, point, host, port)?, offered);
+        due = forget_some(viewer, forget, due);
         let _millis = port.rest(viewer.applied() > before);
     }
     if viewer.applied() < until {
@@ -139,8 +146,8 @@ fn end<B: Behaviour, P: Port>(
 }
 
 /// Runs a viewer as `plan` says. It joins with the pieces that arrive, takes turns like
-/// `view_until`, and gives its snapshot in the remaining turns. Then its trace and its scene are
-/// appended. On a failure the buffer is unchanged.
+/// `view_until`, forgets the old lines of its trace, and gives its snapshot in the remaining turns.
+/// Then its trace and its scene are appended. On a failure the buffer is unchanged.
 ///
 /// Fails with `TurnsUsedUp` if the turns don't suffice, or `Join` if what the viewer gathered isn't
 /// a snapshot of its scene that it may start from: among the causes is `BootNotNew`, if its boot
@@ -165,7 +172,8 @@ pub fn view_run<B: Behaviour, P: Port>(
 {
     let joining = begin(viewer, plan.join, plan.turns, port)?;
     let turns = plan.turns - joining;
-    let viewing = view_until(viewer, points, plan.until, turns, host, port)?;
+    let viewing = view_until(viewer, points, plan.until, plan.forget, turns, host, port)?;
+    forget_rest(viewer, plan.forget);
     end(alloc, viewer, plan.give, turns - viewing, port)?;
     push_texts(viewer, out)?;
     Ok(())

@@ -28,6 +28,7 @@ const ALL: HostPlan = HostPlan {
 fn plan(until: u32, turns: u32) -> ViewPlan {
     ViewPlan {
         until,
+        forget: None,
         turns,
         join: None,
         give: None,

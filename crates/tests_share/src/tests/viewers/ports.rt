@@ -24,7 +24,7 @@ fn ends(
     failures: u64,
 ) -> bool {
     let mut port = FakePort::failing_at(alloc, call);
-    let answer = view_until(viewer, &POINTS, 1, 3, HOST, &mut port);
+    let answer = view_until(viewer, &POINTS, 1, None, 3, HOST, &mut port);
     let failed = port.failures();
     let told = port.traffic().len() as u64;
     drop(port);

@@ -128,6 +128,7 @@ struct ViewerTurns<'a>(bool, &'a [u8], &'a Cell<u32>);
 /// One input in one turn.
 const ONE: ViewPlan = ViewPlan {
     until: 1,
+    forget: None,
     turns: 1,
     join: None,
     give: None,
