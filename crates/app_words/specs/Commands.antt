@@ -86,7 +86,7 @@ unfoldable pub key_app : App
 key_app = taking (codes "key") (viewers_rule ∷ folder_rule ∷ [])
 
 -- the program with `run`, `format` and `check`; then with `rehearse` and `agree`; then with
--- `host` and `view`; with `serve`; with `recall`; with `part`; then with all
+-- `host`; with `view`; with `serve`; with `recall`; with `part`; then with all
 unfoldable pub single_program : App
 single_program =
     with_subcommand (with_subcommand (with_subcommand bare_program run_app.top) format_app.top)
@@ -95,8 +95,11 @@ single_program =
 unfoldable pub local_program : App
 local_program = with_subcommand (with_subcommand single_program rehearse_app.top) agree_app.top
 
+unfoldable pub hosted_program : App
+hosted_program = with_subcommand local_program host_app.top
+
 unfoldable pub shared_program : App
-shared_program = with_subcommand (with_subcommand local_program host_app.top) view_app.top
+shared_program = with_subcommand hosted_program view_app.top
 
 unfoldable pub served_program : App
 served_program = with_subcommand shared_program serve_app.top
