@@ -14,12 +14,16 @@ use crate::help::{
     AGREE_HELP, CHECK_HELP, FORMAT_HELP, HOST_HELP, KEY_HELP, PART_HELP, PROGRAM_HELP, RECALL_HELP,
     REHEARSE_HELP, RUN_HELP, SERVE_HELP, VIEW_HELP,
 };
+use crate::host_options::{
+    ETCD, EVERY, HOST_FORGET, HOST_TURNS, HOST_UNTIL, HOST_VIEWERS, KEEP, KEYS, LISTEN, LOG, LOGIN,
+    NEW_LOG, SHARED_WORLD, STANDBY, WORLD_ETCD, WORLD_EVERY, WORLD_FORGET, WORLD_VIEWERS, WORLDS,
+};
 use crate::options::{
-    AT, BOOT, ETCD, EVERY, EXACTLY, FOLDER, FlagOption, GIVE, GIVE_TURNS, HOST, HOST_TURNS,
-    HOST_UNTIL, HOST_VIEWERS, INFO, JOIN, KEEP, KEEP_NAMES, KEY, KEYS, LIST, LISTEN, LOG, LOGIN,
-    NEW_LOG, NO_TRACE, NumberOption, OPEN, PORT, RECALL_LOG, RECALL_UNTIL, SHARED_WORLD, STANDBY,
-    TURNS, TextOption, VERBOSE, VIEW_UNTIL, VIEWERS, WHO, WIRE, WORLD, WORLD_EVERY, WORLD_VIEWERS,
-    WORLDS,
+    FOLDER, FlagOption, INFO, KEEP_NAMES, LIST, NO_TRACE, NumberOption, OPEN, PORT, RECALL_LOG,
+    RECALL_UNTIL, TURNS, TextOption, VERBOSE, VIEWERS,
+};
+use crate::view_options::{
+    AT, BOOT, EXACTLY, GIVE, GIVE_TURNS, HOST, JOIN, KEY, VIEW_FORGET, VIEW_UNTIL, WHO, WIRE, WORLD,
 };
 use clap::Command;
 use std::alloc::{AllocError, Global};
@@ -78,35 +82,46 @@ static LOCAL_COMMANDS: [CommandWords; 5] = [
     },
 ];
 
-/// The commands of several processes, in the order of help.
-static SHARED_COMMANDS: [CommandWords; 2] = [
-    CommandWords {
-        name: "host",
-        about: "Number the inputs of viewers, and send them to each, over UDP",
-        after_help: HOST_HELP,
-        options: &[
-            PORT,
-            HOST_VIEWERS,
-            HOST_UNTIL,
-            KEEP,
-            EVERY,
-            STANDBY,
-            HOST_TURNS,
-        ],
-        texts: &[LISTEN, LOG, NEW_LOG, ETCD, SHARED_WORLD, LOGIN, KEYS],
-        flags: &[OPEN, VERBOSE],
-    },
-    CommandWords {
-        name: "view",
-        about: "Offer points to a host over UDP, apply what it numbers, and print trace and scene",
-        after_help: VIEW_HELP,
-        options: &[
-            PORT, WHO, BOOT, VIEW_UNTIL, EXACTLY, TURNS, AT, GIVE, GIVE_TURNS, WIRE,
-        ],
-        texts: &[HOST, KEY, WORLD],
-        flags: &[OPEN, JOIN, VERBOSE],
-    },
-];
+/// The command of a host, the first of those of several processes.
+static HOST_COMMAND: CommandWords = CommandWords {
+    name: "host",
+    about: "Number the inputs of viewers, and send them to each, over UDP",
+    after_help: HOST_HELP,
+    options: &[
+        PORT,
+        HOST_VIEWERS,
+        HOST_UNTIL,
+        KEEP,
+        HOST_FORGET,
+        EVERY,
+        STANDBY,
+        HOST_TURNS,
+    ],
+    texts: &[LISTEN, LOG, NEW_LOG, ETCD, SHARED_WORLD, LOGIN, KEYS],
+    flags: &[OPEN, VERBOSE],
+};
+
+/// The command of a viewer, the second.
+static VIEW_COMMAND: CommandWords = CommandWords {
+    name: "view",
+    about: "Offer points to a host over UDP, apply what it numbers, and print trace and scene",
+    after_help: VIEW_HELP,
+    options: &[
+        PORT,
+        WHO,
+        BOOT,
+        VIEW_UNTIL,
+        EXACTLY,
+        TURNS,
+        AT,
+        GIVE,
+        GIVE_TURNS,
+        WIRE,
+        VIEW_FORGET,
+    ],
+    texts: &[HOST, KEY, WORLD],
+    flags: &[OPEN, JOIN, VERBOSE],
+};
 
 /// The commands of a folder and of files, in the order of help.
 static FILE_COMMANDS: [CommandWords; 4] = [
@@ -114,8 +129,8 @@ static FILE_COMMANDS: [CommandWords; 4] = [
         name: "serve",
         about: "Serve the worlds of a folder, over one UDP socket",
         after_help: SERVE_HELP,
-        options: &[PORT, WORLD_VIEWERS, KEEP, WORLD_EVERY],
-        texts: &[WORLDS, LISTEN],
+        options: &[PORT, WORLD_VIEWERS, KEEP, WORLD_FORGET, WORLD_EVERY],
+        texts: &[WORLDS, LISTEN, WORLD_ETCD, LOGIN],
         flags: &[OPEN, VERBOSE],
     },
     CommandWords {
@@ -152,11 +167,18 @@ fn local_commands() -> &'static [CommandWords]
     &LOCAL_COMMANDS
 }
 
-/// Returns the commands after these.
-fn shared_commands() -> &'static [CommandWords]
-    ensures { map app_with result.now ≡ host_app ∷ view_app ∷ [] }
+/// Returns the command of a host.
+fn host_command() -> &'static CommandWords
+    ensures { app_with result.now ≡ host_app }
 {
-    &SHARED_COMMANDS
+    &HOST_COMMAND
+}
+
+/// Returns the command of a viewer.
+fn view_command() -> &'static CommandWords
+    ensures { app_with result.now ≡ view_app }
+{
+    &VIEW_COMMAND
 }
 
 /// Returns the last commands.
@@ -237,6 +259,7 @@ pub fn program_command<'a>(alloc: Global) -> Result<Command<'a>, AllocError>
 {
     let bare = bare_command(alloc)?;
     let local = with_commands(bare, alloc, local_commands())?;
-    let shared = with_commands(local, alloc, shared_commands())?;
+    let hosted = with_command(local, alloc, host_command())?;
+    let shared = with_command(hosted, alloc, view_command())?;
     with_commands(shared, alloc, file_commands())
 }
