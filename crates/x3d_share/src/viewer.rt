@@ -63,6 +63,7 @@ fn view_plan(asked: &ViewOrder, boot: u32) -> ViewPlan {
     let join = if asked.join { Some(boot) } else { None };
     ViewPlan {
         until,
+        forget: asked.forget,
         turns: asked.turns,
         join,
         give: None,
