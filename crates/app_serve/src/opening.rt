@@ -42,6 +42,7 @@ fn as_host(serving: &Serving) -> Order {
         viewers: serving.viewers,
         turns: None,
         keep: serving.keep,
+        forget: None,
         every: serving.every,
         until: None,
         verbose: serving.verbose,

@@ -3,7 +3,7 @@ use Rattle.std.specs.Prelude.{List, [], ◌∷◌, codes, true}
 use Rattle.std.specs.List.{fold}
 use Rattle.clap.specs.Words.{App, Rule, Text, new_app, with_rule, with_subcommand}
 use Rattle.clap.specs.Simple.{on_top}
-use Rattle.app_words.specs.Options.{viewers_rule, turns_rule, port_rule, keep_rule, every_rule}
+use Rattle.app_words.specs.Options.{viewers_rule, turns_rule, port_rule, keep_rule, forget_rule, every_rule}
 use Rattle.app_words.specs.Options.{until_rule, standby_rule, etcd_rule, login_rule}
 use Rattle.app_words.specs.Options.{who_rule, boot_rule, exactly_rule, at_rule, give_rule}
 use Rattle.app_words.specs.Options.{give_turns_rule, wire_rule, host_viewers_rule, host_turns_rule}
@@ -49,28 +49,29 @@ rehearse_app = taking (codes "rehearse") (viewers_rule ∷ [])
 unfoldable pub agree_app : App
 agree_app = taking (codes "agree") (viewers_rule ∷ turns_rule ∷ [])
 
--- `host --port P --viewers K --until N --keep N --every MS --standby SECONDS --turns T
+-- `host --port P --viewers K --until N --keep N --forget N --every MS --standby SECONDS --turns T
 -- --listen ADDRESS:PORT --log FILE --new-log FILE --etcd ADDRESS:PORT[,..] --world NAME
 -- --login FILE --keys FILE --open -v`
 unfoldable pub host_app : App
 host_app = taking (codes "host")
-    (port_rule ∷ host_viewers_rule ∷ until_rule ∷ keep_rule ∷ every_rule ∷ standby_rule
-    ∷ host_turns_rule ∷ listen_rule ∷ log_rule ∷ new_log_rule ∷ etcd_rule ∷ world_rule ∷ login_rule
-    ∷ keys_rule ∷ open_rule ∷ verbose_rule ∷ [])
+    (port_rule ∷ host_viewers_rule ∷ until_rule ∷ keep_rule ∷ forget_rule ∷ every_rule
+    ∷ standby_rule ∷ host_turns_rule ∷ listen_rule ∷ log_rule ∷ new_log_rule ∷ etcd_rule
+    ∷ world_rule ∷ login_rule ∷ keys_rule ∷ open_rule ∷ verbose_rule ∷ [])
 
 -- `view --port P --who V --boot B --until N --exactly N --turns T --at Q --give Q --give-turns T
--- --wire VERSION --host ADDRESS:PORT[,..] --key FILE --world NAME --open --join -v`
+-- --wire VERSION --forget N --host ADDRESS:PORT[,..] --key FILE --world NAME --open --join -v`
 unfoldable pub view_app : App
 view_app = taking (codes "view")
     (port_rule ∷ who_rule ∷ boot_rule ∷ until_rule ∷ exactly_rule ∷ turns_rule ∷ at_rule
-    ∷ give_rule ∷ give_turns_rule ∷ wire_rule ∷ host_rule ∷ key_rule ∷ world_rule ∷ open_rule
-    ∷ join_rule ∷ verbose_rule ∷ [])
+    ∷ give_rule ∷ give_turns_rule ∷ wire_rule ∷ forget_rule ∷ host_rule ∷ key_rule ∷ world_rule
+    ∷ open_rule ∷ join_rule ∷ verbose_rule ∷ [])
 
--- `serve FOLDER --port P --viewers K --keep N --every MS --listen ADDRESS:PORT --open -v`
+-- `serve FOLDER --port P --viewers K --keep N --forget N --every MS --listen ADDRESS:PORT
+-- --etcd ADDRESS:PORT[,..] --login FILE --open -v`
 unfoldable pub serve_app : App
 serve_app = taking (codes "serve")
-    (port_rule ∷ host_viewers_rule ∷ keep_rule ∷ every_rule ∷ folder_rule ∷ listen_rule ∷ open_rule
-    ∷ verbose_rule ∷ [])
+    (port_rule ∷ host_viewers_rule ∷ keep_rule ∷ forget_rule ∷ every_rule ∷ folder_rule
+    ∷ listen_rule ∷ etcd_rule ∷ login_rule ∷ open_rule ∷ verbose_rule ∷ [])
 
 -- `recall --until N --new-log FILE --info`
 unfoldable pub recall_app : App

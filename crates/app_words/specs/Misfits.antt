@@ -114,16 +114,28 @@ sharing_misfit o =
     else if o.has_world then None
     else Some misfit.EtcdWithoutWorld
 
+-- only a host with keys keeps a world, and the lines of its trace
+abbrev pub forget_misfit : HostOrder → Option Misfit
+forget_misfit o =
+    if not o.has_keys && is_some o.forget then Some misfit.ForgetWithoutKeys else None
+
 -- the first reason why the options don't go together, if there is one
 abbrev pub host_misfit : HostOrder → Option Misfit
 host_misfit o =
     or_else (place_misfit misfit.TwoPlaces o.port o.has_address)
     (or_else (every_misfit o)
-    (or_else (sharing_misfit o) (open_misfit misfit.OpenWithKeys o.has_keys o.is_open)))
+    (or_else (sharing_misfit o)
+    (or_else (forget_misfit o) (open_misfit misfit.OpenWithKeys o.has_keys o.is_open))))
 
--- `serve` has one place, as a host
+-- ---- the worlds of a folder
+
+-- `serve` logs in only where the logs are in etcd
+abbrev pub login_misfit : ServeOrder → Option Misfit
+login_misfit o = if o.has_login && not o.has_etcd then Some misfit.LoginWithoutEtcd else None
+
+-- it has one place, as a host
 abbrev pub serve_misfit : ServeOrder → Option Misfit
-serve_misfit o = place_misfit misfit.TwoPlaces o.port o.has_address
+serve_misfit o = or_else (place_misfit misfit.TwoPlaces o.port o.has_address) (login_misfit o)
 
 -- `recall` prints what a log has, or makes another
 abbrev pub recall_misfit : (info makes : Bool) → Option Misfit

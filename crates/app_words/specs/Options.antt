@@ -98,7 +98,7 @@ who_rule = record (ranged (codes "who") 0 max_who) { required = true }
 abbrev pub boot_rule : Rule
 boot_rule = ranged (codes "boot") 1 4294967295
 
--- `--until N`, `--exactly N` and `--keep N`, from 0 to 2^20
+-- `--until N`, `--exactly N`, `--keep N` and `--forget N`, from 0 to 2^20
 abbrev pub until_rule : Rule
 until_rule = ranged (codes "until") 0 max_inputs
 
@@ -107,6 +107,9 @@ exactly_rule = ranged (codes "exactly") 0 max_inputs
 
 abbrev pub keep_rule : Rule
 keep_rule = ranged (codes "keep") 0 max_inputs
+
+abbrev pub forget_rule : Rule
+forget_rule = ranged (codes "forget") 0 max_inputs
 
 -- `--every MS`, from a millisecond to an hour
 abbrev pub every_rule : Rule

@@ -11,6 +11,7 @@ use Rattle.x3d_values.specs.Ranges.{max_viewers, max_inputs}
 use Rattle.app_words.specs.Commands.{program}
 use Rattle.app_words.specs.Misfits.{host_misfit, misfit_of, serve_misfit, recall_misfit}
 use Rattle.app_words.specs.Options.{max_who}
+use Rattle.app_words.specs.declared.host.Kept.{Kept}
 use Rattle.app_words.specs.declared.order.HostOrder.{HostOrder}
 use Rattle.app_words.specs.declared.order.LogUse.{LogUse}
 use Rattle.app_words.specs.declared.order.LogUse.TheVariants.{Without, GoesOn, Makes, Shares}
@@ -21,6 +22,7 @@ use Rattle.app_words.specs.declared.order.ViewEnd.{ViewEnd}
 use Rattle.app_words.specs.declared.order.ViewEnd.TheVariants.{Until, Exactly}
 use Rattle.app_words.specs.declared.order.ViewOrder.{ViewOrder}
 use Rattle.app_words.specs.declared.view.ViewPorts.{ViewPorts}
+use Rattle.app_words.specs.declared.view.ViewTurns.{ViewTurns}
 
 -- the option of this name has this number, either given or by default
 pub record HasNumber (id : Text) (rows : List Row) (n : ℕ) : Type 0 where
@@ -77,6 +79,9 @@ MayHavePort rows port = MayHaveNumberIn (codes "port") rows 1 65535 port
 abbrev pub MayHaveKeep : List Row → Option ℕ → Type 0
 MayHaveKeep rows keep = MayHaveNumberIn (codes "keep") rows 0 max_inputs keep
 
+abbrev pub MayHaveForget : List Row → Option ℕ → Type 0
+MayHaveForget rows forget = MayHaveNumberIn (codes "forget") rows 0 max_inputs forget
+
 abbrev pub MayHaveEvery : List Row → Option ℕ → Type 0
 MayHaveEvery rows every = MayHaveNumberIn (codes "every") rows 1 3600000 every
 
@@ -103,6 +108,16 @@ pub record HasPorts (rows : List Row) (ports : ViewPorts) : Type 0 where
   pub host : MayHavePort rows ports.host
   pub at : MayHaveAt rows ports.at
   pub give : MayHaveGive rows ports.give
+
+-- how many turns a viewer takes at most, and how many it gives
+pub record HasTurns (rows : List Row) (turns : ViewTurns) : Type 0 where
+  pub all : IsTurns rows turns.all
+  pub give : IsGiveTurns rows turns.give
+
+-- how many of the last inputs a host keeps, and how many keep their lines of the trace
+pub record HasKept (rows : List Row) (kept : Kept) : Type 0 where
+  pub keep : MayHaveKeep rows kept.keep
+  pub forget : MayHaveForget rows kept.forget
 
 -- one of `--until` and `--exactly` was given, and it says when a viewer ends
 abbrev pub IsEnd : List Row → ViewEnd → Type 0
@@ -155,6 +170,7 @@ pub record AsksHost (rows : List Row) (o : HostOrder) : Type 0 where
   pub viewers : MayHaveViewers rows o.viewers
   pub until : MayHaveUntil rows o.until
   pub keep : MayHaveKeep rows o.keep
+  pub forget : MayHaveForget rows o.forget
   pub every : MayHaveEvery rows o.every
   pub turns : MayHaveTurns rows o.turns
   pub verbose : o.verbose ≡ is_given (codes "verbose") rows
@@ -175,6 +191,7 @@ pub record AsksView (rows : List Row) (o : ViewOrder) : Type 0 where
   pub give_turns : IsGiveTurns rows o.give_turns
   pub wire : MayHaveWire rows o.wire
   pub join : o.join ≡ is_given (codes "join") rows
+  pub forget : MayHaveForget rows o.forget
   pub verbose : o.verbose ≡ is_given (codes "verbose") rows
 
 -- the matches of `serve` ask for this
@@ -182,8 +199,11 @@ pub record AsksServe (rows : List Row) (o : ServeOrder) : Type 0 where
   pub port : MayHavePort rows o.port
   pub has_address : o.has_address ≡ is_text_given (codes "listen") rows
   pub is_open : o.is_open ≡ is_given (codes "open") rows
+  pub has_etcd : o.has_etcd ≡ is_text_given (codes "etcd") rows
+  pub has_login : o.has_login ≡ is_text_given (codes "login") rows
   pub viewers : MayHaveViewers rows o.viewers
   pub keep : MayHaveKeep rows o.keep
+  pub forget : MayHaveForget rows o.forget
   pub every : MayHaveEvery rows o.every
   pub verbose : o.verbose ≡ is_given (codes "verbose") rows
 
@@ -223,6 +243,7 @@ pub record HostInRange (o : HostOrder) : Type 0 where
   pub viewers_high : IfSome o.viewers (λ n. n ≤ max_viewers)
   pub until_high : IfSome o.until (λ n. n ≤ max_inputs)
   pub keep_high : IfSome o.keep (λ n. n ≤ max_inputs)
+  pub forget_high : IfSome o.forget (λ n. n ≤ max_inputs)
   pub every_low : IfSome o.every (λ n. 1 ≤ n)
   pub every_high : IfSome o.every (λ n. n ≤ 3600000)
   pub standby_low : IfSome o.standby (λ n. 1 ≤ n)
@@ -244,6 +265,7 @@ pub record ViewInRange (o : ViewOrder) : Type 0 where
   pub give_turns_low : 1 ≤ o.give_turns
   pub wire_low : IfSome o.wire (λ v. 1 ≤ v)
   pub wire_high : IfSome o.wire (λ v. v ≤ 2)
+  pub forget_high : IfSome o.forget (λ n. n ≤ max_inputs)
   pub together : misfit_of o ≡ None
 
 -- the numbers of an order to serve are in their ranges
@@ -252,6 +274,7 @@ pub record ServeInRange (o : ServeOrder) : Type 0 where
   pub viewers_low : IfSome o.viewers (λ n. 1 ≤ n)
   pub viewers_high : IfSome o.viewers (λ n. n ≤ max_viewers)
   pub keep_high : IfSome o.keep (λ n. n ≤ max_inputs)
+  pub forget_high : IfSome o.forget (λ n. n ≤ max_inputs)
   pub every_low : IfSome o.every (λ n. 1 ≤ n)
   pub every_high : IfSome o.every (λ n. n ≤ 3600000)
   pub together : serve_misfit o ≡ None

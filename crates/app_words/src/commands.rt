@@ -14,12 +14,16 @@ use crate::help::{
     AGREE_HELP, CHECK_HELP, FORMAT_HELP, HOST_HELP, KEY_HELP, PART_HELP, PROGRAM_HELP, RECALL_HELP,
     REHEARSE_HELP, RUN_HELP, SERVE_HELP, VIEW_HELP,
 };
+use crate::host_options::{
+    ETCD, EVERY, HOST_FORGET, HOST_TURNS, HOST_UNTIL, HOST_VIEWERS, KEEP, KEYS, LISTEN, LOG, LOGIN,
+    NEW_LOG, SHARED_WORLD, STANDBY, WORLD_ETCD, WORLD_EVERY, WORLD_FORGET, WORLD_VIEWERS, WORLDS,
+};
 use crate::options::{
-    AT, BOOT, ETCD, EVERY, EXACTLY, FOLDER, FlagOption, GIVE, GIVE_TURNS, HOST, HOST_TURNS,
-    HOST_UNTIL, HOST_VIEWERS, INFO, JOIN, KEEP, KEEP_NAMES, KEY, KEYS, LIST, LISTEN, LOG, LOGIN,
-    NEW_LOG, NO_TRACE, NumberOption, OPEN, PORT, RECALL_LOG, RECALL_UNTIL, SHARED_WORLD, STANDBY,
-    TURNS, TextOption, VERBOSE, VIEW_UNTIL, VIEWERS, WHO, WIRE, WORLD, WORLD_EVERY, WORLD_VIEWERS,
-    WORLDS,
+    FOLDER, FlagOption, INFO, KEEP_NAMES, LIST, NO_TRACE, NumberOption, OPEN, PORT, RECALL_LOG,
+    RECALL_UNTIL, TURNS, TextOption, VERBOSE, VIEWERS,
+};
+use crate::view_options::{
+    AT, BOOT, EXACTLY, GIVE, GIVE_TURNS, HOST, JOIN, KEY, VIEW_FORGET, VIEW_UNTIL, WHO, WIRE, WORLD,
 };
 use clap::Command;
 use std::alloc::{AllocError, Global};
@@ -89,6 +93,7 @@ static SHARED_COMMANDS: [CommandWords; 2] = [
             HOST_VIEWERS,
             HOST_UNTIL,
             KEEP,
+            HOST_FORGET,
             EVERY,
             STANDBY,
             HOST_TURNS,
@@ -101,7 +106,17 @@ static SHARED_COMMANDS: [CommandWords; 2] = [
         about: "Offer points to a host over UDP, apply what it numbers, and print trace and scene",
         after_help: VIEW_HELP,
         options: &[
-            PORT, WHO, BOOT, VIEW_UNTIL, EXACTLY, TURNS, AT, GIVE, GIVE_TURNS, WIRE,
+            PORT,
+            WHO,
+            BOOT,
+            VIEW_UNTIL,
+            EXACTLY,
+            TURNS,
+            AT,
+            GIVE,
+            GIVE_TURNS,
+            WIRE,
+            VIEW_FORGET,
         ],
         texts: &[HOST, KEY, WORLD],
         flags: &[OPEN, JOIN, VERBOSE],
@@ -114,8 +129,8 @@ static FILE_COMMANDS: [CommandWords; 4] = [
         name: "serve",
         about: "Serve the worlds of a folder, over one UDP socket",
         after_help: SERVE_HELP,
-        options: &[PORT, WORLD_VIEWERS, KEEP, WORLD_EVERY],
-        texts: &[WORLDS, LISTEN],
+        options: &[PORT, WORLD_VIEWERS, KEEP, WORLD_FORGET, WORLD_EVERY],
+        texts: &[WORLDS, LISTEN, WORLD_ETCD, LOGIN],
         flags: &[OPEN, VERBOSE],
     },
     CommandWords {

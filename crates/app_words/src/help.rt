@@ -104,7 +104,8 @@ the host drops what isn't sealed by a viewer's key, and answers nothing else; no
 Without them whoever has the scene may take part. With either it speaks version 2 of datagrams. Then
 an address that the host doesn't know gets one answer of no more bytes than it sent, and is known
 once it has sent back the cookie in it. Of each viewer it takes 8 datagrams a turn and 64 offers a
-second. With --keys it keeps the world, and gives its snapshot to viewers that join.
+second. With --keys it keeps the world, and gives its snapshot to viewers that join. With --forget N
+that world keeps the lines of its trace of the last N inputs; older ones are forgotten.
 With --listen it knows 512 addresses. The 128 that it answered last stay; of the others the one that
 came first gives way.
 With --new-log FILE the host makes a log, and stores each input in it before it sends it. After the
@@ -160,6 +161,7 @@ pub(crate) const VIEW_HELP: &str = "A job of this viewer's points is read from s
 One of --until and --exactly is required. With --until N the viewer ends once at least N inputs are
 applied. It may have applied up to 126 more by then, so two viewers may print different texts. With
 --exactly N it ignores later inputs, and two viewers print the same bytes.
+With --forget N it keeps the lines of the trace of the last N inputs; older ones are forgotten.
 Without --boot it takes the boot after the last one that the host knows of it, or the seconds since
 2020 if they are more, so a viewer that is started again works.
 A viewer that comes late needn't ask for all inputs. With --join --at Q it starts from a snapshot
@@ -205,14 +207,18 @@ version 2 of datagrams alone.
 The folder is read each second. A world is added when its job appears, tried again when its job
 changes, and dropped when its job goes; its log stays. A world that is refused is told once on
 standard error, with its name, and the others go on.
-Each world is as with `host --log`: it goes on where its log ends. --keep, --every and --viewers are
-those of each world.
+Each world is as with `host --log`: it goes on where its log ends. --keep, --forget, --every and
+--viewers are those of each world.
+With --etcd ADDRESS:PORT[,..] the logs are in etcd instead, each under the name of its job, as with
+`host --etcd`. The user's name and the password are two lines of the file that --login names.
+Nothing is encrypted on the way to etcd.
 With --listen ADDRESS:PORT the socket is on a network. Beyond the loopback addresses a world takes
 keys, or the word --open.
 It runs until it is stopped by a signal.
 
-Example:
+Examples:
   x3d_share serve --listen 192.0.2.7:4000 worlds
+  x3d_share serve --listen 192.0.2.7:4000 --etcd 192.0.2.9:2379 worlds
 
 Status:
   2  the words or the address are refused, or the folder can't be read

@@ -2,15 +2,23 @@
 
 ghost use Rattle.std.specs.Prelude.{◌≡◌, ℕ, Option, IfSome, IfNone};
 ghost use Rattle.clap.specs.Words.{rows_of, found_of};
-ghost use Rattle.app_words.specs.Words.{AsksHost, log_use_in, log_use_of};
+ghost use Rattle.app_words.specs.Words.{AsksHost, HasKept, log_use_in, log_use_of};
 ghost use Rattle.app_words.specs.Words.{MayHaveEvery, MayHaveKeep, MayHaveStandby, MayHaveTurns};
 ghost use Rattle.app_words.specs.Words.{MayHaveViewers};
+ghost use Rattle.app_words.specs.declared.host.Kept.{Kept as KeptOf};
 ghost use Rattle.app_words.specs.declared.order.HostOrder.{HostOrder as HostOf};
 
-use crate::numbers::{is_named, is_text_given, optional_in, port_in, until_in};
+use crate::numbers::{forget_in, is_named, is_text_given, optional_in, port_in, until_in};
 use crate::order::{HostOrder, LogUse};
 use clap::ArgMatches;
 use x3d_values::{MAX_INPUTS, MAX_VIEWERS};
+
+/// How many of the last inputs a host keeps, and how many keep their lines of the trace.
+#[derive(Clone, Copy)]
+pub(crate) struct Kept {
+    pub(crate) keep: Option<u32>,
+    pub(crate) forget: Option<u32>,
+}
 
 /// Returns the number of viewers of `host` or `serve`, or `Some(None)` if it was left out.
 pub(crate) fn viewers_or_none(found: &ArgMatches<'_>) -> Option<Option<u8>>
@@ -34,12 +42,28 @@ fn turns_or_none(found: &ArgMatches<'_>) -> Option<Option<u32>>
 }
 
 /// Returns the number of `--keep`, or `Some(None)` if it was left out.
-pub(crate) fn keep_in(found: &ArgMatches<'_>) -> Option<Option<u32>>
+fn keep_in(found: &ArgMatches<'_>) -> Option<Option<u32>>
     ensures some { IfSome result (λ o. MayHaveKeep (rows_of (found_of found.now)) o) }
     ensures none { IfNone result
         ((o : Option ℕ) → ¬ MayHaveKeep (rows_of (found_of found.now)) o) }
 {
     optional_in(found, "keep", 0, MAX_INPUTS)
+}
+
+/// Returns the numbers of `--keep` and `--forget`, each if it was given, or `None` if one is out of
+/// its range.
+pub(crate) fn kept_in(found: &ArgMatches<'_>) -> Option<Kept>
+    ensures some { IfSome result (λ k. HasKept (rows_of (found_of found.now)) k) }
+    ensures none { IfNone result
+        ((k : KeptOf) → ¬ HasKept (rows_of (found_of found.now)) k) }
+{
+    let Some(keep) = keep_in(found) else {
+        return None;
+    };
+    let Some(forget) = forget_in(found) else {
+        return None;
+    };
+    Some(Kept { keep, forget })
 }
 
 /// Returns the number of `--every`, or `Some(None)` if it was left out.
@@ -100,7 +124,7 @@ pub(crate) fn host_asked(found: &ArgMatches<'_>) -> Option<HostOrder>
     let Some(turns) = turns_or_none(found) else {
         return None;
     };
-    let Some(keep) = keep_in(found) else {
+    let Some(kept) = kept_in(found) else {
         return None;
     };
     let Some(every) = every_in(found) else {
@@ -123,7 +147,8 @@ pub(crate) fn host_asked(found: &ArgMatches<'_>) -> Option<HostOrder>
         standby,
         viewers,
         turns,
-        keep,
+        keep: kept.keep,
+        forget: kept.forget,
         every,
         until,
         verbose: is_named(found, "verbose"),

@@ -7,6 +7,7 @@ mod commands;
 mod help;
 mod hint;
 mod host;
+mod host_options;
 mod laws;
 mod misfit;
 mod numbers;
@@ -14,6 +15,7 @@ mod options;
 mod order;
 mod serve;
 mod view;
+mod view_options;
 mod words;
 
 pub use app_faults::OrderFault;

@@ -2,8 +2,9 @@
 
 ghost use Rattle.std.specs.Prelude.{◌≡◌};
 ghost use Rattle.app_words.specs.Misfits.{at_misfit, every_misfit, give_misfit, given_misfit};
-ghost use Rattle.app_words.specs.Misfits.{first_misfit, has_log, host_misfit, is_first_boot};
-ghost use Rattle.app_words.specs.Misfits.{is_shared, join_misfit, misfit_of, open_misfit};
+ghost use Rattle.app_words.specs.Misfits.{first_misfit, forget_misfit, has_log, host_misfit};
+ghost use Rattle.app_words.specs.Misfits.{is_first_boot, is_shared, join_misfit, login_misfit};
+ghost use Rattle.app_words.specs.Misfits.{misfit_of, open_misfit};
 ghost use Rattle.app_words.specs.Misfits.{recall_misfit, sharing_misfit, unshared_misfit};
 ghost use Rattle.app_words.specs.Misfits.{own_misfit, place_misfit, sealed_misfit, serve_misfit};
 ghost use Rattle.app_words.specs.Misfits.{wire_misfit};
@@ -60,12 +61,15 @@ pub enum Misfit {
     /// A world is named, and its log isn't in etcd.
     #[error("--world: only with --etcd")]
     WorldWithoutEtcd,
-    /// A host is to log in, and its log isn't in etcd.
+    /// A host is to log in, and its log isn't in etcd; or `serve` is, and its logs aren't.
     #[error("--login: only with --etcd")]
     LoginWithoutEtcd,
     /// A host is to stand by, and its log isn't in etcd.
     #[error("--standby: only with --etcd")]
     StandbyWithoutEtcd,
+    /// A host without keys, which keeps no world, is to keep some lines of its trace.
+    #[error("--forget: only with --keys")]
+    ForgetWithoutKeys,
     /// A host has keys, and serves whoever comes.
     #[error("one of --keys and --open, and not both")]
     OpenWithKeys,
@@ -261,6 +265,16 @@ fn sharing_misfit(asked: &HostOrder) -> Option<Misfit>
     }
 }
 
+fn forget_misfit(asked: &HostOrder) -> Option<Misfit>
+    ensures { result ≡ forget_misfit asked.now }
+{
+    if !asked.has_keys && asked.forget.is_some() {
+        Some(Misfit::ForgetWithoutKeys)
+    } else {
+        None
+    }
+}
+
 /// Returns the first reason why the options of `host` don't go together, if there is one. Each has
 /// its range already.
 pub(crate) fn host_misfit(asked: &HostOrder) -> Option<Misfit>
@@ -275,14 +289,31 @@ pub(crate) fn host_misfit(asked: &HostOrder) -> Option<Misfit>
     if let Some(misfit) = sharing_misfit(asked) {
         return Some(misfit);
     }
+    if let Some(misfit) = forget_misfit(asked) {
+        return Some(misfit);
+    }
     open_misfit(Misfit::OpenWithKeys, asked.has_keys, asked.is_open)
 }
 
-/// Returns the reason why the options of `serve` don't go together, if there is one.
+fn login_misfit(asked: &ServeOrder) -> Option<Misfit>
+    ensures { result ≡ login_misfit asked.now }
+{
+    if asked.has_login && !asked.has_etcd {
+        Some(Misfit::LoginWithoutEtcd)
+    } else {
+        None
+    }
+}
+
+/// Returns the first reason why the options of `serve` don't go together, if there is one. Each has
+/// its range already.
 pub(crate) fn serve_misfit(asked: &ServeOrder) -> Option<Misfit>
     ensures { result ≡ serve_misfit asked.now }
 {
-    place_misfit(Misfit::TwoPlaces, asked.port, asked.has_address)
+    if let Some(misfit) = place_misfit(Misfit::TwoPlaces, asked.port, asked.has_address) {
+        return Some(misfit);
+    }
+    login_misfit(asked)
 }
 
 /// Returns the reason why the options of `recall` don't go together, if there is one.

@@ -5,7 +5,8 @@ ghost use Rattle.std.specs.Prelude.{option_map};
 ghost use Rattle.clap.specs.Words.{first_of, rows_of, found_of};
 ghost use Rattle.app_words.specs.Words.{HasNumber, HasNumberIn, IsLeftOut, MayHaveNumberIn};
 ghost use Rattle.app_words.specs.Words.{is_given, is_text_given};
-ghost use Rattle.app_words.specs.Words.{IsTurns, IsViewers, MayHavePort, MayHaveUntil};
+ghost use Rattle.app_words.specs.Words.{IsTurns, IsViewers, MayHaveForget, MayHavePort};
+ghost use Rattle.app_words.specs.Words.{MayHaveUntil};
 
 use clap::ArgMatches;
 use x3d_values::{MAX_INPUTS, MAX_VIEWERS};
@@ -127,4 +128,13 @@ pub fn until_in(found: &ArgMatches<'_>) -> Option<Option<u32>>
         ((o : Option ℕ) → ¬ MayHaveUntil (rows_of (found_of found.now)) o) }
 {
     optional_in(found, "until", 0, MAX_INPUTS)
+}
+
+/// Returns the number of `--forget`, or `Some(None)` if it was left out.
+pub fn forget_in(found: &ArgMatches<'_>) -> Option<Option<u32>>
+    ensures some { IfSome result (λ o. MayHaveForget (rows_of (found_of found.now)) o) }
+    ensures none { IfNone result
+        ((o : Option ℕ) → ¬ MayHaveForget (rows_of (found_of found.now)) o) }
+{
+    optional_in(found, "forget", 0, MAX_INPUTS)
 }

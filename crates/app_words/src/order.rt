@@ -39,6 +39,9 @@ pub struct HostOrder {
     /// How many of the last inputs are kept for viewers that have them, 0 to 2^20; `None` keeps
     /// all.
     pub keep: Option<u32>,
+    /// How many of the last inputs keep their lines of the trace in the world for viewers that
+    /// join, 0 to 2^20; `None` keeps all.
+    pub forget: Option<u32>,
     /// How many milliseconds pass from one clock that the host makes to the next, 1 to 3,600,000,
     /// once those of its job are over; `None` for no such clocks.
     pub every: Option<u32>,
@@ -88,12 +91,14 @@ pub struct ViewOrder {
     pub wire: Option<u8>,
     /// Joins from the pieces of a snapshot: another viewer's, or with a key the host's.
     pub join: bool,
+    /// How many of the last inputs keep their lines of the trace, 0 to 2^20; `None` keeps all.
+    pub forget: Option<u32>,
     /// Reports events on standard error.
     pub verbose: bool,
 }
 
 /// What `serve` does; the worlds are those of the folder that its word names. `text_of` returns the
-/// folder's name, and the address.
+/// folder's name, the address, and those of etcd.
 #[derive(Clone, Copy, PartialEq, Eq)]
 pub struct ServeOrder {
     /// The UDP port of 127.0.0.1 to bind, 1 to 65,535; `None` if `--listen` names an address.
@@ -102,11 +107,18 @@ pub struct ServeOrder {
     pub has_address: bool,
     /// `--open`: worlds without keys are served to whoever has the scene, on any machine.
     pub is_open: bool,
+    /// `--etcd`: the logs are in etcd, each under the name of its job, and made if there is none.
+    pub has_etcd: bool,
+    /// `--login`: it logs in to etcd by the file that the option names.
+    pub has_login: bool,
     /// How many viewers a new world can have, 1 to `MAX_VIEWERS` of x3d_values, if that is given.
     pub viewers: Option<u8>,
     /// How many of a world's last inputs are kept for viewers that have them, 0 to 2^20; `None`
     /// keeps all.
     pub keep: Option<u32>,
+    /// How many of a world's last inputs keep their lines of the trace for viewers that join, 0 to
+    /// 2^20; `None` keeps all.
+    pub forget: Option<u32>,
     /// How many milliseconds pass from one clock that a world's host makes to the next, 1 to
     /// 3,600,000, once those of its job are over; `None` for no such clocks.
     pub every: Option<u32>,

@@ -5,7 +5,7 @@ ghost use Rattle.clap.specs.Words.{rows_of, found_of};
 ghost use Rattle.app_words.specs.Words.{AsksServe};
 ghost use Rattle.app_words.specs.declared.order.ServeOrder.{ServeOrder as ServeOf};
 
-use crate::host::{every_in, keep_in, viewers_or_none};
+use crate::host::{every_in, kept_in, viewers_or_none};
 use crate::numbers::{is_named, is_text_given, port_in};
 use crate::order::ServeOrder;
 use clap::ArgMatches;
@@ -22,7 +22,7 @@ pub(crate) fn serve_asked(found: &ArgMatches<'_>) -> Option<ServeOrder>
     let Some(viewers) = viewers_or_none(found) else {
         return None;
     };
-    let Some(keep) = keep_in(found) else {
+    let Some(kept) = kept_in(found) else {
         return None;
     };
     let Some(every) = every_in(found) else {
@@ -32,8 +32,11 @@ pub(crate) fn serve_asked(found: &ArgMatches<'_>) -> Option<ServeOrder>
         port,
         has_address: is_text_given(found, "listen"),
         is_open: is_named(found, "open"),
+        has_etcd: is_text_given(found, "etcd"),
+        has_login: is_text_given(found, "login"),
         viewers,
-        keep,
+        keep: kept.keep,
+        forget: kept.forget,
         every,
         verbose: is_named(found, "verbose"),
     })

@@ -3,15 +3,17 @@
 ghost use Rattle.std.specs.Prelude.{◌≡◌, ℕ, Option, IfSome, IfNone};
 ghost use Rattle.clap.specs.Words.{rows_of, found_of};
 ghost use Rattle.app_words.specs.Words.{AsksView, IsEnd, end_of};
-ghost use Rattle.app_words.specs.Words.{HasPorts, IsGiveTurns, IsWho};
+ghost use Rattle.app_words.specs.Words.{HasPorts, HasTurns, IsGiveTurns, IsWho};
 ghost use Rattle.app_words.specs.Words.{MayHaveAt, MayHaveBoot, MayHaveExactly, MayHaveGive};
 ghost use Rattle.app_words.specs.Words.{MayHaveWire};
 ghost use Rattle.app_words.specs.declared.order.ViewEnd.{ViewEnd as EndOf};
 ghost use Rattle.app_words.specs.declared.order.ViewOrder.{ViewOrder as ViewOf};
 ghost use Rattle.app_words.specs.declared.view.ViewPorts.{ViewPorts as PortsOf};
+ghost use Rattle.app_words.specs.declared.view.ViewTurns.{ViewTurns as TurnsOf};
 
 use crate::numbers::{
-    is_named, is_text_given, number_in, optional_in, port_in, port_or_none, turns_in, until_in,
+    forget_in, is_named, is_text_given, number_in, optional_in, port_in, port_or_none, turns_in,
+    until_in,
 };
 use crate::options::MAX_WHO;
 use crate::order::{ViewEnd, ViewOrder};
@@ -24,6 +26,13 @@ struct ViewPorts {
     host: Option<u16>,
     at: Option<u16>,
     give: Option<u16>,
+}
+
+/// How many turns `view` takes at most, and how many it gives.
+#[derive(Clone, Copy)]
+struct ViewTurns {
+    all: u32,
+    give: u32,
 }
 
 fn who_in(found: &ArgMatches<'_>) -> Option<u8>
@@ -92,6 +101,21 @@ fn give_turns_in(found: &ArgMatches<'_>) -> Option<u32>
     number_in(found, "give-turns", 1, u32::MAX)
 }
 
+/// Returns the numbers of `--turns` and `--give-turns`, or `None` if one is out of its range.
+fn view_turns_in(found: &ArgMatches<'_>) -> Option<ViewTurns>
+    ensures some { IfSome result (λ t. HasTurns (rows_of (found_of found.now)) t) }
+    ensures none { IfNone result
+        ((t : TurnsOf) → ¬ HasTurns (rows_of (found_of found.now)) t) }
+{
+    let Some(all) = turns_in(found) else {
+        return None;
+    };
+    let Some(give) = give_turns_in(found) else {
+        return None;
+    };
+    Some(ViewTurns { all, give })
+}
+
 /// Returns the version of datagrams, or `Some(None)` if the option was left out.
 fn wire_in(found: &ArgMatches<'_>) -> Option<Option<u8>>
     ensures some { IfSome result (λ o. MayHaveWire (rows_of (found_of found.now)) o) }
@@ -150,13 +174,13 @@ pub(crate) fn view_asked(found: &ArgMatches<'_>) -> Option<ViewOrder>
     let Some(end) = end_in(found) else {
         return None;
     };
-    let Some(turns) = turns_in(found) else {
-        return None;
-    };
-    let Some(give_turns) = give_turns_in(found) else {
+    let Some(turns) = view_turns_in(found) else {
         return None;
     };
     let Some(wire) = wire_in(found) else {
+        return None;
+    };
+    let Some(forget) = forget_in(found) else {
         return None;
     };
     Some(ViewOrder {
@@ -168,12 +192,13 @@ pub(crate) fn view_asked(found: &ArgMatches<'_>) -> Option<ViewOrder>
         who,
         boot,
         end,
-        turns,
+        turns: turns.all,
         at: ports.at,
         give: ports.give,
-        give_turns,
+        give_turns: turns.give,
         wire,
         join: is_named(found, "join"),
+        forget,
         verbose: is_named(found, "verbose"),
     })
 }

@@ -142,6 +142,7 @@ fn hosts(alloc: Global, bytes: &[u8], port: &mut Between<'_>) -> bool {
         viewers: Some(2),
         turns: Some(TURNS),
         keep: None,
+        forget: None,
         every: None,
         until: None,
         verbose: false,
@@ -177,6 +178,7 @@ fn views(alloc: Global, bytes: &[u8], who: u8, port: &mut Between<'_>) -> bool
         give_turns: 1,
         wire: None,
         join: false,
+        forget: None,
         verbose: false,
     });
     let Ok(mut seat) = seated_job(alloc, bytes, &order, who, 1) else {

@@ -9,8 +9,9 @@ returns-in_default-viewers_or_none-clause-none c = λ o h. c.in_default-viewers_
 pub returns-in_default-turns_or_none-clause-none : goal.returns-in_default-turns_or_none-clause-none
 returns-in_default-turns_or_none-clause-none c = λ o h. c.in_default-turns_or_none.ensures.none o.turns h.turns
 
-pub returns-in_default-keep_in-clause-none : goal.returns-in_default-keep_in-clause-none
-returns-in_default-keep_in-clause-none c = λ o h. c.in_default-keep_in.ensures.none o.keep h.keep
+pub returns-in_default-kept_in-clause-none : goal.returns-in_default-kept_in-clause-none
+returns-in_default-kept_in-clause-none c = λ o h.
+    c.in_default-kept_in.ensures.none (record { keep = o.keep; forget = o.forget }) (record { keep = h.keep; forget = h.forget })
 
 pub returns-in_default-every_in-clause-none : goal.returns-in_default-every_in-clause-none
 returns-in_default-every_in-clause-none c = λ o h. c.in_default-every_in.ensures.none o.every h.every

@@ -13,11 +13,12 @@ returns-in_default-boot_in-clause-none c = λ o h. c.in_default-boot_in.ensures.
 pub returns-in_default-end_in-clause-none : goal.returns-in_default-end_in-clause-none
 returns-in_default-end_in-clause-none c = λ o h. c.in_default-end_in.ensures.none o.end h.end
 
-pub returns-in_default-turns_in-clause-none : goal.returns-in_default-turns_in-clause-none
-returns-in_default-turns_in-clause-none c = λ o h. c.in_default-turns_in.ensures.none o.turns h.turns
-
-pub returns-in_default-give_turns_in-clause-none : goal.returns-in_default-give_turns_in-clause-none
-returns-in_default-give_turns_in-clause-none c = λ o h. c.in_default-give_turns_in.ensures.none o.give_turns h.give_turns
+pub returns-in_default-view_turns_in-clause-none : goal.returns-in_default-view_turns_in-clause-none
+returns-in_default-view_turns_in-clause-none c = λ o h.
+    c.in_default-view_turns_in.ensures.none (record { all = o.turns; give = o.give_turns }) (record { all = h.turns; give = h.give_turns })
 
 pub returns-in_default-wire_in-clause-none : goal.returns-in_default-wire_in-clause-none
 returns-in_default-wire_in-clause-none c = λ o h. c.in_default-wire_in.ensures.none o.wire h.wire
+
+pub returns-in_default-forget_in-clause-none : goal.returns-in_default-forget_in-clause-none
+returns-in_default-forget_in-clause-none c = λ o h. c.in_default-forget_in.ensures.none o.forget h.forget
