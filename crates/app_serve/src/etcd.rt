@@ -36,6 +36,11 @@ pub fn millis_now(rt: &HostRuntime, last: u64) -> u64 {
     }
 }
 
+/// Returns a time, if it is later than `now`.
+fn later_than(now: u64, time: u64) -> Option<u64> {
+    if now < time { Some(time) } else { None }
+}
+
 /// Returns why a world isn't opened that etcd has.
 pub fn world_end(fault: WorldFault) -> End {
     match fault {
@@ -117,10 +122,10 @@ impl<'e, 'r> EtcdWay<'e, 'r> {
 
     /// Returns when etcd may be asked again, in milliseconds of the clock, if that is after `now`.
     pub fn opens(&self, now: u64) -> Option<u64> {
-        match self.etcd.try_borrow() {
-            Ok(etcd) if now < etcd.opens => Some(etcd.opens),
-            _ => None,
-        }
+        let Ok(etcd) = self.etcd.try_borrow() else {
+            return None;
+        };
+        later_than(now, etcd.opens)
     }
 
     /// Reports whether etcd didn't answer a short while ago, so that it isn't asked.

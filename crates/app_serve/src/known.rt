@@ -58,7 +58,7 @@ pub struct Known<'e, 'r> {
     world: Option<Box<World<'e, 'r>>>,
 }
 
-/// Reports whether a world may be opened later, as far as it is up to its log.
+/// Reports whether a world may be opened later with the same files: its log may answer then.
 fn may_pass(end: &End) -> bool {
     match end {
         End::EtcdSilent | End::EtcdMalformed | End::InDoubt => true,
@@ -115,14 +115,15 @@ impl<'e, 'r> Known<'e, 'r> {
         }
     }
 
-    /// Opens the world, unless it was refused and its files didn't change, or etcd isn't asked now.
+    /// Opens the world, unless it was refused and its files didn't change. Fails with `EtcdSilent` if
+    /// etcd isn't asked now.
     pub fn open(&mut self, served: &Served<'_, 'e, 'r>) -> Result<(), End> {
-        if served.is_shut() {
-            return Ok(());
-        }
         let found = stamps_of(served.rt, served.folder, &self.name).ok();
         if self.is_unchanged(&found, served.now) {
             return Ok(());
+        }
+        if served.is_shut() {
+            return Err(End::EtcdSilent);
         }
         self.stamps = found;
         let world = open_world(served, &self.name)?;
@@ -160,8 +161,8 @@ impl<'e, 'r> Known<'e, 'r> {
         }
     }
 
-    /// Adds a datagram to those that the world will receive. Returns whether there is room for
-    /// another.
+    /// Adds a datagram to those that the world will receive, or drops it if its log doesn't answer.
+    /// Returns whether there is room for another.
     pub fn arrive(
         &mut self,
         served: &Served<'_, 'e, 'r>,
@@ -171,12 +172,12 @@ impl<'e, 'r> Known<'e, 'r> {
         let Some(world) = &mut self.world else {
             return Ok(true);
         };
-        let takes_turns = world.takes_turns(served.now);
-        if takes_turns {
-            world.wake(served.rt.alloc(), served.serving, served.now)?;
+        if world.opens(served.now).is_some() {
+            return Ok(true);
         }
+        world.wake(served.rt.alloc(), served.serving, served.now)?;
         world.stack.arrive(from, bytes);
-        Ok(!takes_turns || world.stack.has_room())
+        Ok(world.stack.has_room())
     }
 
     /// Runs a turn of the world. Returns when it is due again.

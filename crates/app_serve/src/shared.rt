@@ -158,8 +158,8 @@ impl<'e, 'r> Shared<'e, 'r> {
         }
     }
 
-    /// Returns when the next clock is due, after an input at time `last`, if there is one. The world
-    /// had its last turn at `turned`.
+    /// Returns when the next clock is due, after an input at time `last`, if there is one. The last
+    /// turn was at `turned`.
     pub fn beat(&self, clocks: &[i64], last: i64, every: Option<u32>, turned: u64) -> Option<u64> {
         let first = self.stands_in_at(every);
         if self.has_later(clocks, last) {
@@ -211,7 +211,7 @@ impl<'e, 'r> Shared<'e, 'r> {
         }
     }
 
-    /// Notes what a reading found at `now`. If it didn't find the world etcd isn't asked for a while.
+    /// Notes what a reading found at `now`. If it found nothing, etcd isn't asked for a while.
     fn note_read(&mut self, base: i64, has_host: bool, now: u64) {
         if self.pace.beat.base != base {
             self.clocked = now;

@@ -71,8 +71,9 @@ fn revisions_in(alloc: Global, answer: &[u8]) -> Result<Vec<u64>, AllocError> {
     Ok(revisions)
 }
 
-/// Asks for the revisions of the tails of worlds, at most `MOST_TAILS`. Returns them in the order of
-/// the names, 0 for a world that isn't there; or none, if no answer came. Fails if memory is refused.
+/// Asks for the revisions of the tails of worlds, at most `MOST_TAILS`. Returns them in the order
+/// of the names, 0 for a world that isn't there; or none, if no answer came. Fails if memory is
+/// refused.
 pub fn revisions_of<E: Engine>(
     alloc: Global,
     engine: &mut E,

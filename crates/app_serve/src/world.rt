@@ -27,7 +27,7 @@ pub enum WorldLog<'e, 'r> {
 pub struct World<'e, 'r> {
     pub session: Session,
     pub log: WorldLog<'e, 'r>,
-    /// The host, except after a turn that failed, or that was behind the log.
+    /// The host, except after a turn that failed, or that found other entries in the log.
     pub hosting: Option<LoggedHost>,
     pub stack: Stack,
     /// The times of its job's clocks in microseconds.
@@ -52,7 +52,7 @@ pub struct Ahead<'a> {
 }
 
 impl WorldLog<'_, '_> {
-    /// Returns how many inputs it has, as far as it was read.
+    /// Returns how many inputs it had when it was last read or appended to.
     pub fn len(&self) -> u64 {
         match self {
             WorldLog::Alone(alone) => alone.log.len(),
@@ -131,12 +131,6 @@ impl World<'_, '_> {
             return Some(0);
         }
         self.own_moment(every)
-    }
-
-    /// Reports whether a datagram that arrives may wait for the next turn, if there is room: there
-    /// is one before long.
-    pub fn takes_turns(&self, now: u64) -> bool {
-        self.hosting.is_some() && self.opens(now).is_none()
     }
 
     /// Notes the revision that the tail of its log has in etcd. Returns whether it reads on now.

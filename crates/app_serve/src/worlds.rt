@@ -275,8 +275,8 @@ impl<'e, 'r> Worlds<'e, 'r> {
         self.looked >= self.known.len()
     }
 
-    /// Asks etcd which of some worlds have changed since it was asked, by one transaction, unless it
-    /// isn't asked now. Without memory they count as unchanged.
+    /// Asks etcd which of some worlds have changed since it was asked, by one transaction, unless
+    /// it isn't asked now. Without memory they count as unchanged.
     pub fn look_some(&mut self, served: &Served<'_, 'e, 'r>) {
         let Some(way) = served.etcd else {
             self.looked = self.known.len();
