@@ -61,7 +61,7 @@ pub struct Known<'e, 'r> {
 /// Reports whether a world may be opened later with the same files: its log may answer then.
 fn may_pass(end: &End) -> bool {
     match end {
-        End::EtcdSilent | End::EtcdMalformed | End::InDoubt => true,
+        End::EtcdSilent | End::InDoubt => true,
         End::Log(LogFault::Device) => true,
         _ => false,
     }
