@@ -111,10 +111,12 @@ hostile:
 	@cd crates/x3d_share && $(RT) run -- --version > /dev/null
 	@scripts/hostile $$((60 * $(MINUTES)))
 
-# Proves and builds the program, and serves folders of worlds; last 1,000 of them, whose figures it prints.
+# Proves and builds the program, and serves folders of worlds, 1,000 of them at last, whose figures it prints; then some
+# by two processes over etcd, where it is installed.
 worlds:
 	@cd crates/x3d_share && $(RT) run -- --version > /dev/null
 	@scripts/worlds
+	@scripts/worlds_etcd
 
 # Proves and builds the program, and kills hosts that share a log in etcd, the etcd that leads, and viewers, for SECONDS;
 # then two begin a world or append to it at once, 300 times. Wants etcd.
@@ -144,7 +146,8 @@ fuzz:
 # that are too small, and a world
 # with killed viewers and malicious datagrams;
 # hosts over a log that are killed; logs that are damaged, and power cuts; an attacker on worlds with keys, and strangers;
-# folders of worlds that one process serves, a thousand of them at last; hosts that share a log, where etcd is installed;
+# folders of worlds that one process serves, a thousand of them at last; where etcd is installed worlds that two
+# processes serve, and hosts that share a log;
 # and jobs from C, Rust and Python, by the library of `make library`, or where it isn't built or is older than a
 # source by one that is built of the same sources without a proof.
 test: definitions
@@ -163,6 +166,7 @@ test: definitions
 	scripts/logs --seed 67; \
 	scripts/hostile 30 --seed 68; \
 	scripts/worlds 5; \
+	scripts/worlds_etcd; \
 	scripts/cluster 60 --seed 69; \
 	scripts/cluster --majority; \
 	scripts/cluster --races 60; \

@@ -40,10 +40,10 @@ class Guest(sessions.Viewer):
 
 
 class Served:
-    """A process that serves a folder."""
+    """A process that serves a folder, at a port that is free if none is named."""
 
-    def __init__(self, folder, *words, program=PROGRAM, listen=None):
-        self.folder, self.port = Path(folder), free_port()
+    def __init__(self, folder, *words, program=PROGRAM, listen=None, port=None):
+        self.folder, self.port = Path(folder), port or free_port()
         self.told = Path(folder).parent / f"told-{self.port}-{time.monotonic_ns()}"
         with open(self.told, "wb") as told:
             place = ["--listen", text_of(listen, self.port)] if listen else ["--port", str(self.port)]

@@ -2,9 +2,11 @@
 
 use app_logs::{AppendFault, LogFault, append_fault_of};
 use app_program::{Failure, JobFault, RunFault, ShareFault};
+use app_standby::SharedFault;
 use app_words::OrderFault;
 use share_key_files::KeyFileFault;
-use share_logged::LoggedFault;
+use share_logged::{LoggedFault, ResumeFault};
+use share_store::ReadFault;
 use share_turns::TurnFault;
 
 /// Why a command ends early, or a world isn't served.
@@ -99,6 +101,29 @@ impl From<LoggedFault> for End {
             LoggedFault::Turn(fault) => End::from(fault),
             LoggedFault::Log(AppendFault::InDoubt) => End::InDoubt,
             LoggedFault::Log(fault) => End::Log(append_fault_of(fault)),
+        }
+    }
+}
+
+/// Returns why a world ends whose log isn't read on.
+fn read_end(fault: ReadFault) -> End {
+    match fault {
+        ReadFault::Memory => End::Log(LogFault::Memory),
+        ReadFault::Silent => End::EtcdSilent,
+        ReadFault::Device => End::EtcdMalformed,
+    }
+}
+
+impl From<SharedFault> for End {
+    fn from(fault: SharedFault) -> End {
+        match fault {
+            SharedFault::TurnsUsedUp => End::from(ShareFault::TurnsUsedUp),
+            SharedFault::Turn(fault) => End::from(fault),
+            SharedFault::Read(fault) => read_end(fault),
+            SharedFault::Resume(ResumeFault::NotALog(number)) => {
+                End::Log(LogFault::NotALog(number))
+            }
+            SharedFault::Resume(ResumeFault::Memory) => End::Log(LogFault::Memory),
         }
     }
 }

@@ -23,7 +23,7 @@ fn is_old(rt: &HostRuntime, stamp: &Stamp) -> bool {
 }
 
 /// Notes the worlds of a folder.
-fn note_all(served: &Served<'_>, worlds: &mut Worlds) -> Result<(), End> {
+fn note_all(served: &Served<'_, '_, '_>, worlds: &mut Worlds<'_, '_>) -> Result<(), End> {
     let Ok(entries) = fs::read_dir(served.rt, served.folder) else {
         return Err(End::NoFolder);
     };
@@ -46,7 +46,11 @@ impl Folder {
 
     /// Reads the folder, unless it is the same, and begins to open and close its worlds. Fails with
     /// `NoFolder` if it can't be read; then nothing changes.
-    pub fn read(&mut self, served: &Served<'_>, worlds: &mut Worlds) -> Result<(), End> {
+    pub fn read(
+        &mut self,
+        served: &Served<'_, '_, '_>,
+        worlds: &mut Worlds<'_, '_>,
+    ) -> Result<(), End> {
         let found = stamp_of(served.rt, served.folder);
         if found.is_none() || found != self.stamp {
             note_all(served, worlds)?;

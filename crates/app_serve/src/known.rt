@@ -1,49 +1,81 @@
 //! A world of the folder, which runs or was refused.
 
 use crate::end::End;
+use crate::etcd::EtcdWay;
 use crate::opening::open_world;
 use crate::serving::Serving;
 use crate::stamps::{Stamps, stamps_of};
 use crate::telling::{tell_closed, tell_opened, tell_refused};
 use crate::world::World;
-use app_logs::Log;
+use app_logs::LogFault;
 use app_words::OrderFault;
 use mio::net::UdpSocket;
 use share_session::{Session, WorldName};
+use share_worlds::is_due;
 use std::mem;
 use std::net::SocketAddr;
 
 /// What the process serves, and from which folder.
 #[derive(Clone, Copy)]
-pub struct Served<'a> {
+pub struct Served<'a, 'e, 'r> {
     pub rt: &'a HostRuntime,
     pub folder: &'a str,
     pub serving: &'a Serving,
+    /// The way to etcd, if the logs are there.
+    pub etcd: Option<EtcdWay<'e, 'r>>,
     /// The time in milliseconds.
     pub now: u64,
+}
+
+impl Served<'_, '_, '_> {
+    /// Reports whether the logs are in etcd, which didn't answer a short while ago.
+    pub fn is_shut(&self) -> bool {
+        match self.etcd {
+            Some(way) => way.is_shut(self.now),
+            None => false,
+        }
+    }
 }
 
 /// The most datagrams that leave after a turn.
 const MOST_LEAVING: u32 = 256;
 
+/// After this many milliseconds a world is tried again whose log didn't answer.
+const AGAIN: u64 = 3_000;
+
 /// A world of the folder, which runs or was refused.
 #[derive(Drop)]
-pub struct Known {
+pub struct Known<'e, 'r> {
     pub name: WorldName,
     /// Its job was there when the folder was read.
     pub is_there: bool,
     /// Those of its files when it was refused.
     stamps: Option<Stamps>,
-    world: Option<Box<World>>,
+    /// When it is tried again even if its files are those.
+    again: Option<u64>,
+    /// It was told that its log doesn't answer, and it wasn't opened since.
+    is_told: bool,
+    world: Option<Box<World<'e, 'r>>>,
 }
 
-impl Known {
+/// Reports whether a world may be opened later with the same files: its log may answer then.
+fn may_pass(end: &End) -> bool {
+    match end {
+        End::EtcdSilent | End::InDoubt => true,
+        End::Log(LogFault::Device) => true,
+        _ => false,
+    }
+}
+
+impl<'e, 'r> Known<'e, 'r> {
     /// Returns a world that wasn't opened.
-    pub fn new(name: WorldName) -> Known {
+    pub fn new(name: WorldName) -> Known<'e, 'r> {
         Known {
             name,
             is_there: true,
             stamps: None,
+            again: None,
+            is_told: false,
             world: None,
         }
     }
@@ -61,28 +93,19 @@ impl Known {
         }
     }
 
-    /// Reports whether the world was refused, and its files are still those.
-    fn is_unchanged(&self, found: &Option<Stamps>) -> bool {
-        self.stamps.is_some() && self.stamps == *found
+    /// Reports whether the world was refused, its files are still those, and it isn't time to try
+    /// it again.
+    fn is_unchanged(&self, found: &Option<Stamps>, now: u64) -> bool {
+        self.stamps.is_some() && self.stamps == *found && !is_due(self.again, now)
     }
 
-    /// Opens the world, unless it was refused and its files didn't change.
-    pub fn open(&mut self, served: &Served<'_>) -> Result<(), End> {
-        let found = stamps_of(served.rt, served.folder, &self.name).ok();
-        if self.is_unchanged(&found) {
-            return Ok(());
-        }
-        self.stamps = found;
-        let world = open_world(
-            served.rt,
-            served.folder,
-            &self.name,
-            served.serving,
-            served.now,
-        )?;
+    /// Has a world run that was opened.
+    fn enter(&mut self, served: &Served<'_, 'e, 'r>, world: World<'e, 'r>) -> Result<(), End> {
         if served.serving.verbose {
             tell_opened(served.rt, &self.name, world.log.len());
         }
+        self.again = None;
+        self.is_told = false;
         match Box::new(served.rt.alloc(), world) {
             Ok(world) => {
                 drop(mem::replace(&mut self.world, Some(world)));
@@ -92,15 +115,45 @@ impl Known {
         }
     }
 
-    /// Tells why the world ended, which isn't opened again until its files change.
-    pub fn refuse(&mut self, served: &Served<'_>, end: &End) {
-        tell_refused(served.rt, &self.name, end);
+    /// Opens the world, unless it was refused and its files didn't change. Fails with `EtcdSilent` if
+    /// etcd isn't asked now.
+    pub fn open(&mut self, served: &Served<'_, 'e, 'r>) -> Result<(), End> {
+        let found = stamps_of(served.rt, served.folder, &self.name).ok();
+        if self.is_unchanged(&found, served.now) {
+            return Ok(());
+        }
+        if served.is_shut() {
+            return Err(End::EtcdSilent);
+        }
+        self.stamps = found;
+        let world = open_world(served, &self.name)?;
+        self.enter(served, world)
+    }
+
+    /// Tells why the world ended, unless it was told that its log doesn't answer and still doesn't.
+    fn tell(&mut self, served: &Served<'_, 'e, 'r>, end: &End) {
+        let passes = served.etcd.is_some() && may_pass(end);
+        if !passes || !self.is_told {
+            tell_refused(served.rt, &self.name, end);
+        }
+        self.is_told = passes;
+        self.again = if passes {
+            Some(served.now.saturating_add(AGAIN))
+        } else {
+            None
+        };
+    }
+
+    /// Tells why the world ended, which isn't opened again until its files change, or a few seconds
+    /// have passed if its log is in etcd and didn't answer.
+    pub fn refuse(&mut self, served: &Served<'_, 'e, 'r>, end: &End) {
+        self.tell(served, end);
         drop(mem::replace(&mut self.world, None));
         self.stamps = stamps_of(served.rt, served.folder, &self.name).ok();
     }
 
     /// Tells that the world is closed, if it runs.
-    pub fn close(&self, served: &Served<'_>) {
+    pub fn close(&self, served: &Served<'_, 'e, 'r>) {
         if served.serving.verbose
             && let Some(world) = &self.world
         {
@@ -108,35 +161,50 @@ impl Known {
         }
     }
 
-    /// Adds a datagram to those that the world will receive. Returns whether there is room for
-    /// another.
+    /// Adds a datagram to those that the world will receive, or drops it if its log doesn't answer.
+    /// Returns whether there is room for another.
     pub fn arrive(
         &mut self,
-        served: &Served<'_>,
+        served: &Served<'_, 'e, 'r>,
         from: SocketAddr,
         bytes: &[u8],
     ) -> Result<bool, End> {
         let Some(world) = &mut self.world else {
             return Ok(true);
         };
-        world.wake(served.serving, served.now)?;
+        if world.opens(served.now).is_some() {
+            return Ok(true);
+        }
+        world.wake(served.rt.alloc(), served.serving, served.now)?;
         world.stack.arrive(from, bytes);
         Ok(world.stack.has_room())
     }
 
     /// Runs a turn of the world. Returns when it is due again.
-    pub fn turn(&mut self, served: &Served<'_>, socket: &UdpSocket) -> Result<Option<u64>, End> {
+    pub fn turn(
+        &mut self,
+        served: &Served<'_, 'e, 'r>,
+        socket: &UdpSocket,
+    ) -> Result<Option<u64>, End> {
         let Some(world) = &mut self.world else {
             return Ok(None);
         };
-        world.turn(served.serving, served.now)?;
+        world.turn(served.rt.alloc(), served.serving, served.now)?;
         send_all(world, socket);
-        Ok(world.moment(served.serving.every))
+        Ok(world.moment(served.serving.every, served.now))
+    }
+
+    /// Notes the revision that the tail of its log has in etcd. Returns whether it reads on now.
+    pub fn note_tail(&mut self, revision: u64) -> bool {
+        match &mut self.world {
+            Some(world) => world.note_tail(revision),
+            None => false,
+        }
     }
 }
 
 /// Sends what leaves a world. What the system doesn't take is lost.
-fn send_all(world: &mut World, socket: &UdpSocket) {
+fn send_all(world: &mut World<'_, '_>, socket: &UdpSocket) {
     for _ in 0..MOST_LEAVING {
         let Some(parcel) = world.stack.leave() else {
             return;

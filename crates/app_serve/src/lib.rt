@@ -5,8 +5,9 @@
 //! |---|---|
 //! | `serving` | what is served, and how |
 //! | `world`, `stack` | a world that runs, and its ports |
-//! | `opening`, `beginning` | how a world is opened, and how its log begins |
-//! | `turning` | a turn of a world |
+//! | `opening`, `starting`, `beginning` | how a world is opened, and how its log begins |
+//! | `turning`, `alone`, `shared` | a turn of a world, over the log of a file or of etcd |
+//! | `etcd`, `tails` | etcd, and which worlds have changed there |
 //! | `worlds` | the worlds of a folder |
 //! | `folder`, `names`, `stamps` | the files of a folder |
 //! | `looping` | the loop over the socket |
@@ -14,8 +15,10 @@
 //! | `files`, `key_files`, `places` | files of logs and of keys, and where a host is |
 #![tactic(auto)]
 
+mod alone;
 mod beginning;
 mod end;
+mod etcd;
 mod files;
 mod folder;
 mod key_files;
@@ -25,8 +28,11 @@ mod names;
 mod opening;
 mod places;
 mod serving;
+mod shared;
 mod stack;
 mod stamps;
+mod starting;
+mod tails;
 mod telling;
 mod turning;
 mod world;
@@ -34,8 +40,9 @@ mod worlds;
 
 pub use beginning::{gone_on, made};
 pub use end::End;
+pub use etcd::{Etcd, EtcdWay, etcd_at, world_end};
 pub use files::{LogDisk, disk_at, drawn_run};
-pub use key_files::{drawn_bytes, host_keys, login_bytes, make_keys, viewer_key};
+pub use key_files::{drawn_bytes, host_keys, make_keys, viewer_key};
 pub use looping::serve;
 pub use places::{Place, addresses_at, may_be_reached, place_of, world_of};
 pub use serving::{Serving, VIEWERS};

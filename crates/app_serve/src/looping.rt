@@ -1,6 +1,7 @@
 //! The loop over the socket of all worlds.
 
 use crate::end::End;
+use crate::etcd::{EtcdWay, millis_now};
 use crate::folder::Folder;
 use crate::known::Served;
 use crate::places::Place;
@@ -14,7 +15,7 @@ use share_turns::RECEIVED;
 use std::alloc::Global;
 use std::io::ErrorKind;
 use std::net::{Ipv4Addr, SocketAddr, SocketAddrV4};
-use std::time::{Clock, Duration};
+use std::time::Duration;
 
 /// How many datagrams are received at most before worlds have their turns.
 const MOST: u32 = 1_024;
@@ -87,7 +88,11 @@ impl Gate {
     }
 
     /// Receives a datagram, and hands it to its world.
-    fn receive_one(&self, served: &Served<'_>, worlds: &mut Worlds) -> Came {
+    fn receive_one<'e, 'r>(
+        &self,
+        served: &Served<'_, 'e, 'r>,
+        worlds: &mut Worlds<'e, 'r>,
+    ) -> Came {
         let mut bytes = [0; RECEIVED];
         match self.socket.recv_from(&mut bytes) {
             Ok((_, from)) if from.port() == 0 => Came::One,
@@ -105,7 +110,7 @@ impl Gate {
 
     /// Receives datagrams until none is there, a world has no room, or as many came as come before
     /// the turns.
-    fn receive(&mut self, served: &Served<'_>, worlds: &mut Worlds) {
+    fn receive<'e, 'r>(&mut self, served: &Served<'_, 'e, 'r>, worlds: &mut Worlds<'e, 'r>) {
         self.has_more = true;
         for _ in 0..MOST {
             match self.receive_one(served, worlds) {
@@ -120,27 +125,19 @@ impl Gate {
     }
 }
 
-/// Returns the time of the clock in milliseconds, or the last one if it fails.
-fn millis_now(rt: &HostRuntime, last: u64) -> u64 {
-    match rt.monotonic() {
-        Ok(time) => u64::try_from(time.as_millis()).unwrap_or(last),
-        Err(_) => last,
-    }
-}
-
 /// The loop: the socket, the worlds, and when the folder was read.
 #[derive(Drop)]
-struct Turns {
+struct Turns<'e, 'r> {
     gate: Gate,
-    worlds: Worlds,
+    worlds: Worlds<'e, 'r>,
     folder: Folder,
     read: u64,
 }
 
-impl Turns {
+impl<'e, 'r> Turns<'e, 'r> {
     /// Returns how many milliseconds there is nothing to do but to wait for datagrams.
     fn left(&self, now: u64) -> u64 {
-        if !self.worlds.is_settled() {
+        if !self.worlds.is_settled() || !self.worlds.is_looked() {
             return 0;
         }
         let left = self.read.saturating_add(READING).saturating_sub(now);
@@ -148,12 +145,20 @@ impl Turns {
     }
 
     /// Opens and closes worlds, and reads the folder if it is time.
-    fn settle(&mut self, served: &Served<'_>) {
+    fn settle(&mut self, served: &Served<'_, 'e, 'r>) {
         if !self.worlds.is_settled() {
             self.worlds.settle_some(served);
         } else if self.read.saturating_add(READING) <= served.now {
             self.read = served.now;
             let _read = self.folder.read(served, &mut self.worlds);
+            self.worlds.begin_looking();
+        }
+    }
+
+    /// Asks etcd which worlds have changed, if it is time.
+    fn look(&mut self, served: &Served<'_, 'e, 'r>) {
+        if !self.worlds.is_looked() {
+            self.worlds.look_some(served);
         }
     }
 
@@ -164,15 +169,16 @@ impl Turns {
     }
 
     /// Takes what came, and runs the turns of the worlds that are due.
-    fn turn(&mut self, served: &Served<'_>) {
+    fn turn(&mut self, served: &Served<'_, 'e, 'r>) {
         self.gate.receive(served, &mut self.worlds);
         self.worlds.turns(served, &self.gate.socket);
         self.settle(served);
+        self.look(served);
     }
 }
 
 /// Begins to serve: binds the socket, and reads the folder.
-fn begun(served: &Served<'_>) -> Result<Turns, End> {
+fn begun<'e, 'r>(served: &Served<'_, 'e, 'r>) -> Result<Turns<'e, 'r>, End> {
     let gate = bound(served.rt, &served.serving.place)?;
     if served.serving.verbose
         && let Ok(address) = gate.socket.local_addr()
@@ -190,25 +196,27 @@ fn begun(served: &Served<'_>) -> Result<Turns, End> {
     })
 }
 
-/// Serves the worlds of a folder. Fails with `Port`, `Memory` or `NoFolder` at the start; after
-/// that it goes on until the process is ended.
-pub fn serve(rt: &HostRuntime, folder: &str, serving: &Serving) -> Result<(), End> {
-    let mut now = millis_now(rt, 0);
-    let mut turns = begun(&Served {
+/// Serves the worlds of a folder, whose logs are files there, or in etcd if there is a way to it.
+/// Fails with `Port`, `Memory` or `NoFolder` at the start; after that it goes on until the process
+/// is ended.
+pub fn serve(
+    rt: &HostRuntime,
+    folder: &str,
+    serving: &Serving,
+    etcd: Option<EtcdWay<'_, '_>>,
+) -> Result<(), End> {
+    let mut served = Served {
         rt,
         folder,
         serving,
-        now,
-    })?;
+        etcd,
+        now: millis_now(rt, 0),
+    };
+    let mut turns = begun(&served)?;
     for _ in 0..u64::MAX {
-        turns.wait(now);
-        now = millis_now(rt, now);
-        turns.turn(&Served {
-            rt,
-            folder,
-            serving,
-            now,
-        });
+        turns.wait(served.now);
+        served.now = millis_now(rt, served.now);
+        turns.turn(&served);
     }
     drop(turns);
     Ok(())

@@ -1,16 +1,16 @@
 //! How a world is opened.
 
-use crate::beginning::{gone_on, made};
 use crate::end::End;
-use crate::files::{LogDisk, disk_at};
 use crate::key_files::{drawn_bytes, host_keys};
+use crate::known::Served;
 use crate::names::path_of;
 use crate::places::may_be_reached;
-use crate::serving::{Serving, VIEWERS};
+use crate::serving::Serving;
 use crate::stack::Stack;
+use crate::starting::{BegunWorld, begun_world};
 use crate::world::World;
 use app_commands::{SharedJob, shared_job};
-use app_logs::{Begun, Entry, Head, LogFault, first_due, is_viewer_count, times_after};
+use app_logs::{Entry, Head};
 use app_program::{
     JobFault, JobInputs, OpenedScene, RunFault, ShareFault, fresh_stage, read_whole,
 };
@@ -21,7 +21,7 @@ use share_guards::{GuardedPort, Placed};
 use share_keeping::KeepingPort;
 use share_keys::Keys;
 use share_sealed::KeyedPort;
-use share_session::{ViewerCount, WorldName, session_of};
+use share_session::{WorldName, session_of};
 use share_turns::Port;
 use share_welcomes::{HostPort, HostRun};
 use share_worlds::{WorldPort, peers_of};
@@ -65,15 +65,6 @@ struct Kept {
     keyed: Option<Keyed>,
 }
 
-/// A world whose log has begun.
-#[derive(Drop)]
-struct Opened {
-    begun: Begun<LogDisk>,
-    run: HostRun,
-    /// The times of its job's clocks in microseconds that are later than the log's last input.
-    clocks: Vec<i64>,
-}
-
 fn job_at(rt: &HostRuntime, path: &str, serving: &Serving) -> Result<SharedJob, End> {
     let Ok(mut file) = File::open(rt, path) else {
         return Err(End::from(RunFault::Device));
@@ -90,44 +81,6 @@ fn keys_at(rt: &HostRuntime, path: &str) -> Result<Option<Keys>, End> {
         Ok(_) => Ok(Some(host_keys(rt, path)?)),
         Err(_) => Ok(None),
     }
-}
-
-/// Reports whether a file has bytes.
-fn has_bytes(rt: &HostRuntime, path: &str) -> bool {
-    match fs::metadata(rt, path) {
-        Ok(found) => found.len() > 0,
-        Err(_) => false,
-    }
-}
-
-/// Begins the log of a file: goes on with it, or makes it where there is none, or where its making
-/// was cut off.
-fn begun_at(
-    rt: &HostRuntime,
-    path: &str,
-    mark: [u8; 32],
-    serving: &Serving,
-) -> Result<Begun<LogDisk>, LogFault> {
-    if has_bytes(rt, path) {
-        let disk = disk_at(rt, path, LogUse::GoesOn)?;
-        match gone_on(rt.alloc(), disk, mark, serving.viewers) {
-            Err(LogFault::BadHead) => {}
-            done => return done,
-        }
-    }
-    let disk = disk_at(rt, path, LogUse::Makes)?;
-    match made(rt, disk, mark, serving.viewers.unwrap_or(VIEWERS)) {
-        Err(LogFault::NotEmpty) => Err(LogFault::BadHead),
-        done => done,
-    }
-}
-
-/// Returns the run of the world with this name, whose log has this head.
-fn run_of(head: &Head, name: &WorldName) -> Result<HostRun, End> {
-    if !is_viewer_count(head.viewers) {
-        return Err(End::Log(LogFault::BadHead));
-    }
-    Ok(HostRun::new(head.mark, head.run, *name, ViewerCount::new(head.viewers)))
 }
 
 /// Returns the port of a host, over one that knows the addresses of its peers.
@@ -217,38 +170,6 @@ fn stack_of(
     }
 }
 
-/// Returns the world of a log that has begun.
-fn world_of(
-    rt: &HostRuntime,
-    opened: Opened,
-    keyed: Option<Keyed>,
-    now: u64,
-    serving: &Serving,
-) -> Result<World, End> {
-    let Opened { begun, run, clocks } = opened;
-    let Begun {
-        log,
-        hosting,
-        head,
-        cut: _,
-        last,
-        entries,
-    } = begun;
-    let stack = stack_of(rt, run, &head, keyed, entries.as_slice())?;
-    Ok(World {
-        session: session_of(&head.mark, &head.run),
-        log,
-        hosting: Some(hosting),
-        stack,
-        clocks,
-        taken: 0,
-        base: last,
-        due: first_due(serving.every),
-        turned: now,
-        settles: serving.keep.map(|_| now),
-    })
-}
-
 /// Returns what is kept of a job whose world has these keys.
 fn kept_of(alloc: Global, job: SharedJob, keys: Option<Keys>) -> Result<Kept, JobFault> {
     let SharedJob {
@@ -288,51 +209,48 @@ fn read(rt: &HostRuntime, folder: &str, name: &WorldName, serving: &Serving) -> 
     Ok(kept_of(rt.alloc(), job, keys)?)
 }
 
-/// Begins the log of a world with this job.
-fn with_log(
-    rt: &HostRuntime,
-    folder: &str,
-    name: &WorldName,
-    job: &Kept,
-    serving: &Serving,
-) -> Result<Opened, End> {
-    let path = path_of(rt.alloc(), folder, name, ".x3dlog")?;
-    let begun = begun_at(rt, path.as_str(), job.mark, serving)?;
-    let run = match run_of(&begun.head, name) {
-        Ok(run) => run,
-        Err(end) => {
-            drop(begun);
-            return Err(end);
-        }
-    };
-    match times_after(rt.alloc(), begun.last, job.inputs.as_slice()) {
-        Ok(clocks) => Ok(Opened { begun, run, clocks }),
-        Err(_refused) => {
-            drop(begun);
-            Err(End::Log(LogFault::Memory))
-        }
-    }
+/// Returns the world of a log that has begun.
+fn world_of<'e, 'r>(
+    served: &Served<'_, 'e, 'r>,
+    begun: BegunWorld<'e, 'r>,
+    keyed: Option<Keyed>,
+) -> Result<World<'e, 'r>, End> {
+    let BegunWorld {
+        log,
+        hosting,
+        head,
+        run,
+        clocks,
+        entries,
+    } = begun;
+    let stack = stack_of(served.rt, run, &head, keyed, entries.as_slice())?;
+    Ok(World {
+        session: session_of(&head.mark, &head.run),
+        log,
+        hosting: Some(hosting),
+        stack,
+        clocks,
+        turned: served.now,
+        settles: served.serving.keep.map(|_| served.now),
+    })
 }
 
 /// Opens the world with this name. Fails with what is wrong with its keys, with `NoKeys`, or with
 /// what is wrong with its job or its log.
-pub fn open_world(
-    rt: &HostRuntime,
-    folder: &str,
+pub fn open_world<'e, 'r>(
+    served: &Served<'_, 'e, 'r>,
     name: &WorldName,
-    serving: &Serving,
-    now: u64,
-) -> Result<World, End> {
-    let job = read(rt, folder, name, serving)?;
-    match with_log(rt, folder, name, &job, serving) {
-        Ok(opened) => {
+) -> Result<World<'e, 'r>, End> {
+    let job = read(served.rt, served.folder, name, served.serving)?;
+    match begun_world(served, name, job.mark, job.inputs.as_slice()) {
+        Ok(begun) => {
             let Kept {
                 mark: _,
                 inputs,
                 keyed,
             } = job;
             drop(inputs);
-            world_of(rt, opened, keyed, now, serving)
+            world_of(served, begun, keyed)
         }
         Err(end) => {
             drop(job);

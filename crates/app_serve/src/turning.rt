@@ -1,71 +1,69 @@
 //! A turn of a world.
 
-ghost use Rattle.std.specs.Prelude.{IsTrue};
-
+use crate::alone::Alone;
 use crate::end::End;
 use crate::serving::Serving;
 use crate::stack::Stack;
-use crate::world::World;
-use app_logs::{Beat, Log, LoggedFault, LoggedHost, clock_for, due_after};
-use share_logged::logged_turn;
+use crate::world::{Ahead, World, WorldLog};
+use app_logs::LoggedHost;
 use share_turns::{GRACE_MILLIS, SILENT_MILLIS};
 use share_worlds::is_due;
+use std::alloc::Global;
 use std::mem;
 
 /// After this many milliseconds without a turn a world rests once before it takes what arrived, so
 /// that they passed before it arrived.
 const LONG: u64 = 10;
 
-/// Runs a turn over the ports of a world.
-fn turn_over<L: Log>(
-    hosting: LoggedHost,
-    clock: Option<i64>,
-    keep: Option<u32>,
-    log: &mut L,
+/// Runs a turn over the log of a file.
+fn turn_alone(
+    alone: &mut Alone,
+    hosting: Option<LoggedHost>,
+    ahead: &Ahead<'_>,
     stack: &mut Stack,
-) -> Result<LoggedHost, LoggedFault>
-    requires { IsTrue (L.is_open log.old) }
-{
-    match stack {
-        Stack::Open(port) => logged_turn(hosting, clock, keep, log, port),
-        Stack::Keyed(port) => logged_turn(hosting, clock, keep, log, port),
+) -> Result<Option<LoggedHost>, End> {
+    match hosting {
+        Some(hosting) => Ok(Some(alone.turn(hosting, ahead, stack)?)),
+        None => Err(End::InDoubt),
     }
 }
 
-/// Runs a turn over the ports of a world, if its log takes appends.
-fn stored_turn<L: Log>(
-    hosting: LoggedHost,
-    clock: Option<i64>,
-    keep: Option<u32>,
-    log: &mut L,
+/// Runs a turn over the log of a world.
+fn turn_over(
+    log: &mut WorldLog<'_, '_>,
+    hosting: Option<LoggedHost>,
+    ahead: &Ahead<'_>,
     stack: &mut Stack,
-) -> Result<LoggedHost, End> {
-    if !log.takes_appends() {
-        drop(hosting);
-        return Err(End::InDoubt);
-    }
-    match turn_over(hosting, clock, keep, log, stack) {
-        Ok(hosting) => Ok(hosting),
-        Err(fault) => Err(End::from(fault)),
+) -> Result<Option<LoggedHost>, End> {
+    match log {
+        WorldLog::Alone(alone) => turn_alone(alone, hosting, ahead, stack),
+        WorldLog::Shared(shared) => shared.turn(hosting, ahead, stack),
     }
 }
 
-/// Returns the clock at a place, if there is one.
-fn clock_at(clocks: &[i64], place: u64) -> Option<i64> {
-    clocks.get(place as usize).copied()
-}
-
-impl World {
-    /// Runs a turn with this clock, at the end of which the time is `now`.
-    fn turn_with(&mut self, clock: Option<i64>, keep: Option<u32>, now: u64) -> Result<(), End> {
-        let Some(hosting) = self.hosting.take() else {
-            return Err(End::InDoubt);
-        };
+impl World<'_, '_> {
+    /// Runs a turn, which makes a clock if one is due and `makes` says so, and at the end of which
+    /// the time is `now`.
+    fn turn_with(
+        &mut self,
+        alloc: Global,
+        serving: &Serving,
+        makes: bool,
+        now: u64,
+    ) -> Result<(), End> {
+        let hosting = self.hosting.take();
         self.stack.pass(now.saturating_sub(self.turned));
         self.turned = now;
-        match stored_turn(hosting, clock, keep, &mut self.log, &mut self.stack) {
+        let ahead = Ahead {
+            alloc,
+            serving,
+            clocks: self.clocks.as_slice(),
+            makes,
+            now,
+        };
+        match turn_over(&mut self.log, hosting, &ahead, &mut self.stack) {
             Ok(hosting) => {
-                drop(mem::replace(&mut self.hosting, Some(hosting)));
+                drop(mem::replace(&mut self.hosting, hosting));
                 Ok(())
             }
             Err(end) => Err(end),
@@ -73,27 +71,11 @@ impl World {
     }
 
     /// Lets the time pass before something is taken, if nothing waits and it was long.
-    pub fn wake(&mut self, serving: &Serving, now: u64) -> Result<(), End> {
+    pub fn wake(&mut self, alloc: Global, serving: &Serving, now: u64) -> Result<(), End> {
         if self.stack.has_arrived() || now.saturating_sub(self.turned) < LONG {
             return Ok(());
         }
-        self.turn_with(None, serving.keep, now)
-    }
-
-    /// Takes the next clock of the job or of the beat, if one is due.
-    fn next_clock(&mut self, serving: &Serving) -> Option<i64> {
-        let Some(hosting) = &self.hosting else {
-            return None;
-        };
-        let beat = Beat {
-            every: serving.every,
-            base: self.base,
-        };
-        let job = clock_at(&self.clocks, self.taken);
-        let clock = clock_for(job, &beat, hosting.last(), self.due, hosting.rested());
-        self.due = due_after(job, serving.every, self.due, hosting.rested());
-        self.taken = self.taken.saturating_add(1);
-        clock
+        self.turn_with(alloc, serving, false, now)
     }
 
     /// Returns when the host no longer waits for viewers that it never heard.
@@ -120,12 +102,14 @@ impl World {
         }
     }
 
-    /// Runs a turn at `now`. Fails with why the world ends.
-    pub fn turn(&mut self, serving: &Serving, now: u64) -> Result<(), End> {
-        self.wake(serving, now)?;
+    /// Runs a turn at `now`, unless its log doesn't answer. Fails with why the world ends.
+    pub fn turn(&mut self, alloc: Global, serving: &Serving, now: u64) -> Result<(), End> {
+        if self.opens(now).is_some() {
+            return Ok(());
+        }
+        self.wake(alloc, serving, now)?;
         let heard = self.stack.has_arrived();
-        let clock = self.next_clock(serving);
-        self.turn_with(clock, serving.keep, now)?;
+        self.turn_with(alloc, serving, true, now)?;
         self.settle(serving, heard, now);
         Ok(())
     }

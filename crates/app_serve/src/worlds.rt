@@ -1,7 +1,9 @@
 //! The worlds of a folder.
 
 use crate::end::End;
+use crate::etcd::EtcdWay;
 use crate::known::{Known, Served};
+use crate::tails::{MOST_TAILS, revisions_of};
 use app_logs::LogFault;
 use mio::net::UdpSocket;
 use share_session::{Session, WorldName};
@@ -12,31 +14,34 @@ use std::net::SocketAddr;
 
 /// The worlds of a folder, each at a place.
 #[derive(Drop)]
-pub struct Worlds {
-    known: Vec<Option<Known>>,
+pub struct Worlds<'e, 'r> {
+    known: Vec<Option<Known<'e, 'r>>>,
     /// When each is due.
     moments: Vec<Option<u64>>,
     directory: Directory,
     /// Up to this place worlds are opened or closed since the folder was read.
     settled: usize,
+    /// Up to this place etcd was asked which worlds have changed.
+    looked: usize,
 }
 
 /// How many worlds are opened at most before others have their turns.
 const MOST_OPENED: usize = 8;
 
 /// Returns the first free place.
-fn free_place(known: &[Option<Known>]) -> Option<usize> {
+fn free_place(known: &[Option<Known<'_, '_>>]) -> Option<usize> {
     known.iter().position(|there| there.is_none())
 }
 
-impl Worlds {
+impl<'e, 'r> Worlds<'e, 'r> {
     /// Returns no worlds.
-    pub fn none(alloc: Global) -> Worlds {
+    pub fn none(alloc: Global) -> Worlds<'e, 'r> {
         Worlds {
             known: Vec::new(alloc),
             moments: Vec::new(alloc),
             directory: Directory::new(alloc),
             settled: 0,
+            looked: 0,
         }
     }
 
@@ -106,7 +111,7 @@ impl Worlds {
     }
 
     /// Ends a world that failed.
-    fn refuse(&mut self, served: &Served<'_>, place: usize, end: &End) {
+    fn refuse(&mut self, served: &Served<'_, 'e, 'r>, place: usize, end: &End) {
         self.forget_session(place);
         if let Some(Some(known)) = self.known.get_mut(place) {
             known.refuse(served, end);
@@ -114,7 +119,7 @@ impl Worlds {
     }
 
     /// Closes a world whose job isn't there any more.
-    fn close(&mut self, served: &Served<'_>, place: usize) {
+    fn close(&mut self, served: &Served<'_, 'e, 'r>, place: usize) {
         self.forget_session(place);
         if let Some(there) = self.known.get_mut(place) {
             if let Some(known) = there {
@@ -153,7 +158,7 @@ impl Worlds {
     }
 
     /// Opens a world that doesn't run.
-    fn open(&mut self, served: &Served<'_>, place: usize) {
+    fn open(&mut self, served: &Served<'_, 'e, 'r>, place: usize) {
         let done = match self.known.get_mut(place) {
             Some(Some(known)) => known.open(served),
             _ => Ok(()),
@@ -171,7 +176,7 @@ impl Worlds {
 
     /// Opens or closes the world at a place, after the folder was read. Returns whether it was
     /// opened.
-    fn settle(&mut self, served: &Served<'_>, place: usize) -> bool {
+    fn settle(&mut self, served: &Served<'_, 'e, 'r>, place: usize) -> bool {
         let Some(Some(known)) = self.known.get(place) else {
             return false;
         };
@@ -198,7 +203,7 @@ impl Worlds {
     }
 
     /// Opens or closes worlds, until all are or some were opened.
-    pub fn settle_some(&mut self, served: &Served<'_>) {
+    pub fn settle_some(&mut self, served: &Served<'_, 'e, 'r>) {
         let mut opened = 0;
         for place in self.settled..self.known.len() {
             if opened >= MOST_OPENED {
@@ -211,9 +216,80 @@ impl Worlds {
         }
     }
 
+    /// Adds the worlds that run from a place on to lists of places and of names, until these have
+    /// as many as are asked for at once. Returns the place after the last.
+    fn list_from(
+        &self,
+        first: usize,
+        places: &mut Vec<usize>,
+        names: &mut Vec<WorldName>,
+    ) -> Result<usize, AllocError> {
+        for place in first..self.known.len() {
+            if names.len() >= MOST_TAILS {
+                return Ok(place);
+            }
+            if let Some(Some(known)) = self.known.get(place)
+                && known.runs()
+            {
+                places.push(place)?;
+                names.push(known.name)?;
+            }
+        }
+        Ok(self.known.len())
+    }
+
+    /// Notes the revision that the tail of a world has in etcd. It is due if that is another one.
+    fn note_tail(&mut self, place: usize, revision: u64) {
+        let changed = match self.known.get_mut(place) {
+            Some(Some(known)) => known.note_tail(revision),
+            _ => false,
+        };
+        if changed {
+            self.set_moment(place, Some(0));
+        }
+    }
+
+    /// Asks etcd for the tails of worlds, and notes them.
+    fn ask_tails(&mut self, alloc: Global, way: EtcdWay<'e, 'r>) -> Result<(), AllocError> {
+        let mut places = Vec::new(alloc);
+        let mut names = Vec::new(alloc);
+        self.looked = self.list_from(self.looked, &mut places, &mut names)?;
+        if names.is_empty() {
+            return Ok(());
+        }
+        let mut way = way;
+        let revisions = revisions_of(alloc, &mut way, names.as_slice())?;
+        for (place, revision) in places.iter().zip(revisions.iter()) {
+            self.note_tail(*place, *revision);
+        }
+        Ok(())
+    }
+
+    /// Begins to ask etcd which worlds have changed.
+    pub fn begin_looking(&mut self) {
+        self.looked = 0;
+    }
+
+    /// Reports whether etcd was asked for all worlds.
+    pub fn is_looked(&self) -> bool {
+        self.looked >= self.known.len()
+    }
+
+    /// Asks etcd which of some worlds have changed since it was asked, by one transaction, unless
+    /// it isn't asked now. Without memory they count as unchanged.
+    pub fn look_some(&mut self, served: &Served<'_, 'e, 'r>) {
+        let Some(way) = served.etcd else {
+            self.looked = self.known.len();
+            return;
+        };
+        if way.is_shut(served.now) || self.ask_tails(served.rt.alloc(), way).is_err() {
+            self.looked = self.known.len();
+        }
+    }
+
     /// Hands a datagram to its world, if there is one. Returns whether the world has room for
     /// another.
-    pub fn deliver(&mut self, served: &Served<'_>, from: SocketAddr, bytes: &[u8]) -> bool {
+    pub fn deliver(&mut self, served: &Served<'_, 'e, 'r>, from: SocketAddr, bytes: &[u8]) -> bool {
         let Some(place) = self.directory.place_of(&world_of(bytes)) else {
             return true;
         };
@@ -235,7 +311,7 @@ impl Worlds {
     }
 
     /// Runs a turn of the world at a place.
-    fn turn(&mut self, served: &Served<'_>, place: usize, socket: &UdpSocket) {
+    fn turn(&mut self, served: &Served<'_, 'e, 'r>, place: usize, socket: &UdpSocket) {
         let done = match self.known.get_mut(place) {
             Some(Some(known)) => known.turn(served, socket),
             _ => Ok(None),
@@ -254,7 +330,7 @@ impl Worlds {
     }
 
     /// Runs a turn of each world that is due.
-    pub fn turns(&mut self, served: &Served<'_>, socket: &UdpSocket) {
+    pub fn turns(&mut self, served: &Served<'_, 'e, 'r>, socket: &UdpSocket) {
         for place in 0..self.moments.len() {
             if self.is_due(place, served.now) {
                 self.turn(served, place, socket);

@@ -20,9 +20,12 @@ mod state;
 mod turning;
 
 pub use fault::SharedFault;
-pub use pace::{BUSY, READ_EVERY, must_read, stands_in};
+pub use pace::{BUSY, Pace, READ_EVERY, must_read, stands_in};
 pub use plan::SharedPlan;
+pub use reading::read;
 pub use running::shared_run;
+pub use state::Now;
+pub use turning::act;
 
 #[cfg(test)]
 mod tests;

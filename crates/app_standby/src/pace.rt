@@ -32,19 +32,19 @@ pub fn must_read(takes_appends: bool, since: u64, silent: u64) -> bool
 
 /// What a run counts, in milliseconds that its port's rests took.
 #[derive(Clone, Copy)]
-pub(crate) struct Pace {
+pub struct Pace {
     /// The clocks of the beat. They go on from its base: from the last clock of another host.
-    pub(crate) beat: Beat,
+    pub beat: Beat,
     /// Since it began, or had the last clock of another host.
-    pub(crate) rested: u64,
+    pub rested: u64,
     /// Since it last read on.
-    pub(crate) since: u64,
+    pub since: u64,
     /// Since it last had an entry of another host, or began.
-    pub(crate) silent: u64,
+    pub silent: u64,
     /// When the next clock of the beat is due, as `rested` counts.
-    pub(crate) due: u64,
+    pub due: u64,
     /// How many clocks of the job it has taken to turns.
-    pub(crate) place: u64,
+    pub place: u64,
 }
 
 /// The clock of a turn, and what a run counts after it.
@@ -94,7 +94,7 @@ impl Pace {
     ghost use Rattle.app_standby.specs.Pace.{begun, followed, heard, made_by, next_of, passed};
 
     /// Returns that of a run with this beat.
-    pub(crate) fn new(beat: Beat) -> Pace
+    pub fn new(beat: Beat) -> Pace
         ensures { result ≡ begun beat }
     {
         Pace {

@@ -70,8 +70,13 @@ fn learn_new<P: Learns>(new: &[Entry], pace: &mut Pace, port: &mut P) -> Result<
     }
 }
 
-/// Reads on. If the log answers there is a host after it, with all entries.
-fn read<L: Remembers, P: Learns>(
+/// Reads on, in a world of 1 to `MAX_VIEWERS` viewers and a scene of this mark. If the log answers
+/// there is a host after it, with all entries, and the port has learned the new ones; if it is
+/// silent all is as before.
+///
+/// Fails with `Read`, `Resume`, or with `Turn` if the port didn't learn the entries; the host is
+/// then dropped.
+pub fn read<L: Remembers, P: Learns>(
     alloc: Global,
     mark: [u8; 32],
     viewers: u8,

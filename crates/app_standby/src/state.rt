@@ -8,7 +8,7 @@ use share_turns::HostPlan;
 
 /// What a run has of its host between two turns.
 #[derive(Drop)]
-pub(crate) enum Now {
+pub enum Now {
     /// The host of the entries that the log knows.
     Hosting(LoggedHost),
     /// None: it may have been ahead of the log, and was dropped.

@@ -70,8 +70,12 @@ fn wait<P: Port>(pace: &mut Pace, port: &mut P)
     pace.pass(millis);
 }
 
-/// Runs a turn if there is a host and the log takes appends; else the port rests.
-pub(crate) fn act<L: Log, P: Learns>(
+/// Runs a turn if there is a host and the log takes appends; else the port rests. `clocks` are
+/// those of the job, in microseconds. Goes on without the host if the log has other entries or is
+/// in doubt.
+///
+/// Fails with `Turn` if the turn ended early otherwise; the host is then dropped.
+pub fn act<L: Log, P: Learns>(
     clocks: &[i64],
     plan: &SharedPlan,
     now: Now,

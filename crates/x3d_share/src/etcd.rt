@@ -11,10 +11,10 @@ use crate::logs::turns_over_log;
 use crate::reached::run_at;
 use crate::turns::HostTurns;
 use app_logs::{Entry, Head, LogFault, is_viewer_count, resumed, times_after};
-use app_serve::{End, addresses_at, drawn_run, login_bytes, world_of};
+use app_serve::{End, drawn_run, etcd_at, world_end, world_of};
 use app_words::{HostOrder, Order, OrderFault};
-use share_engine::{EngineFault, EtcdLog, OpenedWorld, WorldFault, open_world};
-use share_http::{EtcdEngine, Login, login_of};
+use share_engine::{EtcdLog, OpenedWorld, open_world};
+use share_http::EtcdEngine;
 use share_session::WorldName;
 use share_store::Remembers;
 use std::alloc::Global;
@@ -40,46 +40,6 @@ struct SharedWorld<'a> {
     world: WorldName,
 }
 
-/// Returns why a world isn't opened.
-fn world_end(fault: WorldFault) -> End {
-    match fault {
-        WorldFault::Silent => End::EtcdSilent,
-        WorldFault::Malformed => End::EtcdMalformed,
-        WorldFault::BadHead => End::Log(LogFault::BadHead),
-        WorldFault::WrongScene => End::Log(LogFault::WrongScene),
-        WorldFault::WrongSeats => End::Log(LogFault::WrongSeats),
-        WorldFault::Damaged(number) => End::Log(LogFault::LogDamaged(number)),
-        WorldFault::Memory => End::Log(LogFault::Memory),
-    }
-}
-
-/// Returns the login of a file, if one is named. Fails as `login_bytes` does, or with `LoginFile`.
-fn login_in(rt: &HostRuntime, file: Option<&str>) -> Result<Option<Login>, End> {
-    let Some(file) = file else {
-        return Ok(None);
-    };
-    let bytes = login_bytes(rt, file)?;
-    match login_of(rt.alloc(), bytes.as_slice()) {
-        Ok(Some(login)) => Ok(Some(login)),
-        Ok(None) => Err(End::LoginFile),
-        Err(_refused) => Err(End::from(OrderFault::Memory)),
-    }
-}
-
-/// Returns etcd at the addresses of a text.
-fn etcd_at<'a>(rt: &'a HostRuntime, texts: &EtcdTexts<'_>) -> Result<EtcdEngine<'a>, End> {
-    let Some(text) = texts.etcd else {
-        return Err(End::from(OrderFault::Words));
-    };
-    let addresses = addresses_at(rt, rt.alloc(), text)?;
-    let login = login_in(rt, texts.login)?;
-    match EtcdEngine::new(rt, rt.alloc(), &addresses, login) {
-        Ok(etcd) => Ok(etcd),
-        Err(EngineFault::Silent) => Err(End::EtcdSilent),
-        Err(EngineFault::Memory) => Err(End::from(OrderFault::Memory)),
-    }
-}
-
 /// Returns etcd and the name of a world by the texts of a host's options. Fails with `NoWorldName`,
 /// then `NoAddress`, and then with what is wrong with the file of the login.
 fn shared_world<'a>(rt: &'a HostRuntime, texts: &EtcdTexts<'_>) -> Result<SharedWorld<'a>, End> {
@@ -87,7 +47,10 @@ fn shared_world<'a>(rt: &'a HostRuntime, texts: &EtcdTexts<'_>) -> Result<Shared
     if world.text().is_empty() {
         return Err(End::NoWorldName);
     }
-    let etcd = etcd_at(rt, texts)?;
+    let Some(text) = texts.etcd else {
+        return Err(End::from(OrderFault::Words));
+    };
+    let etcd = etcd_at(rt, text, texts.login)?;
     Ok(SharedWorld { etcd, world })
 }
 

@@ -29,7 +29,7 @@ use crate::logs::{host_over_log, recall, recall_into};
 use crate::parts::part;
 use crate::peers::{agree, rehearse};
 use crate::refused::{refused_job, refused_scene};
-use crate::serving::serve_folder;
+use crate::serving::{ServeTexts, serve_folder};
 use crate::stack::has_room;
 use crate::viewer::{ViewTexts, view};
 use app_program::{
@@ -153,8 +153,12 @@ fn serve_as(rt: &HostRuntime, words: &[&str], asked: &ServeOrder) -> Result<(), 
     let Some(folder) = text_of(rt.alloc(), words, "folder")? else {
         return Err(End::from(OrderFault::Words));
     };
-    let listen = text_of(rt.alloc(), words, "listen")?;
-    serve_folder(rt, folder, listen, asked)
+    let texts = ServeTexts {
+        listen: text_of(rt.alloc(), words, "listen")?,
+        etcd: text_of(rt.alloc(), words, "etcd")?,
+        login: text_of(rt.alloc(), words, "login")?,
+    };
+    serve_folder(rt, folder, &texts, asked)
 }
 
 /// Makes a log of the inputs of another in the file that the words name.

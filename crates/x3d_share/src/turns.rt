@@ -7,11 +7,11 @@ use app_logs::{
 };
 use app_program::ShareFault;
 use app_serve::End;
-use app_standby::{SharedFault, SharedPlan, shared_run};
+use app_standby::{SharedPlan, shared_run};
 use share_engine::{Engine, EtcdLog};
 use share_file::FileLog;
-use share_logged::{Learns, ResumeFault};
-use share_store::{MemoryHandle, ReadFault};
+use share_logged::Learns;
+use share_store::MemoryHandle;
 use sqlite_disk::Disk;
 use std::alloc::Global;
 
@@ -90,19 +90,6 @@ impl<D: Disk> HostLog for FileLog<D> {
     }
 }
 
-/// Returns why the turns of a host over a shared log ended early.
-fn shared_end(fault: SharedFault) -> End {
-    match fault {
-        SharedFault::TurnsUsedUp => End::from(ShareFault::TurnsUsedUp),
-        SharedFault::Turn(fault) => End::from(fault),
-        SharedFault::Read(ReadFault::Memory) => End::Log(LogFault::Memory),
-        SharedFault::Read(ReadFault::Silent) => End::EtcdSilent,
-        SharedFault::Read(ReadFault::Device) => End::EtcdMalformed,
-        SharedFault::Resume(ResumeFault::NotALog(number)) => End::Log(LogFault::NotALog(number)),
-        SharedFault::Resume(ResumeFault::Memory) => End::Log(LogFault::Memory),
-    }
-}
-
 /// Returns what a host does over a log that other hosts share.
 fn shared_plan(turns: &HostTurns) -> SharedPlan
     ensures { result.viewers ≡ turns.now.viewers }
@@ -132,7 +119,7 @@ impl<E: Engine> HostLog for EtcdLog<E> {
         let plan = shared_plan(turns);
         match shared_run(alloc, hosting, clocks, &plan, self, port) {
             Ok(()) => Ok(()),
-            Err(fault) => Err(shared_end(fault)),
+            Err(fault) => Err(End::from(fault)),
         }
     }
 }
