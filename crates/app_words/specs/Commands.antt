@@ -3,8 +3,8 @@ use Rattle.std.specs.Prelude.{List, [], ◌∷◌, codes, true}
 use Rattle.std.specs.List.{fold}
 use Rattle.clap.specs.Words.{App, Rule, Text, new_app, with_rule, with_subcommand}
 use Rattle.clap.specs.Simple.{on_top}
-use Rattle.app_words.specs.Options.{viewers_rule, turns_rule, port_rule, keep_rule, forget_rule, every_rule}
-use Rattle.app_words.specs.Options.{until_rule, standby_rule, etcd_rule, login_rule}
+use Rattle.app_words.specs.Options.{viewers_rule, turns_rule, port_rule, keep_rule, forget_rule}
+use Rattle.app_words.specs.Options.{every_rule, until_rule, standby_rule, etcd_rule, login_rule}
 use Rattle.app_words.specs.Options.{who_rule, boot_rule, exactly_rule, at_rule, give_rule}
 use Rattle.app_words.specs.Options.{give_turns_rule, wire_rule, host_viewers_rule, host_turns_rule}
 use Rattle.app_words.specs.Options.{log_rule, new_log_rule, keep_names_rule, text_rule}
