@@ -1,6 +1,6 @@
 //! Which worlds have changed in etcd: the revisions of the tails of many worlds by one transaction.
 //!
-//! What it says is taken as a hint: a world of which it says so is read, by share_engine.
+//! What it says is taken as a hint: a world that it names is read, by share_engine.
 
 use base64::engine::general_purpose::STANDARD;
 use serde_json::Value;

@@ -42,7 +42,7 @@ fn turn_over(
 }
 
 impl World<'_, '_> {
-    /// Runs a turn, which makes a clock if one is due and `makes` says so, and at the end of which
+    /// Runs a turn, which makes a clock if one is due and `makes` says so. At its end
     /// the time is `now`.
     fn turn_with(
         &mut self,

@@ -32,7 +32,7 @@ fn read_new<L: Log>(alloc: Global, log: &mut L) -> Result<Vec<Entry>, ReadFault>
     Ok(new)
 }
 
-/// Returns the host of all entries that the log knows, of which these are new.
+/// Returns the host of all entries that the log knows; `new` are those that it didn't know before.
 fn host_with<L: Remembers>(
     alloc: Global,
     mark: [u8; 32],

@@ -124,7 +124,7 @@ fn head_in(bytes: &[u8], mark: &[u8; 32], viewers: Option<u8>) -> Result<Head, W
     Ok(head)
 }
 
-/// Reads all entries of a world of which this was read first. Returns the revisions of its keys.
+/// Reads the entries of a world after this first reading. Returns the revisions of its keys.
 /// After a failure some entries may be known.
 fn read_found<E: Engine>(
     alloc: Global,
@@ -152,7 +152,7 @@ fn read_found<E: Engine>(
     read_all(alloc, engine, name, &root, known)
 }
 
-/// Opens the log of a world with this head, of which this was read first.
+/// Opens the log of a world with this head, whose first reading this is.
 fn go_on<E: Engine>(
     alloc: Global,
     engine: E,
@@ -185,7 +185,7 @@ fn go_on<E: Engine>(
     }
 }
 
-/// Opens the log of a world of which this was read first, if it has this mark, and this number of
+/// Opens the log of the world whose first reading this is, if it has this mark, and this number of
 /// viewers if it is given.
 fn open_found<E: Engine>(
     alloc: Global,

@@ -57,9 +57,9 @@ impl Model for MemoryLog {
 }
 
 impl MemoryLog {
-    /// Makes a log without entries, with this number of handles. Append number k, counted from 0,
-    /// has the outcome number k of the plan; after the last all are stored. Fails if memory is
-    /// refused.
+    /// Makes a log without entries, with this number of handles. The append or reading number k,
+    /// counted from 0, has the outcome number k of the plan; after the last all succeed. Fails if
+    /// memory is refused.
     pub fn new(alloc: Global, handles: usize, plan: Vec<Outcome>) -> Result<MemoryLog, AllocError>
         ensures entries { IfOk result (λ m. m.entries ≡ []) }
         ensures handles { IfOk result (λ m. length m.handles ≡ handles) }

@@ -261,7 +261,7 @@ fn peers_at<R: Eprint>(
     Some(Peers { host, give })
 }
 
-/// Runs a viewer whose hosts are at these addresses, of which there is at least one.
+/// Runs a viewer whose hosts are at these addresses: one or more.
 fn viewed_there(
     rt: &HostRuntime,
     viewer: &mut Seated<'_>,
