@@ -42,8 +42,8 @@ fn turn_over(
 }
 
 impl World<'_, '_> {
-    /// Runs a turn, which makes a clock if one is due and `makes` says so. At its end
-    /// the time is `now`.
+    /// Runs a turn, which makes a clock if one is due and `makes` says so. The time at its end is
+    /// `now`.
     fn turn_with(
         &mut self,
         alloc: Global,

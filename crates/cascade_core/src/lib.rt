@@ -3,7 +3,8 @@
 //!
 //! | Modules | Content |
 //! |---|---|
-//! | `stage`, `texts`, `series`, `forgetting` | a scene with its world, its texts, inputs applied, lines forgotten |
+//! | `stage`, `texts`, `series` | a scene with its world, what is written of it, inputs applied |
+//! | `forgetting` | old lines of a trace, forgotten |
 //! | `input`, `clock`, `pointer`, `pressed`, `walk` | what an input does, node by node |
 //! | `course`, `stack`, `tasks`, `sending`, `boxes` | a cascade, as a stack of tasks |
 //! | `settle`, `opening` | scripts after the events of a timestamp, and before all inputs |

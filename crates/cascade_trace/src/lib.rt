@@ -1,7 +1,7 @@
 //! The events sent in a world: the `trace` of all events, its `lines`, the lines `since` an input,
-//! their `texts`, `forgetting` lines, and whether all lines are `passing` a test. For the course of an input: the
-//! outputs that have `sent`, each with its bit at one of the `places`, and the number of routes
-//! `followed` from them.
+//! their `texts`, `forgetting` lines, and whether all lines are `passing` a test. For the course of
+//! an input: the outputs that have `sent`, each with its bit at one of the `places`, and the number
+//! of routes `followed` from them.
 #![tactic(auto)]
 
 mod followed;
