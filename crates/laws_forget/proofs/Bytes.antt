@@ -74,7 +74,7 @@ module _ (shapes : List Shape) where
     where
       by : (b : Bool) → nat_lt (length ys) (length xs) ≡ b → xs ≡ ys
       by true more = sym (as-long ys xs (ends.1 (omega (arith, ltb-true (length ys) (length xs) more))) (sym e))
-      by false no = as-long xs ys (ends.0 (ltb-false (length ys) (length xs) no)) e
+      by false under = as-long xs ys (ends.0 (ltb-false (length ys) (length xs) under)) e
 
 -- ---- the bytes of a snapshot are those before its lines, the lines, and a digest
 
