@@ -1,6 +1,6 @@
 -- Words mean one order at most: the name of the command tells which, and each of its options has one number.
 use Rattle.std.specs.Prelude.{Option, Some, None, IsSomeAnd}
-use Rattle.std.proofs.Common.{◌≡◌, ◌∙◌, ℕ, Bool, List, ap, arith, refl, slice_index, sym}
+use Rattle.std.proofs.Common.{◌≡◌, ◌∙◌, ℕ, Bool, List, ap, arith, slice_index, sym}
 use Rattle.clap.specs.Words.{Row, Text, subcommand_of}
 use Rattle.app_words.specs.Commands.{program}
 use Rattle.app_words.specs.declared.order.HostOrder.{HostOrder}

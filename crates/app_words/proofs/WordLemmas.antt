@@ -7,18 +7,18 @@ use Rattle.clap.specs.declared.error.ErrorKind.TheVariants as kind
 use Rattle.app_words.specs.declared.order.Order.{Order}
 use Rattle.app_faults.specs.declared.fault.OrderFault.{OrderFault}
 use Rattle.app_faults.specs.declared.fault.OrderFault.TheVariants as fault
-use Rattle.app_words.specs.Commands.{program, parted_program, logged_program, served_program, shared_program, local_program, single_program, bare_program}
+use Rattle.app_words.specs.Commands.{program, parted_program, logged_program, served_program, shared_program, hosted_program, local_program, single_program, bare_program}
 use Rattle.app_words.specs.Commands.{run_app, format_app, check_app, rehearse_app, agree_app, host_app}
 use Rattle.app_words.specs.Commands.{view_app, serve_app, recall_app, part_app, key_app}
 use Rattle.app_words.specs.Request.{RequestsNothing}
 use Rattle.app_words.specs.Words.{Asks, Means, IsText, IsRefusal, AsksForText, AsksOnlyForText, text_named}
 
 program_is_simple : is_simple_and_free program ≡ true
-unfolding program parted_program logged_program served_program shared_program local_program single_program bare_program run_app format_app check_app rehearse_app agree_app host_app view_app serve_app recall_app part_app key_app
+unfolding program parted_program logged_program served_program shared_program hosted_program local_program single_program bare_program run_app format_app check_app rehearse_app agree_app host_app view_app serve_app recall_app part_app key_app
 program_is_simple = refl
 
 program_is_plain : is_simple program ≡ true
-unfolding program parted_program logged_program served_program shared_program local_program single_program bare_program run_app format_app check_app rehearse_app agree_app host_app view_app serve_app recall_app part_app key_app
+unfolding program parted_program logged_program served_program shared_program hosted_program local_program single_program bare_program run_app format_app check_app rehearse_app agree_app host_app view_app serve_app recall_app part_app key_app
 program_is_plain = refl
 
 -- words that are taken mean what their command asks for

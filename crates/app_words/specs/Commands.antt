@@ -3,8 +3,8 @@ use Rattle.std.specs.Prelude.{List, [], ◌∷◌, codes, true}
 use Rattle.std.specs.List.{fold}
 use Rattle.clap.specs.Words.{App, Rule, Text, new_app, with_rule, with_subcommand}
 use Rattle.clap.specs.Simple.{on_top}
-use Rattle.app_words.specs.Options.{viewers_rule, turns_rule, port_rule, keep_rule, forget_rule, every_rule}
-use Rattle.app_words.specs.Options.{until_rule, standby_rule, etcd_rule, login_rule}
+use Rattle.app_words.specs.Options.{viewers_rule, turns_rule, port_rule, keep_rule, forget_rule}
+use Rattle.app_words.specs.Options.{every_rule, until_rule, standby_rule, etcd_rule, login_rule}
 use Rattle.app_words.specs.Options.{who_rule, boot_rule, exactly_rule, at_rule, give_rule}
 use Rattle.app_words.specs.Options.{give_turns_rule, wire_rule, host_viewers_rule, host_turns_rule}
 use Rattle.app_words.specs.Options.{log_rule, new_log_rule, keep_names_rule, text_rule}
@@ -86,7 +86,7 @@ unfoldable pub key_app : App
 key_app = taking (codes "key") (viewers_rule ∷ folder_rule ∷ [])
 
 -- the program with `run`, `format` and `check`; then with `rehearse` and `agree`; then with
--- `host` and `view`; with `serve`; with `recall`; with `part`; then with all
+-- `host`; with `view`; with `serve`; with `recall`; with `part`; then with all
 unfoldable pub single_program : App
 single_program =
     with_subcommand (with_subcommand (with_subcommand bare_program run_app.top) format_app.top)
@@ -95,8 +95,11 @@ single_program =
 unfoldable pub local_program : App
 local_program = with_subcommand (with_subcommand single_program rehearse_app.top) agree_app.top
 
+unfoldable pub hosted_program : App
+hosted_program = with_subcommand local_program host_app.top
+
 unfoldable pub shared_program : App
-shared_program = with_subcommand (with_subcommand local_program host_app.top) view_app.top
+shared_program = with_subcommand hosted_program view_app.top
 
 unfoldable pub served_program : App
 served_program = with_subcommand shared_program serve_app.top

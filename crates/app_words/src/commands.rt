@@ -82,46 +82,46 @@ static LOCAL_COMMANDS: [CommandWords; 5] = [
     },
 ];
 
-/// The commands of several processes, in the order of help.
-static SHARED_COMMANDS: [CommandWords; 2] = [
-    CommandWords {
-        name: "host",
-        about: "Number the inputs of viewers, and send them to each, over UDP",
-        after_help: HOST_HELP,
-        options: &[
-            PORT,
-            HOST_VIEWERS,
-            HOST_UNTIL,
-            KEEP,
-            HOST_FORGET,
-            EVERY,
-            STANDBY,
-            HOST_TURNS,
-        ],
-        texts: &[LISTEN, LOG, NEW_LOG, ETCD, SHARED_WORLD, LOGIN, KEYS],
-        flags: &[OPEN, VERBOSE],
-    },
-    CommandWords {
-        name: "view",
-        about: "Offer points to a host over UDP, apply what it numbers, and print trace and scene",
-        after_help: VIEW_HELP,
-        options: &[
-            PORT,
-            WHO,
-            BOOT,
-            VIEW_UNTIL,
-            EXACTLY,
-            TURNS,
-            AT,
-            GIVE,
-            GIVE_TURNS,
-            WIRE,
-            VIEW_FORGET,
-        ],
-        texts: &[HOST, KEY, WORLD],
-        flags: &[OPEN, JOIN, VERBOSE],
-    },
-];
+/// The command of a host, the first of those of several processes.
+static HOST_COMMAND: CommandWords = CommandWords {
+    name: "host",
+    about: "Number the inputs of viewers, and send them to each, over UDP",
+    after_help: HOST_HELP,
+    options: &[
+        PORT,
+        HOST_VIEWERS,
+        HOST_UNTIL,
+        KEEP,
+        HOST_FORGET,
+        EVERY,
+        STANDBY,
+        HOST_TURNS,
+    ],
+    texts: &[LISTEN, LOG, NEW_LOG, ETCD, SHARED_WORLD, LOGIN, KEYS],
+    flags: &[OPEN, VERBOSE],
+};
+
+/// The command of a viewer, the second.
+static VIEW_COMMAND: CommandWords = CommandWords {
+    name: "view",
+    about: "Offer points to a host over UDP, apply what it numbers, and print trace and scene",
+    after_help: VIEW_HELP,
+    options: &[
+        PORT,
+        WHO,
+        BOOT,
+        VIEW_UNTIL,
+        EXACTLY,
+        TURNS,
+        AT,
+        GIVE,
+        GIVE_TURNS,
+        WIRE,
+        VIEW_FORGET,
+    ],
+    texts: &[HOST, KEY, WORLD],
+    flags: &[OPEN, JOIN, VERBOSE],
+};
 
 /// The commands of a folder and of files, in the order of help.
 static FILE_COMMANDS: [CommandWords; 4] = [
@@ -167,11 +167,18 @@ fn local_commands() -> &'static [CommandWords]
     &LOCAL_COMMANDS
 }
 
-/// Returns the commands after these.
-fn shared_commands() -> &'static [CommandWords]
-    ensures { map app_with result.now ≡ host_app ∷ view_app ∷ [] }
+/// Returns the command of a host.
+fn host_command() -> &'static CommandWords
+    ensures { app_with result.now ≡ host_app }
 {
-    &SHARED_COMMANDS
+    &HOST_COMMAND
+}
+
+/// Returns the command of a viewer.
+fn view_command() -> &'static CommandWords
+    ensures { app_with result.now ≡ view_app }
+{
+    &VIEW_COMMAND
 }
 
 /// Returns the last commands.
@@ -252,6 +259,7 @@ pub fn program_command<'a>(alloc: Global) -> Result<Command<'a>, AllocError>
 {
     let bare = bare_command(alloc)?;
     let local = with_commands(bare, alloc, local_commands())?;
-    let shared = with_commands(local, alloc, shared_commands())?;
+    let hosted = with_command(local, alloc, host_command())?;
+    let shared = with_command(hosted, alloc, view_command())?;
     with_commands(shared, alloc, file_commands())
 }
