@@ -139,7 +139,13 @@ fn begun_shared<'e, 'r>(
         head,
         is_new: _,
     } = opened;
-    let (hosting, entries) = host_with(served.rt.alloc(), &head, log.entries())?;
+    let (hosting, entries) = match host_with(served.rt.alloc(), &head, log.entries()) {
+        Ok(found) => found,
+        Err(fault) => {
+            drop(log);
+            return Err(fault);
+        }
+    };
     let beat = Beat {
         every: served.serving.every,
         base: hosting.last(),
