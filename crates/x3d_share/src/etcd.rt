@@ -148,6 +148,7 @@ fn starting_of(
             hosting,
             clocks,
             turns,
+            forget: asked.forget,
         },
         entries,
         stage: None,
