@@ -131,7 +131,7 @@ fn keyed_stack(
 ) -> Result<Stack, End> {
     let Keyed { keys, stage } = keyed;
     match keyed_port(rt, run, head.viewers, keys, entries) {
-        Ok(port) => match KeepingPort::begin(port, stage, head.mark, entries) {
+        Ok(port) => match KeepingPort::begin(port, stage, head.mark, entries, None) {
             Ok(keeping) => Ok(Stack::Keyed(keeping)),
             Err(_refused) => Err(End::from(ShareFault::Memory)),
         },

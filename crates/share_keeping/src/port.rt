@@ -1,11 +1,14 @@
 //! The port of a host that keeps its world.
 
 ghost use Rattle.std.specs.Prelude.{◌≡◌, ◌⊎◌, IfErr, IfOk, None, OnOk, Some};
+ghost use Rattle.cascade_core.specs.Held.{applied_of};
 ghost use Rattle.share_turns.specs.Told.{one_more};
 ghost use Rattle.share_keeping.specs.Applying.{after_entries, refusal_in};
+ghost use Rattle.share_keeping.specs.Forgetting.{begun, forgot_as};
 ghost use Rattle.share_keeping.specs.Joiners.{no_joiners};
 
 use crate::applying::apply_all;
+use crate::forgetting::{Forgetting, begin_forgetting};
 use crate::giving::give;
 use crate::joiners::Joiners;
 use crate::said::{Said, says};
@@ -13,7 +16,6 @@ use crate::shot::{Shot, note_sent, renew};
 use cascade_core::{ApplyFault, Stage};
 use script_host::Behaviour;
 use share_entries::Entry;
-use share_logged::Learns;
 use share_turns::{Port, PortFault, RECEIVED};
 
 /// The port of a host that keeps its world: it has a stage that has applied the entries of the
@@ -23,11 +25,14 @@ use share_turns::{Port, PortFault, RECEIVED};
 /// While viewers join there is a snapshot, of boot 1. It is taken at a rest, and again if the host
 /// no longer has the inputs after it. At each rest each viewer that joins gets its next 16 pieces,
 /// round and round. A send that fails ends that, until the next rest.
+///
+/// It can forget the lines of the stage's trace of all inputs but the last ones, in portions.
 #[derive(Drop)]
 pub struct KeepingPort<B: Behaviour, P> {
-    port: P,
-    stage: Stage<B>,
+    pub(crate) port: P,
+    pub(crate) stage: Stage<B>,
     mark: [u8; 32],
+    pub(crate) forgetting: Forgetting,
     joiners: Joiners,
     shot: Option<Shot>,
     failed: u64,
@@ -39,14 +44,21 @@ impl<B: Behaviour, P: Drop> KeepingPort<B, P> {
     /// entries of its log. The stage is that of the scene without any input; it applies the entries
     /// that the log has. Fails with the fault of the first entry that it refuses, or with `Memory`
     /// if memory is refused.
+    ///
+    /// If `forget` is a number, the stage forgets the lines of its trace of all inputs but the last
+    /// `forget`: now, and each time that 64 more inputs, or `forget` if that is more, are applied.
     pub fn begin(
         port: P,
         stage: Stage<B>,
         mark: [u8; 32],
         entries: &[Entry],
+        forget: Option<u32>,
     ) -> Result<KeepingPort<B, P>, ApplyFault>
         ensures port { IfOk result (λ p. p.port ≡ port) }
-        ensures stage { IfOk result (λ p. p.stage ≡ after_entries stage entries.now) }
+        ensures stage { IfOk result (λ p. p.stage
+            ≡ forgot_as forget (after_entries stage entries.now)) }
+        ensures forget { IfOk result (λ p. p.forgetting
+            ≡ begun forget (applied_of (after_entries stage entries.now).held)) }
         ensures mark { IfOk result (λ p. p.mark ≡ mark) }
         ensures joiners { IfOk result (λ p. p.joiners ≡ no_joiners) }
         ensures shot { IfOk result (λ p. p.shot ≡ None) }
@@ -59,10 +71,12 @@ impl<B: Behaviour, P: Drop> KeepingPort<B, P> {
             drop(stage);
             return Err(fault);
         }
+        let forgetting = begin_forgetting(&mut stage, forget);
         Ok(KeepingPort {
             port,
             stage,
             mark,
+            forgetting,
             joiners: Joiners::none(),
             shot: None,
             failed: 0,
@@ -121,7 +135,7 @@ impl<B: Behaviour, P> KeepingPort<B, P> {
     }
 
     /// Fails, as the stage isn't that of the log any more: it is spoiled.
-    fn give_up(&mut self) -> PortFault
+    pub(crate) fn give_up(&mut self) -> PortFault
         ensures { self.new ≡ record self.old {
           failed = one_more self.old.failed;
           stage = spoiled self.old.stage;
@@ -167,6 +181,7 @@ impl<B: Behaviour, P: Port> KeepingPort<B, P> {
             (P.told self.new.port) }
         ensures stage { self.new.stage ≡ self.old.stage }
         ensures mark { self.new.mark ≡ self.old.mark }
+        ensures forget { self.new.forgetting ≡ self.old.forgetting }
         ensures failed { self.new.failed ≡ self.old.failed }
         ensures lost { self.new.lost ≡ self.old.lost }
         ensures time { P.rested self.new.port ≡ P.rested self.old.port }
@@ -183,6 +198,7 @@ impl<B: Behaviour, P: Port> KeepingPort<B, P> {
             (P.told self.old.port) (P.told self.new.port) }
         ensures stage { self.new.stage ≡ self.old.stage }
         ensures mark { self.new.mark ≡ self.old.mark }
+        ensures forget { self.new.forgetting ≡ self.old.forgetting }
         ensures failed { self.new.failed ≡ self.old.failed }
         ensures lost { self.new.lost ≡ self.old.lost }
         ensures time { P.rested self.new.port ≡ P.rested self.old.port }
@@ -228,6 +244,7 @@ impl<B: Behaviour, P: Port> Port for KeepingPort<B, P> {
         ensures joiners { self.new.joiners ≡ self.old.joiners }
         ensures stage { self.new.stage ≡ self.old.stage }
         ensures mark { self.new.mark ≡ self.old.mark }
+        ensures forget { self.new.forgetting ≡ self.old.forgetting }
         ensures lost { self.new.lost ≡ self.old.lost }
     {
         note_sent(&self.mark, to, bytes, &self.joiners, &mut self.shot);
@@ -260,6 +277,7 @@ impl<B: Behaviour, P: Port> Port for KeepingPort<B, P> {
         ensures shot { self.new.shot ≡ self.old.shot }
         ensures stage { self.new.stage ≡ self.old.stage }
         ensures mark { self.new.mark ≡ self.old.mark }
+        ensures forget { self.new.forgetting ≡ self.old.forgetting }
         ensures lost { self.new.lost ≡ self.old.lost }
     {
         match self.port.receive(into) {
@@ -287,6 +305,7 @@ impl<B: Behaviour, P: Port> Port for KeepingPort<B, P> {
             (P.told self.new.port) × (self.new.lost ≡ spec.lost_after whole self.old.lost) }
         ensures stage { self.new.stage ≡ self.old.stage }
         ensures mark { self.new.mark ≡ self.old.mark }
+        ensures forget { self.new.forgetting ≡ self.old.forgetting }
     {
         let millis = self.port.rest(is_new);
         self.joiners.pass(millis);
@@ -303,36 +322,5 @@ impl<B: Behaviour, P: Port> Port for KeepingPort<B, P> {
         ensures same { self.new ≡ record self.old { port = self.new.port } }
     {
         self.port.wait(millis);
-    }
-}
-
-impl<B: Behaviour, P: Learns> Learns for KeepingPort<B, P> {
-    ghost use Rattle.std.specs.Prelude.{◌≡◌, None, OnErr, OnOk, true};
-    ghost use Rattle.cascade_core.specs.Held.{is_spoiled};
-    ghost use Rattle.share_turns.specs.Told.{counted};
-    ghost use Rattle.share_keeping.specs.Applying.{after_entries, refusal_in};
-    ghost use Rattle.share_keeping.specs.Keeping as spec;
-
-    fn learn(&mut self, entries: &[Entry]) -> Result<(), PortFault>
-        ensures told { spec.no_record ≡ spec.no_record }
-        ensures failures { self.new.failed ≡ counted result self.old.failed }
-        ensures time { P.rested self.new.port ≡ P.rested self.old.port }
-        ensures below { P.told self.new.port ≡ P.told self.old.port }
-        ensures stage { OnOk result (self.new.stage ≡ after_entries self.old.stage entries.now) }
-        ensures taken { OnOk result (refusal_in self.old.stage entries.now ≡ None) }
-        // A stage that isn't that of the log gives no snapshot and applies nothing.
-        ensures spoiled { OnErr result (is_spoiled self.new.stage.held ≡ true) }
-        ensures joiners { self.new.joiners ≡ self.old.joiners }
-        ensures shot { self.new.shot ≡ self.old.shot }
-        ensures mark { self.new.mark ≡ self.old.mark }
-        ensures lost { self.new.lost ≡ self.old.lost }
-    {
-        if self.port.learn(entries).is_err() {
-            return Err(self.give_up());
-        }
-        if apply_all(&mut self.stage, entries).is_err() {
-            return Err(self.give_up());
-        }
-        Ok(())
     }
 }

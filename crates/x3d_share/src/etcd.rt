@@ -111,6 +111,7 @@ fn starting_of(
             hosting,
             clocks,
             turns,
+            forget: asked.forget,
         },
         entries,
         stage: None,

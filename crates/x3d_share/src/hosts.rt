@@ -37,6 +37,9 @@ pub struct Turning {
     /// The clocks of its job that are still to be numbered, in microseconds.
     pub clocks: Vec<i64>,
     pub turns: HostTurns,
+    /// How many of the last inputs keep their lines of the trace, if it keeps the world; `None`
+    /// keeps all.
+    pub forget: Option<u32>,
 }
 
 /// What a host begins with.
@@ -117,6 +120,7 @@ fn run_turns<L: HostLog, P: Learns + OverSocket + Drop>(
         hosting,
         clocks,
         turns,
+        forget: _,
     } = turning;
     let watch = Watch::new(head.mark, Peer::Host(head.viewers), port.has_numbers());
     let mut port = PatientPort::new(TellingPort::new(port, rt, verbose, watch), rt);
@@ -144,7 +148,7 @@ fn run_keeping<L: HostLog, P: Learns + OverSocket + Drop>(
     stage: Stage<StockScript>,
     entries: &[Entry],
 ) -> Result<(), End> {
-    match KeepingPort::begin(port, stage, turning.head.mark, entries) {
+    match KeepingPort::begin(port, stage, turning.head.mark, entries, turning.forget) {
         Ok(port) => {
             tell_kept(rt, verbose, port.stage().applied());
             run_turns(rt, turning, verbose, log, port)
@@ -225,6 +229,7 @@ fn without_log(
             hosting,
             clocks,
             turns,
+            forget: asked.forget,
         },
         entries: Vec::new(alloc),
         stage: job.into_stage(),

@@ -67,6 +67,7 @@ fn run_over_log(
             hosting,
             clocks,
             turns,
+            forget: asked.forget,
         },
         entries,
         stage,

@@ -10,12 +10,7 @@ use std::process::Abort;
 
 /// Reports whether the trace of a viewer is the end of `whole` that begins with `first`, or empty
 /// without `first`.
-fn is_left(
-    alloc: Global,
-    viewer: &Viewer<StockScript>,
-    whole: &[u8],
-    first: Option<&str>,
-) -> bool {
+fn is_left(alloc: Global, viewer: &Viewer<StockScript>, whole: &[u8], first: Option<&str>) -> bool {
     let mut left = Vec::new(alloc);
     let written = viewer.trace_text(&mut left).is_ok();
     let is_end = whole.ends_with(&left);

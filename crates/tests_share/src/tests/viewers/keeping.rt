@@ -9,6 +9,7 @@ use share_turns::{Bytes, Datagram, FakePort, Port, RECEIVED, Traffic};
 use share_wire::{Ask, Body, Message, encode};
 use std::alloc::Global;
 use std::process::Abort;
+use x3d_values::is_input_time;
 
 /// The peer from which a viewer joins.
 const PEER: u16 = 7;
@@ -20,7 +21,14 @@ type Keeping = KeepingPort<StockScript, FakePort>;
 fn keeping(alloc: Global, fails_at: u64) -> Option<Keeping> {
     let stage = stage_in(alloc, CLOCKED)?;
     let entries = [Entry::new(1_000_000, Source::Clock)];
-    KeepingPort::begin(FakePort::failing_at(alloc, fails_at), stage, MARK, &entries).ok()
+    KeepingPort::begin(
+        FakePort::failing_at(alloc, fails_at),
+        stage,
+        MARK,
+        &entries,
+        None,
+    )
+    .ok()
 }
 
 /// A viewer asks from its peer.
@@ -108,4 +116,68 @@ fn a_world_goes_on_with_what_is_learned(rt: HostRuntime) {
     drop(port);
     assert!(rt; learned && applied == 2);
     assert!(rt; failed && spoiled && failures == 2);
+}
+
+/// Returns the port of a host whose log has three clocks, a second apart, with what it forgets.
+fn keeping_three(alloc: Global, forget: Option<u32>) -> Option<Keeping> {
+    let stage = stage_in(alloc, CLOCKED)?;
+    let entries = [
+        Entry::new(1_000_000, Source::Clock),
+        Entry::new(2_000_000, Source::Clock),
+        Entry::new(3_000_000, Source::Clock),
+    ];
+    let port = FakePort::failing_at(alloc, 0);
+    KeepingPort::begin(port, stage, MARK, &entries, forget).ok()
+}
+
+/// A port learns the clock of a number, at as many seconds.
+fn learns_clock(port: &mut Keeping, number: u32) -> bool {
+    let time = i64::from(number) * 1_000_000;
+    is_input_time(time) && port.learn(&[Entry::new(time, Source::Clock)]).is_ok()
+}
+
+/// Two ports learn the clocks of the numbers from 4 to `last`.
+fn learn_clocks(one: &mut Keeping, other: &mut Keeping, last: u32) -> bool {
+    for number in 4..=last {
+        if !learns_clock(one, number) || !learns_clock(other, number) {
+            return false;
+        }
+    }
+    true
+}
+
+/// Reports whether a port has the scene of `whole`, and the end of its trace that begins with
+/// `first`.
+fn is_left(alloc: Global, port: &Keeping, whole: &Keeping, first: &str) -> bool {
+    let mut left = Vec::new(alloc);
+    let mut all = Vec::new(alloc);
+    let written = port.stage().texts(&mut left).is_ok() && whole.stage().texts(&mut all).is_ok();
+    let is_end = all.ends_with(&left);
+    let begins = left.starts_with(first.as_bytes());
+    drop(left);
+    drop(all);
+    written && is_end && begins
+}
+
+/// It forgets as it begins, and then at input 67, as 64 more are applied.
+#[test]
+fn old_lines_are_forgotten_in_portions(rt: HostRuntime) {
+    let Some(mut port) = keeping_three(rt.alloc(), Some(2)) else {
+        panic!(rt; "there is no port");
+    };
+    let Some(mut whole) = keeping_three(rt.alloc(), None) else {
+        drop(port);
+        panic!(rt; "there is no port that keeps all");
+    };
+    let all = is_left(rt.alloc(), &whole, &whole, "1 1 T");
+    let begun = is_left(rt.alloc(), &port, &whole, "2 2 T");
+    let learned = learn_clocks(&mut port, &mut whole, 66);
+    let before = is_left(rt.alloc(), &port, &whole, "2 2 T");
+    let is_due = learns_clock(&mut port, 67) && learns_clock(&mut whole, 67);
+    let after = is_left(rt.alloc(), &port, &whole, "66 66 T");
+    drop(port);
+    drop(whole);
+    assert!(rt; all && begun);
+    assert!(rt; learned && before);
+    assert!(rt; is_due && after);
 }
