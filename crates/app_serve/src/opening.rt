@@ -42,7 +42,7 @@ fn as_host(serving: &Serving) -> Order {
         viewers: serving.viewers,
         turns: None,
         keep: serving.keep,
-        forget: None,
+        forget: serving.forget,
         every: serving.every,
         until: None,
         verbose: serving.verbose,
@@ -54,6 +54,8 @@ fn as_host(serving: &Serving) -> Order {
 struct Keyed {
     keys: Keys,
     stage: Stage<StockScript>,
+    /// Of how many of the last inputs the stage keeps the lines of its trace; `None` keeps all.
+    forget: Option<u32>,
 }
 
 /// What is kept of a job.
@@ -129,9 +131,13 @@ fn keyed_stack(
     keyed: Keyed,
     entries: &[Entry],
 ) -> Result<Stack, End> {
-    let Keyed { keys, stage } = keyed;
+    let Keyed {
+        keys,
+        stage,
+        forget,
+    } = keyed;
     match keyed_port(rt, run, head.viewers, keys, entries) {
-        Ok(port) => match KeepingPort::begin(port, stage, head.mark, entries, None) {
+        Ok(port) => match KeepingPort::begin(port, stage, head.mark, entries, forget) {
             Ok(keeping) => Ok(Stack::Keyed(keeping)),
             Err(_refused) => Err(End::from(ShareFault::Memory)),
         },
@@ -170,8 +176,14 @@ fn stack_of(
     }
 }
 
-/// Returns what is kept of a job whose world has these keys.
-fn kept_of(alloc: Global, job: SharedJob, keys: Option<Keys>) -> Result<Kept, JobFault> {
+/// Returns what is kept of a job whose world has these keys, and forgets all lines but those of the
+/// last `forget` inputs.
+fn kept_of(
+    alloc: Global,
+    job: SharedJob,
+    keys: Option<Keys>,
+    forget: Option<u32>,
+) -> Result<Kept, JobFault> {
     let SharedJob {
         inputs,
         mark,
@@ -191,7 +203,11 @@ fn kept_of(alloc: Global, job: SharedJob, keys: Option<Keys>) -> Result<Kept, Jo
         Ok(stage) => Ok(Kept {
             mark,
             inputs,
-            keyed: Some(Keyed { keys, stage }),
+            keyed: Some(Keyed {
+                keys,
+                stage,
+                forget,
+            }),
         }),
         Err(fault) => {
             drop(inputs);
@@ -206,7 +222,7 @@ fn read(rt: &HostRuntime, folder: &str, name: &WorldName, serving: &Serving) -> 
     may_be_reached(&serving.place, keys.is_some(), serving.is_open)?;
     let path = path_of(rt.alloc(), folder, name, ".job")?;
     let job = job_at(rt, path.as_str(), serving)?;
-    Ok(kept_of(rt.alloc(), job, keys)?)
+    Ok(kept_of(rt.alloc(), job, keys, serving.forget)?)
 }
 
 /// Returns the world of a log that has begun.

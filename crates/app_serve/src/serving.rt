@@ -16,6 +16,9 @@ pub struct Serving {
     pub viewers: Option<u8>,
     /// How many of the last inputs are kept for viewers that have them; `None` keeps all.
     pub keep: Option<u32>,
+    /// Of how many of the last inputs the world of a host with keys keeps the lines of its trace;
+    /// `None` keeps all.
+    pub forget: Option<u32>,
     /// How many milliseconds pass from one clock that a world makes to the next, once those of its
     /// job are over; `None` for no such clocks.
     pub every: Option<u32>,

@@ -43,6 +43,7 @@ pub fn serve_folder(
         is_open: asked.is_open,
         viewers: asked.viewers,
         keep: asked.keep,
+        forget: asked.forget,
         every: asked.every,
         verbose: asked.verbose,
     };
