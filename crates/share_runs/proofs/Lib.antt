@@ -2,3 +2,4 @@ pub mod Knowing
 pub mod ListLaws
 pub mod Porting
 mod Stays
+mod Forgotten

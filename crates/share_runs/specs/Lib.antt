@@ -2,6 +2,7 @@ pub mod Arrival
 pub mod Arrive
 pub mod Known
 pub mod Laws
+pub mod Forgetting
 pub mod Greetings
 pub mod Port
 pub mod Hearing

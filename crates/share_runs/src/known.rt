@@ -11,6 +11,9 @@ use std::alloc::{AllocError, Global};
 /// The most places at which a viewer may start.
 pub const MAX_STARTS: usize = 64;
 
+/// How many of the last chains a viewer keeps, once it had twice as many.
+const KEPT_CHAINS: usize = 1_024;
+
 /// The chains that a viewer of a run knows: after `from` inputs and after each input after them,
 /// and, before it has asked for an input, at each number of inputs at which it may start: 0, and
 /// those of the snapshots whose pieces came.
@@ -65,6 +68,7 @@ fn start_at(starts: &[Prefix], n: u64) -> Option<Chain>
 
 impl KnownList {
     ghost use Rattle.std.specs.Prelude.{◌≡◌, ◌++◌, ◌∷◌, ◌==◌, [], length, OnErr, OnOk, nat_le};
+    ghost use Rattle.share_runs.specs.Forgetting.{MayForget};
     ghost use Rattle.share_runs.specs.Known as spec;
     ghost use Rattle.share_runs.specs.Saying.{IsAsked};
 
@@ -117,6 +121,25 @@ impl KnownList {
     {
         self.chains.push(chain)?;
         Ok(())
+    }
+
+    /// Forgets old chains, if there are twice as many as `KEPT_CHAINS`: these many stay. If memory
+    /// is refused all stay, until it is called again.
+    pub(crate) fn forget_old(&mut self)
+        ensures { MayForget self.old self.new }
+    {
+        if self.chains.len() < 2 * KEPT_CHAINS {
+            return;
+        }
+        let gone = self.chains.len() - KEPT_CHAINS;
+        let Some(from) = self.from.checked_add(gone as u64) else {
+            return;
+        };
+        let Ok(left) = self.chains.split_off(gone) else {
+            return;
+        };
+        self.chains = left;
+        self.from = from;
     }
 
     /// Adds a place at which a viewer may start. Fails if there are `MAX_STARTS`, or if memory is

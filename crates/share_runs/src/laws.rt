@@ -1,5 +1,6 @@
 //! Laws of the inputs that a viewer in a run hands on.
 
+ghost use Rattle.share_runs.specs.Forgetting.{StaysOfLog};
 ghost use Rattle.share_runs.specs.Laws.{NeverOther, OneList};
 
 /// Two inputs with one number, of the list that a viewer knows, are one input, or two texts have a
@@ -11,4 +12,9 @@ pub fn viewers_know_one_list()
 /// No input of a log is of another list, for a viewer that knows chains of that log.
 pub fn logs_are_one_list()
     ensures { NeverOther }
+{}
+
+/// What a viewer forgets of its list leaves chains of the same log.
+pub fn forgetting_keeps_the_list()
+    ensures { StaysOfLog }
 {}

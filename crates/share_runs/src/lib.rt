@@ -17,7 +17,7 @@ pub use arrival::{
 pub use greetings::{Greetings, PAUSE, next_nonce, with_cookie};
 pub use hello::{arrive, met};
 pub use known::{KnownList, MAX_STARTS};
-pub use laws::{logs_are_one_list, viewers_know_one_list};
+pub use laws::{forgetting_keeps_the_list, logs_are_one_list, viewers_know_one_list};
 pub use step::{RunStep, step_for};
 pub use view_port::{Handing, ViewPort};
 pub use viewer_run::{Early, MAX_HELD, ViewerRun};

@@ -143,6 +143,7 @@ impl<P: Port> ViewPort<P> {
     ghost use Rattle.share_wire.specs.Decoding.{decoded as decoded_1};
     ghost use Rattle.share_turns.specs.Told.{Grows, counted, max_received};
     ghost use Rattle.share_runs.specs.Arrival.{is_over};
+    ghost use Rattle.share_runs.specs.Forgetting.{RunMayForget};
     ghost use Rattle.share_runs.specs.Greetings.{after_greeting, hello_due};
     ghost use Rattle.share_runs.specs.Port.{AreSent, Hears, handed_of, hello_text, sent_to};
     ghost use Rattle.share_runs.specs.Saying.{IsSaid, said_of};
@@ -208,6 +209,17 @@ impl<P: Port> ViewPort<P> {
             return Ok(Handing::Handed(from, packet));
         }
         self.receive_among(MOST)
+    }
+
+    /// Lets time pass, and old chains be forgotten.
+    fn pass(&mut self, millis: u64)
+        ensures port { self.new.port ≡ self.old.port }
+        ensures run { RunMayForget self.old.run self.new.run }
+        ensures host { self.new.host ≡ self.old.host }
+        ensures failures { self.new.failed ≡ self.old.failed }
+    {
+        self.greetings.pass(millis_in(millis));
+        self.run.forget_old();
     }
 
     /// Sends a datagram to a peer.
@@ -319,7 +331,7 @@ impl<P: Port> Port for ViewPort<P> {
 
     fn rest(&mut self, is_new: bool) -> u64 {
         let millis = self.port.rest(is_new);
-        self.greetings.pass(millis_in(millis));
+        self.pass(millis);
         millis
     }
 

@@ -94,6 +94,7 @@ impl ViewerRun {
     ghost use Rattle.share_wire.specs.Decoding.{decoded};
     ghost use Rattle.share_session.specs.Datagram.{datagram};
     ghost use Rattle.share_session.specs.Runs.{session_of};
+    ghost use Rattle.share_runs.specs.Forgetting.{RunMayForget};
     ghost use Rattle.share_runs.specs.Hearing.{IsGathered, IsHeard, IsNext};
     ghost use Rattle.share_runs.specs.Hearing.{IsDue, IsDueInput, IsReleased, IsTaken, Keeps};
     ghost use Rattle.share_runs.specs.Hearing.{MayHold, early_of, is_due, text_of};
@@ -142,6 +143,13 @@ impl ViewerRun {
         ensures { result.now ≡ self.now.session }
     {
         &self.session
+    }
+
+    /// Forgets old chains of the list, if there are many.
+    pub(crate) fn forget_old(&mut self)
+        ensures { RunMayForget self.old self.new }
+    {
+        self.known.forget_old();
     }
 
     /// Returns the datagram of version 1 of a message of this session.
