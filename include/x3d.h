@@ -77,7 +77,7 @@ enum x3d_status {
   X3D_NO_VALUE = 28,       /* no value: the field only sends or takes events, or is a rotation */
   X3D_SHORT = 30,          /* the snapshot has fewer than 85 bytes */
   X3D_BAD_MAGIC = 31,      /* not a snapshot */
-  X3D_BAD_VERSION = 32,    /* a snapshot's version is not 1 or 2; a datagram's version is not 1 */
+  X3D_BAD_VERSION = 32,    /* a snapshot's version is not 1 to 3; a datagram's version is not 1 */
   X3D_WRONG_SCENE = 33,    /* the snapshot, the datagram or the log is of another scene */
   X3D_BAD_DIGEST = 34,     /* the snapshot was altered */
   X3D_NOT_CANONICAL = 35,  /* the snapshot is not of a world of this scene */
@@ -88,7 +88,7 @@ enum x3d_status {
   X3D_BAD_RANGE = 42,      /* a field of the datagram is out of its range */
   X3D_ZERO_RAY = 43,       /* the direction is 0 0 0 */
   X3D_BAD_VIEWER = 44,     /* the host has no such viewer, or the datagram is another viewer's */
-  X3D_WORLD_FULL = 45,     /* the host has numbered 2^20 inputs */
+  X3D_WORLD_FULL = 45,     /* the host has numbered 2^48 - 1 inputs */
   X3D_TIME_RANGE = 46,     /* the time is above 10^18 microseconds */
   X3D_FLOOR_BACK = 47,     /* the floor may not move back */
   X3D_FLOOR_AHEAD = 48,    /* the floor may not be above the number of the next input */
@@ -111,7 +111,7 @@ enum x3d_status {
   X3D_WRONG_SEATS = 75,    /* the log is of another number of viewers */
   X3D_LOG_DAMAGED = 76,    /* a frame (entries stored together) was altered, or is misplaced */
   X3D_NOT_ENTRIES = 77,    /* the bytes are not the next entries of this log */
-  X3D_LOG_FULL = 78,       /* the log would have more than 2^20 entries */
+  X3D_LOG_FULL = 78,       /* the log would have more than 2^48 - 1 entries */
   X3D_IN_DOUBT = 79        /* an append failed, and may be stored: close the log, open it again */
 };
 
@@ -189,10 +189,11 @@ struct x3d_change {
   uint32_t count;
 };
 
-/* The boot that is stored in a snapshot, and the number of inputs that its world has applied. */
+/* The number of inputs that the world of a snapshot has applied, and the boot that is stored in the
+ * snapshot. */
 struct x3d_saved {
+  uint64_t applied;
   uint32_t boot;
-  uint32_t applied;
 };
 
 /* A tag says which of six kinds a datagram is. For each: who sends it, what `number` means. */
@@ -224,7 +225,7 @@ struct x3d_datagram {
   uint8_t who;
   uint8_t point;
   uint32_t boot;
-  uint32_t number;
+  uint64_t number;
   int64_t time;
   struct x3d_aim aim;
 };
@@ -243,9 +244,9 @@ enum x3d_replied {
   X3D_REPLY_NOTHING_TO_DO = 6
 };
 struct x3d_reply {
+  uint64_t number;
+  uint64_t count;
   uint32_t kind;
-  uint32_t number;
-  uint32_t count;
 };
 
 /* What the log of a host answers to an append of entries (x3d_host_stored). */
@@ -265,8 +266,8 @@ enum x3d_took {
   X3D_TOOK_BEHIND = 5   /* the host no longer has the next input: only a snapshot helps */
 };
 struct x3d_taken {
+  uint64_t count;
   uint32_t kind;
-  uint32_t count;
 };
 
 /* What a viewer did with a piece of a snapshot. X3D_GATHERED_NEW: kept, others are missing.
@@ -311,7 +312,7 @@ enum x3d_left {
 
 /* The number of this binary interface, the last part of the library's SONAME. It rises with each
  * change after which a compiled program has to be compiled again. */
-#define X3D_ABI 0
+#define X3D_ABI 1
 
 /* ---- the library itself. Each text is a constant of the library; do not free it. */
 
@@ -375,20 +376,20 @@ uint8_t x3d_world_open_part(struct x3d_world *world, struct x3d_part *part, uint
 /* Frees the world. Does nothing if the handle holds none. */
 void x3d_world_close(struct x3d_world *world);
 /* Writes the number of inputs that were applied. The next input has that number plus 1. */
-uint8_t x3d_world_applied(const struct x3d_world *world, uint32_t *count);
+uint8_t x3d_world_applied(const struct x3d_world *world, uint64_t *count);
 
-/* ---- inputs, numbered from 1 to 2^20, at times of 1 to 10^18 microseconds, each above the last
+/* ---- inputs, numbered from 1 to 2^48 - 1, at times of 1 to 10^18 microseconds, each above the last
  *
  * A call that applies an input may return, in this order: X3D_RANGE if the number, the time or the
  * pointer is out of its range, X3D_SPOILED, X3D_NOT_NEXT, X3D_TIME_NOT_LATER, or X3D_MEMORY, which
  * spoils the world. */
 
 /* Applies a clock at `time` microseconds, and writes what it led to. */
-uint8_t x3d_world_clock(struct x3d_world *world, uint32_t number, int64_t time,
+uint8_t x3d_world_clock(struct x3d_world *world, uint64_t number, int64_t time,
                         struct x3d_work *work);
 /* Applies the pointer of viewer `viewer`, 0 to 63, whose button is down or not, at `time`
  * microseconds, and writes what it led to. */
-uint8_t x3d_world_point(struct x3d_world *world, uint32_t number, int64_t time, uint8_t viewer,
+uint8_t x3d_world_point(struct x3d_world *world, uint64_t number, int64_t time, uint8_t viewer,
                         bool down, const struct x3d_aim *aim, struct x3d_work *work);
 /* Writes where a ray would enter the Box that it hits first, and lists the sensors that a pointer
  * with this ray is over (x3d_world_copy_numbers copies their nodes). These are the enabled
@@ -407,11 +408,11 @@ uint8_t x3d_world_meet(struct x3d_world *world, const struct x3d_aim *aim, struc
 
 /* Makes the lines of the trace of inputs from number `first` on: `<input> <seconds> <label>.<field>
  * <value>`. From 0 on it is the whole trace. */
-uint8_t x3d_world_make_trace(struct x3d_world *world, uint32_t first);
+uint8_t x3d_world_make_trace(struct x3d_world *world, uint64_t first);
 /* Makes the same lines with numbers: `<input> <seconds> <node> <field> <value>`. A line has the
  * value that was sent. Do not draw it: an output sends once in an input, and its field may be set
  * again after that. x3d_world_list_changed has the fields with their current values. */
-uint8_t x3d_world_make_changes(struct x3d_world *world, uint32_t first);
+uint8_t x3d_world_make_changes(struct x3d_world *world, uint64_t first);
 /* Makes the current scene, in the Classic encoding. */
 uint8_t x3d_world_make_scene(struct x3d_world *world);
 /* Makes the word for a node's type, such as `Transform`. May return: X3D_NO_SUCH_NODE. */
@@ -482,11 +483,21 @@ uint8_t x3d_world_copy_numbers(const struct x3d_world *world, int64_t *out, size
  * had. A field that holds no value is not listed. The call also lists the numbers of
  * these values; a string has none. If the call fails, both lists are empty. May return:
  * X3D_SPOILED, or X3D_MEMORY (also for more than 2^32 - 1 numbers). */
-uint8_t x3d_world_list_changed(struct x3d_world *world, uint32_t since);
+uint8_t x3d_world_list_changed(struct x3d_world *world, uint64_t since);
 /* Copies the fields that were listed last, and writes how many there are to `wanted`. May return:
  * X3D_ROOM if there is no room for `wanted` of them; nothing is copied then. */
 uint8_t x3d_world_copy_changed(const struct x3d_world *world, struct x3d_change *out, size_t room,
                                size_t *wanted);
+
+/* ---- old lines of the trace: a world has a line for each output that ever sent, until it is told to
+ * forget it */
+
+/* Forgets the lines of the trace of inputs below number `below`; their memory is used again. Forget
+ * what was read: x3d_world_make_trace, x3d_world_make_changes and x3d_world_list_changed tell only
+ * of lines that are left, and so does a snapshot. Nothing else changes: further inputs do what they
+ * would do to the whole world. May return, in this order: X3D_SPOILED, or X3D_RANGE if `below` is
+ * above the next input's number. */
+uint8_t x3d_world_forget_below(struct x3d_world *world, uint64_t below);
 
 /* ---- snapshots */
 
@@ -530,7 +541,7 @@ void x3d_host_close(struct x3d_host *host);
 /* Numbers a clock at a time of 1 to 10^18 microseconds, above that of the last input, and writes
  * its number. May return, in this order: X3D_WORLD_FULL, X3D_TIME_NOT_LATER, or X3D_TIME_RANGE;
  * X3D_MEMORY at any time. */
-uint8_t x3d_host_clock(struct x3d_host *host, int64_t time, uint32_t *number);
+uint8_t x3d_host_clock(struct x3d_host *host, int64_t time, uint64_t *number);
 /* Takes a datagram of a viewer, and writes what the host did with it. May return, in this order:
  * one of X3D_BAD_PACKET, X3D_BAD_VERSION, X3D_BAD_TAG, X3D_BAD_RANGE and X3D_ZERO_RAY if the bytes
  * are not a datagram, X3D_WRONG_SCENE, X3D_BAD_VIEWER if there is no such viewer, or a status of
@@ -543,7 +554,7 @@ uint8_t x3d_host_take_from(struct x3d_host *host, uint8_t who, const uint8_t *by
                            struct x3d_reply *reply);
 /* Copies the datagram of input `number`. There is none (X3D_NO_PACKET) below the floor, or if that
  * input is not numbered yet. */
-uint8_t x3d_host_packet(const struct x3d_host *host, uint32_t number, uint8_t *out, size_t room,
+uint8_t x3d_host_packet(const struct x3d_host *host, uint64_t number, uint8_t *out, size_t room,
                         size_t *wanted);
 /* Copies the ack of viewer `who`: the datagram that says how many of its offers are numbered. May
  * return: X3D_RANGE if there is no such viewer. */
@@ -552,21 +563,21 @@ uint8_t x3d_host_ack(const struct x3d_host *host, uint8_t who, uint8_t *out, siz
 /* Writes the highest number that viewer `who` has asked from, or 0 if it has not asked. It had all
  * inputs below that number then. After a restart from an older snapshot it may lack some. May
  * return: X3D_RANGE if there is no such viewer. */
-uint8_t x3d_host_heard(const struct x3d_host *host, uint8_t who, uint32_t *asked);
+uint8_t x3d_host_heard(const struct x3d_host *host, uint8_t who, uint64_t *asked);
 /* Drops the inputs that all viewers have asked past, except the last `count` of these. A viewer
  * that has not asked does not count. If none has asked, drops nothing. */
-uint8_t x3d_host_keep(struct x3d_host *host, uint32_t count);
+uint8_t x3d_host_keep(struct x3d_host *host, uint64_t count);
 /* Writes the floor: inputs below it have no datagrams. It is 1 at first. */
-uint8_t x3d_host_floor(const struct x3d_host *host, uint32_t *number);
+uint8_t x3d_host_floor(const struct x3d_host *host, uint64_t *number);
 /* Copies the datagram that reports the floor. */
 uint8_t x3d_host_floor_packet(const struct x3d_host *host, uint8_t *out, size_t room,
                               size_t *wanted);
 /* Drops the inputs below `number`, which becomes the floor; their memory is used again or freed.
  * May return: X3D_FLOOR_BACK if `number` is below the floor, or X3D_FLOOR_AHEAD if it is above the
  * next input's number (of a resumed host: the first unstored input's). */
-uint8_t x3d_host_drop_below(struct x3d_host *host, uint32_t number);
+uint8_t x3d_host_drop_below(struct x3d_host *host, uint64_t number);
 /* Writes the number of inputs that are numbered. */
-uint8_t x3d_host_count(const struct x3d_host *host, uint32_t *count);
+uint8_t x3d_host_count(const struct x3d_host *host, uint64_t *count);
 /* Writes the number of viewers. */
 uint8_t x3d_host_viewers(const struct x3d_host *host, uint32_t *count);
 /* Writes the time of the last input that is numbered, in microseconds, or 0 before the first. */
@@ -587,7 +598,7 @@ uint8_t x3d_host_time(const struct x3d_host *host, int64_t *time);
  * whose number (from 1) is then written to `entry`; X3D_MEMORY at any time. After any of these the
  * handle is empty. */
 uint8_t x3d_host_resume(struct x3d_host *host, const uint8_t *text, size_t length, uint8_t viewers,
-                        const uint8_t *log, size_t log_length, uint32_t *entry);
+                        const uint8_t *log, size_t log_length, uint64_t *entry);
 /* Copies the bytes of the append that is under way, and writes its token (a number that names this
  * append) and its number of bytes.
  * If none is under way, it first begins one with all entries that wait; if none wait, there are 0
@@ -654,7 +665,7 @@ uint8_t x3d_log_append(struct x3d_log *log, const uint8_t *bytes, size_t length)
  * X3D_MEMORY. */
 uint8_t x3d_log_read(const struct x3d_log *log, uint8_t *out, size_t room, size_t *wanted);
 /* Writes the number of entries, one for each input. */
-uint8_t x3d_log_count(const struct x3d_log *log, uint32_t *count);
+uint8_t x3d_log_count(const struct x3d_log *log, uint64_t *count);
 /* Writes the number of viewers that the log was made for. */
 uint8_t x3d_log_viewers(const struct x3d_log *log, uint32_t *count);
 /* Copies the log's run, 16 bytes, which no other log has, and writes 16 to `wanted`. May return:
@@ -673,7 +684,7 @@ uint8_t x3d_viewer_open(struct x3d_viewer *viewer, const uint8_t *text, size_t l
 /* Frees the viewer. Does nothing if the handle holds none. */
 void x3d_viewer_close(struct x3d_viewer *viewer);
 /* Writes the number of applied inputs; of a spoiled viewer, those applied before memory ran out. */
-uint8_t x3d_viewer_applied(const struct x3d_viewer *viewer, uint32_t *count);
+uint8_t x3d_viewer_applied(const struct x3d_viewer *viewer, uint64_t *count);
 /* Writes the viewer's boot. */
 uint8_t x3d_viewer_boot(const struct x3d_viewer *viewer, uint32_t *boot);
 /* Writes the number of offers that wait: at most 64. */
@@ -703,7 +714,7 @@ uint8_t x3d_viewer_make_snapshot(struct x3d_viewer *viewer);
  * numbered from 1. May return, in this order: X3D_BOOT_NOT_NEW if `boot` is not above the viewer's,
  * or the statuses of x3d_world_load. X3D_MEMORY spoils the viewer. */
 uint8_t x3d_viewer_rewind(struct x3d_viewer *viewer, uint32_t boot, const uint8_t *bytes,
-                          size_t length, uint32_t *applied);
+                          size_t length, uint64_t *applied);
 /* Writes how many pieces these bytes have, or 0 if they do not begin like a snapshot. The snapshot
  * may be of any world or viewer of the scene. May return: X3D_TOO_LARGE for more than 2^26 bytes;
  * `count` is then 0. */
@@ -722,14 +733,14 @@ uint8_t x3d_viewer_gather(struct x3d_viewer *viewer, const uint8_t *bytes, size_
  * x3d_viewer_rewind does. After X3D_DONE the pieces are dropped; after any other status they are
  * kept. May return, in this order: X3D_NOT_WHOLE if pieces are missing, or the statuses of
  * x3d_viewer_rewind. */
-uint8_t x3d_viewer_join(struct x3d_viewer *viewer, uint32_t boot, uint32_t *applied);
+uint8_t x3d_viewer_join(struct x3d_viewer *viewer, uint32_t boot, uint64_t *applied);
 /* Drops what was gathered. */
 uint8_t x3d_viewer_forget(struct x3d_viewer *viewer);
 
-/* Reads the viewer's world: these calls do what those of an x3d_world do, and return the same
- * statuses. */
-uint8_t x3d_viewer_make_trace(struct x3d_viewer *viewer, uint32_t first);
-uint8_t x3d_viewer_make_changes(struct x3d_viewer *viewer, uint32_t first);
+/* Reads the viewer's world, or forgets lines of its trace: these calls do what those of an x3d_world
+ * do, and return the same statuses. */
+uint8_t x3d_viewer_make_trace(struct x3d_viewer *viewer, uint64_t first);
+uint8_t x3d_viewer_make_changes(struct x3d_viewer *viewer, uint64_t first);
 uint8_t x3d_viewer_make_scene(struct x3d_viewer *viewer);
 uint8_t x3d_viewer_make_type(struct x3d_viewer *viewer, uint32_t node);
 uint8_t x3d_viewer_make_label(struct x3d_viewer *viewer, uint32_t node);
@@ -751,7 +762,8 @@ uint8_t x3d_viewer_list_children(struct x3d_viewer *viewer, uint32_t node);
 uint8_t x3d_viewer_list_value(struct x3d_viewer *viewer, uint32_t node, uint16_t field);
 uint8_t x3d_viewer_copy_numbers(const struct x3d_viewer *viewer, int64_t *out, size_t room,
                                 size_t *wanted);
-uint8_t x3d_viewer_list_changed(struct x3d_viewer *viewer, uint32_t since);
+uint8_t x3d_viewer_forget_below(struct x3d_viewer *viewer, uint64_t below);
+uint8_t x3d_viewer_list_changed(struct x3d_viewer *viewer, uint64_t since);
 uint8_t x3d_viewer_copy_changed(const struct x3d_viewer *viewer, struct x3d_change *out,
                                 size_t room, size_t *wanted);
 uint8_t x3d_viewer_script_count(const struct x3d_viewer *viewer, size_t *count);

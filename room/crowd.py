@@ -5,8 +5,8 @@ import multiprocessing
 import threading
 import time
 
-from library import wire, x3d
-from seat import digest_of
+from library import x3d
+from seat import PIECES, digest_of, forget
 from served import AT_BUTTON, LATER, Client
 
 # Seconds of a turn.
@@ -34,6 +34,7 @@ class Holder:
             self.mark()
 
     def mark(self):
+        forget(self.viewer)
         self.saved = self.viewer.snapshot()
         self.stands = self.viewer.applied(), digest_of(self.saved)
 
@@ -43,7 +44,7 @@ class Holder:
     def take(self, datagram, next_boot):
         if not self.viewer:
             return
-        if datagram[5] == wire.PIECE:
+        if datagram[5] in PIECES:
             if self.behind and self.viewer.gather(datagram) == "Whole":
                 self.viewer.join(next_boot())
                 self.behind = False

@@ -66,9 +66,12 @@ class Player:
         first, self.told = self.told, number
         points = [*{each.point.who: each.point for each in self.points}.values()]
         self.points = []
-        if first is None:
-            return "scene", {"n": number, "points": points, **self.record.names.scene(self.world)}
-        return "news", {"n": number, "points": points, **self.record.names.news(self.world, first)}
+        names, about = self.record.names, {"n": number, "points": points}
+        kind = "news" if first is not None else "scene"
+        told = names.scene(self.world) if first is None else names.news(self.world, first)
+        # What was told is not told again.
+        self.world.forget_below(number + 1)
+        return kind, {**about, **told}
 
     def status(self):
         """Where it is: its input, seconds from the first on, whether it plays."""

@@ -7,7 +7,7 @@ from inputs import Inputs
 from library import wire, x3d
 from world_log import Writer
 from scene import Names
-from seat import latest
+from seat import LINES, forget, latest
 
 # A snapshot is kept every 600 inputs; of too many every second goes.
 EVERY, SNAPSHOTS = 600, 32
@@ -72,8 +72,9 @@ class Record:
             self.save()
 
     def save(self):
-        """Keeps a snapshot; the number and the snapshot."""
+        """Keeps a snapshot, without old lines of the trace; the number and the snapshot."""
         number = self.world.applied()
+        forget(self.world)
         self.snapshots[number] = self.world.snapshot(BOOT)
         if len(self.snapshots) > SNAPSHOTS:
             self.every *= 2
@@ -113,7 +114,7 @@ class Record:
         if number == told:
             return None
         about = {"n": number, "points": latest(each for each in self.points if each.number > (told or 0))}
-        if told is None:
+        if told is None or number - told > LINES:
             return "scene", {**about, **self.names.scene(self.world)}
         return "news", {**about, **self.names.news(self.world, told)}
 

@@ -8,7 +8,7 @@ import time
 from channel import Channel
 from library import wire, x3d
 from scene import Names
-from seat import OFFER, Far, Joining, Seat
+from seat import OFFER, PIECES as OF_PIECES, Far, Joining, Seat, input_in
 
 VIEWERS = 64
 # Viewers are saved, and their worlds compared, every CHECK turns: as many more for each GROWTH bytes.
@@ -42,7 +42,7 @@ class Room:
         self.newest, self.names = (0, self.first.snapshot()), Names(self.first)
         self.host = x3d.Host(text, VIEWERS)
         self.packet = functools.lru_cache(RECENT)(self.host.packet)
-        self.read = functools.lru_cache(RECENT)(wire.read_input)
+        self.read = functools.lru_cache(RECENT)(input_in)
 
     def resume(self, inputs, newest):
         """Has the host number the inputs of an earlier run again. `newest` is a number, and the snapshot there."""
@@ -220,7 +220,7 @@ class Room:
         seat.send(datagram)
 
     def to_viewer(self, seat, datagram):
-        if datagram[5] == wire.PIECE:
+        if datagram[5] in OF_PIECES:
             return self.gather(seat, datagram)
         taken = seat.viewer.take(datagram)
         seat.lacks = seat.lacks or taken.kind == "Kept"

@@ -8,16 +8,27 @@ from library import wire, x3d
 
 # Of how many numbers a viewer's digests are remembered.
 DIGESTS = 64
+# Of how many of the last inputs a world that is saved keeps the lines of its trace; page/own.js has the same number, since
+# the digest of a world has its trace. A window that lacks more inputs is told the whole scene.
+LINES = 300
 # The boot in a snapshot and its seal (crates/snapshot_codec/README.md) are no part of a world.
 BOOT, SEAL = slice(37, 41), 32
-# What an offer and an ask begin with, behind the head (crates/share_wire/README.md).
-OFFER, ASK = struct.Struct(">BII"), struct.Struct(">BI")
+# What an offer begins with, behind the head, and all of an ask, by its tag: with a number up to 2^20 + 1, or a long one; and
+# the tags of a piece (crates/share_wire/README.md).
+OFFER = struct.Struct(">BII")
+ASKS = {bytes([wire.ASK]): struct.Struct(">BI"), bytes([10]): struct.Struct(">BQ")}
+PIECES = wire.PIECE, 12
 
 
 def digest_of(snapshot):
     """The digest of the world that a snapshot is of, whoever took it."""
     world = snapshot[: BOOT.start] + snapshot[BOOT.stop : -SEAL]
     return hashlib.sha256(world).hexdigest()[:16]
+
+
+def forget(world):
+    """Forgets the lines of a world's trace that no window is told any more."""
+    world.forget_below(max(0, world.applied() + 1 - LINES))
 
 
 class Joining(NamedTuple):
@@ -88,7 +99,9 @@ class Seat(Place):
             self.viewer = None
 
     def mark(self):
-        """Saves the viewer where it stands, and notes its digest; the number and the snapshot."""
+        """Saves the viewer where it stands, without old lines of its trace, and notes its digest; the number and the
+        snapshot."""
+        forget(self.viewer)
         self.saved = self.viewer.snapshot()
         self.note(self.viewer.applied(), digest_of(self.saved))
         return self.marked, self.saved
@@ -102,7 +115,7 @@ class Seat(Place):
         here = [each for each in self.points if each.number <= number]
         self.points = [each for each in self.points if each.number > number]
         told = {"n": number, "points": latest(here)}
-        if first is None:
+        if first is None or number - first > LINES:
             return "scene", {**told, **self.names.scene(self.viewer)}
         return "news", {**told, **self.names.news(self.viewer, first)}
 
@@ -153,8 +166,8 @@ class Far(Place):
     def speaks(self, datagram):
         """Whether a datagram is an ask or an offer of this viewer, in a boot that it was given."""
         kind, body = datagram[5:6], datagram[wire.HEAD.size :]
-        if kind == bytes([wire.ASK]):
-            return len(body) == ASK.size and body[0] == self.who
+        if kind in ASKS:
+            return len(body) == ASKS[kind].size and body[0] == self.who
         if kind != bytes([wire.OFFER]) or len(body) < OFFER.size:
             return False
         who, boot, _ = OFFER.unpack_from(body)
@@ -173,6 +186,13 @@ class Far(Place):
             return False
         self.offered = boot, offer
         return True
+
+
+def input_in(datagram):
+    """The input of a datagram that is one."""
+    told = x3d.datagram(datagram)
+    point = told.aim and wire.Point(told.who, int(told.down), (*told.aim.origin, *told.aim.direction))
+    return wire.Input(told.number, told.time, point)
 
 
 def latest(inputs):

@@ -110,6 +110,12 @@ def test_a_windows_datagrams_are_its_own_viewers():
     assert count() == 2 and one.viewer.waiting() == 1
 
 
+def started(viewer):
+    """When the motor of the door was started."""
+    motor = viewer.node_named("Motor")
+    return float(viewer.value(motor, viewer.field_named(motor, "startTime")))
+
+
 def last(client, kind):
     return next((told for told in reversed(client.events) if told["kind"] == kind), {})
 
@@ -136,7 +142,7 @@ def test_a_window_of_a_server_holds_its_viewer():
             assert ana.status("start") == 200 and ana.holder.boot > boot
             number = ana.holder.viewer.applied()
             ana.run(lambda: ana.holder.viewer.applied() > number + 60)
-            assert number >= CHECK and "Motor.startTime" in ana.holder.viewer.trace()
+            assert number >= CHECK and started(ana.holder.viewer) > 0
 
 
 def test_a_server_without_the_library_runs_all_viewers():

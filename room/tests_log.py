@@ -7,9 +7,9 @@ from pathlib import Path
 
 from explain import Unshown
 from inputs import Inputs
-from library import TOP, wire
+from library import TOP, wire, x3d
 from world_log import EMPTY, SHUT, Damaged, Writer, entry_of, framed, head_of, read_log
-from record import Record
+from record import Record, apply
 from replay import read_run
 from served import DRILL, LATER, Skipped, scene
 from store import Store
@@ -176,6 +176,14 @@ def program():
     raise Skipped("there is no program that has `recall`")
 
 
+def whole_world(record):
+    """The trace and the scene that a record's inputs make; the record's own world has forgotten old lines."""
+    world = x3d.World(record.text)
+    for number in range(1, len(record.inputs) + 1):
+        apply(world, record.inputs.at(number))
+    return world.trace() + world.scene()
+
+
 def test_the_program_recalls_the_log_as_the_job():
     """`recall` of the log that is downloaded is the job that is downloaded, but for its scene."""
     place = program()
@@ -183,7 +191,7 @@ def test_the_program_recalls_the_log_as_the_job():
     for record in (recorded(1200).record, Record(scene().encode()), Record(scene(DRILL).encode())):
         told = does("recall", record.x3dlog())
         assert told + b"scene\n" + record.text == record.job(), (told[:300], record.job()[:300])
-        world = record.world.trace() + record.world.scene()
+        world = whole_world(record)
         assert does("run", record.job()).decode() == world, world[:300]
 
 

@@ -1,5 +1,6 @@
 """Tests of the room without a server: its network, its viewers, its record, what is kept, what is refused."""
 import random
+import re
 import tempfile
 from pathlib import Path
 
@@ -10,7 +11,7 @@ from record import Record, apply
 from library import x3d
 from room import CHECK, KEPT, Room
 from scene import Names
-from seat import digest_of
+from seat import LINES, digest_of
 from served import AT_BUTTON, scene, scene_file
 from store import Store, millionths, read_inputs
 
@@ -97,6 +98,32 @@ def test_a_killed_viewer_restarts_from_its_snapshot():
     assert turned.viewer(first).trace() == turned.viewer(second).trace()
 
 
+def was_started(world):
+    """Whether the motor of the door was started once: a click does so."""
+    return bool(re.search(r"\bstartTime [1-9]", world.scene()))
+
+
+def test_a_saved_world_keeps_the_last_lines_alone():
+    run = Recorded()
+    first, second = run.room.join(), run.room.join()
+    run.turns(30)
+    run.click(first)
+    run.turns(LINES // 2)
+    assert "Door.translation 1.1 0 0\n" in run.viewer(second).trace()
+    run.turns(3 * CHECK)
+    # One that begins in an older snapshot is equal at the next mark.
+    run.room.kill(second)
+    run.turns(CHECK)
+    run.room.start(second)
+    run.turns(KEPT)
+    run.equal()
+    for world in (run.viewer(first), run.viewer(second), run.record.world):
+        assert world.trace() == "" and was_started(world)
+    # A window that lacks more gets all; one that lacks less, what was changed.
+    number = run.record.world.applied()
+    assert [run.record.news(number - lacks)[0] for lacks in (1, LINES, LINES + 1)] == ["news", "news", "scene"]
+
+
 def test_a_late_window_joins_by_pieces():
     turned = Turned()
     turned.room.join()
@@ -124,7 +151,7 @@ def test_a_world_without_windows_rests_and_is_kept():
     late = turned.room.join()
     turned.turns(60)
     assert turned.viewer(late).applied() == numbered + 60, turned.room.status()
-    assert "Door.translation 1.1 0 0\n" in turned.viewer(late).trace()
+    assert was_started(turned.viewer(late))
 
 
 def test_a_window_is_told_what_changed():
@@ -247,6 +274,7 @@ def test_a_replay_shows_each_input_by_the_nearest_snapshot():
         plain = x3d.World(record.text)
         for each in range(1, number + 1):
             apply(plain, record.inputs.at(each))
+        plain.forget_below(number + 1)
         assert player.world.applied() == number and player.news()[0] == "scene"
         assert digest_of(player.world.snapshot(5)) == digest_of(plain.snapshot(5)), number
 
@@ -286,7 +314,7 @@ def test_a_run_is_kept_and_goes_on():
         for turn in range(3 * CHECK):
             room.turn(run.time + 33_333 * (turn + 1))
         assert room.seats[first].viewer.applied() == room.seats[second].viewer.applied() == 183 + 3 * CHECK
-        assert "Door.translation 1.1 0 0\n" in room.seats[first].viewer.trace()
+        assert was_started(room.seats[first].viewer)
         # What is offered then is numbered, though the server was started in the same second.
         for down in (False, True, False):
             room.seats[first].viewer.offer(down, x3d.Aim(AT_BUTTON[:3], AT_BUTTON[3:]))

@@ -20,7 +20,12 @@ FEWEST_JOBS = 100
 QUICK_JOBS = 50
 FILLER = b"\xaa"
 # The sizes of structs, and the places in them that hold nothing: as in bindings/js/tests/caller.js.
-UNUSED = {"struct x3d_change *": (16, [7]), "struct x3d_datagram *": (72, [3, 12, 13, 14, 15])}
+LAST = [12, 13, 14, 15]
+UNUSED = {
+    **{"struct x3d_change *": (16, [7]), "struct x3d_datagram *": (72, [3])},
+    **{"struct x3d_saved *": (16, LAST), "struct x3d_taken *": (16, LAST)},
+    "struct x3d_reply *": (24, [20, 21, 22, 23]),
+}
 # What the job prints that the page shows.
 DOOR = (TOP / "examples/door.job.stdout").read_bytes()
 # Node until version 23 has memories of 64 bits by this flag alone.

@@ -71,6 +71,19 @@ static void must(bool holds, const char *what) {
     must(x3d_##OF##_list_changed(o, 1) == X3D_DONE &&                                              \
              x3d_##OF##_copy_changed(o, changes, 0, &count) == X3D_DONE && count == 0,             \
          "a field is listed that no later input set");                                             \
+    must(x3d_##OF##_forget_below(o, 3) == X3D_RANGE &&                                             \
+             x3d_##OF##_forget_below(o, 1) == X3D_DONE &&                                          \
+             x3d_##OF##_list_changed(o, 0) == X3D_DONE &&                                          \
+             x3d_##OF##_copy_changed(o, changes, 16, &count) == X3D_DONE && count == 1,            \
+         "a line of an input is forgotten that isn't below");                                      \
+    must(x3d_##OF##_forget_below(o, 2) == X3D_DONE && x3d_##OF##_make_trace(o, 0) == X3D_DONE &&   \
+             x3d_##OF##_copy_text(o, NULL, 0, &count) == X3D_DONE && count == 0 &&                 \
+             x3d_##OF##_list_changed(o, 0) == X3D_DONE &&                                          \
+             x3d_##OF##_copy_changed(o, changes, 0, &count) == X3D_DONE && count == 0,             \
+         "a line of an input below is left");                                                      \
+    must(x3d_##OF##_make_value(o, DOOR, translation) == X3D_DONE, "the door has no place then");   \
+    OF##_text(o, text, sizeof text);                                                               \
+    must(strcmp(text, "0 2.5 0") == 0, "the scene is another without its lines");                  \
   }
 CALLS(world)
 CALLS(viewer)
@@ -82,7 +95,7 @@ int main(void) {
   struct x3d_work work;
   struct x3d_taken taken;
   uint8_t line[64], packet[X3D_PACKET];
-  uint32_t number;
+  uint64_t number;
   size_t wanted = 777;
   const uint8_t *text = (const uint8_t *)scene;
   must(x3d_world_open(&world, text, sizeof scene - 1, line, sizeof line, &wanted) == X3D_DONE &&

@@ -53,9 +53,10 @@ static void takes_from_one_alone(struct x3d_host *host, struct x3d_viewer *one) 
   uint8_t out[X3D_PACKET];
   struct x3d_aim aim = {1, -2, 3, 0, 0, -1000000};
   struct x3d_reply reply = {77, 77, 77};
-  uint32_t number, before, after, heard = 77;
+  uint32_t offer;
+  uint64_t before, after, heard = 77;
   size_t length;
-  must(x3d_viewer_offer(one, true, &aim, &number) == X3D_DONE &&
+  must(x3d_viewer_offer(one, true, &aim, &offer) == X3D_DONE &&
            x3d_viewer_resend(one, 0, out, sizeof out, &length) == X3D_DONE,
        "there is no offer");
   struct x3d_datagram d = read(out, length);
@@ -84,12 +85,12 @@ static void takes_from_one_alone(struct x3d_host *host, struct x3d_viewer *one) 
 }
 
 /* The viewer has the first n inputs, and asks. */
-static void has(struct x3d_host *host, struct x3d_viewer *viewer, uint32_t n) {
+static void has(struct x3d_host *host, struct x3d_viewer *viewer, uint64_t n) {
   uint8_t out[X3D_PACKET];
   struct x3d_taken taken;
   struct x3d_reply reply;
   size_t length;
-  for (uint32_t k = 1; k <= n; k++)
+  for (uint64_t k = 1; k <= n; k++)
     must(x3d_host_packet(host, k, out, sizeof out, &length) == X3D_DONE &&
              x3d_viewer_take(viewer, out, length, &taken) == X3D_DONE,
          "an input isn't taken");
@@ -99,7 +100,7 @@ static void has(struct x3d_host *host, struct x3d_viewer *viewer, uint32_t n) {
 
 static void drops_what_all_have(struct x3d_host *host, struct x3d_viewer *zero,
                                 struct x3d_viewer *one) {
-  uint32_t floor, heard;
+  uint64_t floor, heard;
   must(x3d_host_keep(host, 0) == X3D_DONE && x3d_host_floor(host, &floor) == X3D_DONE && floor == 1,
        "inputs are dropped that a viewer asked for");
   has(host, one, 8);
@@ -139,7 +140,7 @@ int main(void) {
   struct x3d_host host = X3D_NONE;
   struct x3d_viewer viewers[2] = {X3D_NONE, X3D_NONE};
   uint8_t line[64];
-  uint32_t number;
+  uint64_t number;
   size_t wanted;
   must(x3d_host_open(&host, scene, sizeof scene - 1, 2) == X3D_DONE, "there is no host");
   for (uint8_t who = 0; who < 2; who++)

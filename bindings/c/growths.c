@@ -11,7 +11,7 @@ static int run(void) {
   struct x3d_aim aim = {0, 0, 10000000, 0, 0, -1000000};
   uint8_t line[64], shot[4096];
   size_t wanted = 0;
-  uint32_t applied = 0;
+  uint64_t applied = 0;
   uint16_t field;
   struct x3d_change changes[64];
   int status =

@@ -31,7 +31,7 @@ static int makes(struct x3d_log *log) {
 }
 
 static int resumes(struct x3d_host *host, struct x3d_log *log) {
-  uint32_t entry;
+  uint64_t entry;
   size_t wanted;
   for (int k = 0; k < 3; k++) {
     int status = x3d_log_read(log, bytes, MOST, &wanted);
@@ -46,7 +46,8 @@ static int resumes(struct x3d_host *host, struct x3d_log *log) {
 
 /* Numbers a clock and stores it. */
 static int stores(struct x3d_host *host, struct x3d_log *log, int64_t time) {
-  uint32_t number, token;
+  uint64_t number;
+  uint32_t token;
   size_t wanted;
   int status = x3d_host_clock(host, time, &number);
   if (status == X3D_MEMORY && told(status)) status = x3d_host_clock(host, time, &number);
@@ -66,7 +67,7 @@ static int stores(struct x3d_host *host, struct x3d_log *log, int64_t time) {
 static int run(void) {
   struct x3d_log log = X3D_NONE;
   struct x3d_host host = X3D_NONE;
-  uint32_t count, before;
+  uint64_t count, before;
   int wrong = 0;
   unlink(path);
   if (!makes(&log) || !resumes(&host, &log)) wrong = 1;

@@ -15,14 +15,14 @@ static int again(int (*call)(struct x3d_host *, void *), struct x3d_host *host, 
 }
 
 static int resumes(struct x3d_host *host, void *length) {
-  uint32_t entry = 7;
+  uint64_t entry = 7;
   int status = x3d_host_resume(host, (const uint8_t *)scene, sizeof scene - 1, 2, bytes,
                                *(size_t *)length, &entry);
   return entry == 7 && !host->at == (status != X3D_DONE) ? status : 255;
 }
 
 static int clocks(struct x3d_host *host, void *time) {
-  uint32_t number, before, after;
+  uint64_t number, before, after;
   int status = x3d_host_count(host, &before);
   status += x3d_host_clock(host, *(int64_t *)time, &number) + x3d_host_count(host, &after);
   return after == before + (status == X3D_DONE) ? status : 255;
@@ -42,7 +42,7 @@ static int appends(struct x3d_host *host, void *given) {
 static int run(void) {
   struct x3d_host host = X3D_NONE;
   struct append append = {0, 0, 0};
-  uint32_t count;
+  uint64_t count;
   int wrong = 0;
   if (!again(resumes, &host, &append.at)) wrong = 1;
   for (int64_t k = 1; k <= CLOCKS && !wrong; k++) {

@@ -17,7 +17,7 @@ static int exchange(struct x3d_host *host, struct x3d_viewer *viewer) {
   if (!told(status) && status != X3D_NOT_FOR_ME) return 3;
   if (x3d_viewer_ask(viewer, bytes, sizeof bytes, &wanted) != X3D_DONE) return 4;
   if (!told(x3d_host_take(host, bytes, wanted, &reply))) return 5;
-  for (uint32_t k = 0; reply.kind == X3D_REPLY_ASKED && k < reply.count; k++) {
+  for (uint64_t k = 0; reply.kind == X3D_REPLY_ASKED && k < reply.count; k++) {
     if (x3d_host_packet(host, reply.number + k, bytes, sizeof bytes, &wanted) != X3D_DONE) return 6;
     if (!told(x3d_viewer_take(viewer, bytes, wanted, &taken))) return 7;
   }
@@ -31,7 +31,8 @@ static int run(void) {
   uint8_t line[64], bytes[X3D_PACKET];
   static uint8_t shot[8192];
   size_t wanted, length = 0;
-  uint32_t number, count, before, gathered, applied;
+  uint64_t number, count, before, applied;
+  uint32_t offer, gathered;
   int wrong = 0, status = x3d_host_open(&host, (const uint8_t *)scene, sizeof scene - 1, 2);
   if (!told(status)) return 20;
   if (status != X3D_DONE) return host.at ? 21 : 0;
@@ -49,7 +50,7 @@ static int run(void) {
     if (!told(status)) wrong = 25;
     if (x3d_host_count(&host, &count) != X3D_DONE || count != before + (status == X3D_DONE))
       wrong = 26;
-    if (viewers[0].at && k < 3 && !told(x3d_viewer_offer(&viewers[0], k == 1, &aim, &number)))
+    if (viewers[0].at && k < 3 && !told(x3d_viewer_offer(&viewers[0], k == 1, &aim, &offer)))
       wrong = 27;
     for (int who = 0; who < 2 && !wrong; who++)
       if (viewers[who].at) wrong = exchange(&host, &viewers[who]);

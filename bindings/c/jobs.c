@@ -46,13 +46,13 @@ static int print_text(struct x3d_world *world) {
 static int apply(struct x3d_world *world, const char *line) {
   struct x3d_aim a;
   struct x3d_work work;
-  uint32_t number;
+  uint64_t number;
   int64_t time;
   unsigned viewer, down;
-  if (sscanf(line, "clock %" SCNu32 " %" SCNd64, &number, &time) == 2)
+  if (sscanf(line, "clock %" SCNu64 " %" SCNd64, &number, &time) == 2)
     return x3d_world_clock(world, number, time, &work);
   if (sscanf(line,
-             "point %" SCNu32 " %" SCNd64 " %u %u %" SCNd64 " %" SCNd64 " %" SCNd64 " %" SCNd64
+             "point %" SCNu64 " %" SCNd64 " %u %u %" SCNd64 " %" SCNd64 " %" SCNd64 " %" SCNd64
              " %" SCNd64 " %" SCNd64,
              &number, &time, &viewer, &down, &a.origin_x, &a.origin_y, &a.origin_z, &a.direction_x,
              &a.direction_y, &a.direction_z) == 10)

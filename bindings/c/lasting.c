@@ -27,7 +27,7 @@ static void must(bool holds, const char *what) {
   exit(1);
 }
 
-static uint8_t resumed(struct x3d_host *host, const struct log *log, uint32_t *entry) {
+static uint8_t resumed(struct x3d_host *host, const struct log *log, uint64_t *entry) {
   return x3d_host_resume(host, (const uint8_t *)text, strlen(text), 2, log->bytes, log->length,
                          entry);
 }
@@ -43,7 +43,7 @@ static uint32_t append(struct x3d_host *host, struct log *log) {
   return token;
 }
 
-static bool shows(struct x3d_host *host, uint32_t number) {
+static bool shows(struct x3d_host *host, uint64_t number) {
   uint8_t out[X3D_PACKET];
   size_t length;
   uint8_t status = x3d_host_packet(host, number, out, sizeof out, &length);
@@ -52,7 +52,7 @@ static bool shows(struct x3d_host *host, uint32_t number) {
 }
 
 /* How many offers of viewer 0 the host's ack tells of. */
-static uint32_t acked(struct x3d_host *host) {
+static uint64_t acked(struct x3d_host *host) {
   uint8_t out[X3D_PACKET];
   size_t length;
   struct x3d_datagram read;
@@ -72,7 +72,8 @@ static void offers(struct x3d_host *host, struct x3d_viewer *viewer) {
 
 static void shows_what_is_stored(struct x3d_host *host, struct x3d_viewer *viewer,
                                  struct log *log) {
-  uint32_t entry = 77, number, token, again;
+  uint64_t entry = 77, number;
+  uint32_t offer, token, again;
   size_t wanted;
   uint8_t small[MARK];
   struct x3d_aim aim = {1, -2, 3, 0, 0, -1000000};
@@ -80,7 +81,7 @@ static void shows_what_is_stored(struct x3d_host *host, struct x3d_viewer *viewe
   must(x3d_host_pending(host, &token, NULL, 0, &wanted) == X3D_DONE && wanted == 0,
        "bytes of nothing");
   must(x3d_host_clock(host, 5000000, &number) == X3D_DONE && number == 1, "no clock");
-  must(x3d_viewer_offer(viewer, true, &aim, &number) == X3D_DONE, "no offer");
+  must(x3d_viewer_offer(viewer, true, &aim, &offer) == X3D_DONE, "no offer");
   offers(host, viewer);
   int64_t time;
   must(x3d_host_count(host, &number) == X3D_DONE && number == 2, "two inputs aren't numbered");
@@ -108,7 +109,8 @@ static void shows_what_is_stored(struct x3d_host *host, struct x3d_viewer *viewe
 
 /* It is killed while the second append is in doubt: all of it or nothing is in the log. */
 static void goes_on(struct x3d_host *host, struct x3d_viewer *viewer, struct log *log) {
-  uint32_t entry, number, token;
+  uint64_t entry, number;
+  uint32_t token;
   size_t wanted;
   must(x3d_host_pending(host, &token, NULL, 0, &wanted) == X3D_ROOM, "the append is forgotten");
   must(x3d_host_stored(host, token, X3D_APPEND_DOUBT) == X3D_DONE && !host->at,
@@ -129,7 +131,7 @@ static void goes_on(struct x3d_host *host, struct x3d_viewer *viewer, struct log
        "a taken host goes on");
 }
 
-static uint8_t refused(const struct log *log, uint32_t *entry) {
+static uint8_t refused(const struct log *log, uint64_t *entry) {
   struct x3d_host host = X3D_NONE;
   *entry = 77;
   uint8_t status = resumed(&host, log, entry);
@@ -139,7 +141,7 @@ static uint8_t refused(const struct log *log, uint32_t *entry) {
 
 static void names_what_is_wrong(const struct log *log) {
   struct log other = *log;
-  uint32_t entry;
+  uint64_t entry;
   other.bytes[0] ^= 1;
   must(refused(&other, &entry) == X3D_WRONG_SCENE && entry == 77, "the log of another scene");
   other = *log;

@@ -36,8 +36,8 @@ static uint8_t open_as(struct x3d_log *log, const char *scene, uint8_t viewers, 
                       strlen(scene), viewers, place);
 }
 
-static uint32_t count_of(struct x3d_log *log) {
-  uint32_t count;
+static uint64_t count_of(struct x3d_log *log) {
+  uint64_t count;
   must(x3d_log_count(log, &count) == X3D_DONE, "a log isn't counted");
   return count;
 }
@@ -49,14 +49,15 @@ static size_t read_all(struct x3d_log *log) {
 }
 
 static uint8_t resume(struct x3d_host *host, struct x3d_log *log) {
-  uint32_t entry;
+  uint64_t entry;
   size_t length = read_all(log);
   return x3d_host_resume(host, (const uint8_t *)text, sizeof text - 1, 2, bytes, length, &entry);
 }
 
 /* Numbers clocks and stores them. */
 static void store(struct x3d_host *host, struct x3d_log *log, int64_t first, int clocks) {
-  uint32_t number, token;
+  uint64_t number;
+  uint32_t token;
   size_t wanted;
   for (int k = 0; k < clocks; k++)
     must(x3d_host_clock(host, first + k, &number) == X3D_DONE, "no clock");
@@ -67,8 +68,8 @@ static void store(struct x3d_host *host, struct x3d_log *log, int64_t first, int
 
 static void is_made(void) {
   struct x3d_log log = X3D_NONE, second = X3D_NONE;
-  uint32_t count;
-  uint64_t place = 7;
+  uint32_t viewers;
+  uint64_t count, place = 7;
   size_t wanted;
   uint8_t run[RUN], none[RUN] = {0};
   struct stat found;
@@ -80,7 +81,7 @@ static void is_made(void) {
   must(make(&second, 2) == X3D_LOG_BUSY && !second.at, "a log is made twice at once");
   must(open_as(&second, text, 0, &place) == X3D_LOG_BUSY && !second.at, "a log is opened twice");
   must(count_of(&log) == 0 && read_all(&log) == 0, "a new log has entries");
-  must(x3d_log_viewers(&log, &count) == X3D_DONE && count == 2, "other viewers");
+  must(x3d_log_viewers(&log, &viewers) == X3D_DONE && viewers == 2, "other viewers");
   must(x3d_log_copy_run(&log, run, RUN - 1, &wanted) == X3D_ROOM && wanted == RUN, "a short run");
   must(x3d_log_copy_run(&log, run, RUN, &wanted) == X3D_DONE && memcmp(run, none, RUN), "no run");
   must(x3d_log_append(&log, NULL, 0) == X3D_DONE && count_of(&log) == 0, "no bytes are entries");
@@ -120,7 +121,8 @@ static void takes_the_next(void) {
 static void wants_its_mark(void) {
   struct x3d_log log = X3D_NONE;
   struct x3d_host host = X3D_NONE;
-  uint32_t token, number;
+  uint32_t token;
+  uint64_t number;
   size_t wanted;
   unlink(path);
   must(make(&log, 2) == X3D_DONE && resume(&host, &log) == X3D_DONE, "no second log");
@@ -202,8 +204,8 @@ static void has_no_room(void) {
   if (!child) {
     struct x3d_log log = X3D_NONE;
     struct x3d_host host = X3D_NONE;
-    uint32_t number, token;
-    uint64_t place;
+    uint32_t token;
+    uint64_t number, place;
     size_t wanted;
     must(make(&log, 2) == X3D_DONE && resume(&host, &log) == X3D_DONE, "no log without room");
     store(&host, &log, 1, 3);
@@ -231,9 +233,8 @@ static void has_no_room(void) {
 
 static void is_no_other_handle(void) {
   struct x3d_log log = X3D_NONE;
-  uint32_t count = 7;
   size_t wanted = 7;
-  uint64_t place = 7;
+  uint64_t count = 7, place = 7;
   must(make(&log, 2) == X3D_DONE, "no log of misuse");
   struct x3d_host host = {log.at};
   must(x3d_host_count(&host, &count) == X3D_MISUSE, "a log is read as a host");

@@ -30,7 +30,7 @@ static void null_pointers(void) {
   struct x3d_world world = opened();
   struct x3d_work work = {7, 7, 7};
   size_t wanted = 7;
-  uint32_t count = 7;
+  uint64_t count = 7;
   must(x3d_world_applied(NULL, &count) == X3D_MISUSE, "a null handle is read");
   must(x3d_world_applied(&world, NULL) == X3D_MISUSE, "a null place is written");
   must(x3d_world_clock(&world, 1, 1, NULL) == X3D_MISUSE, "a null place is written");
@@ -56,7 +56,8 @@ static void null_pointers(void) {
 static void wrong_handles(void) {
   struct x3d_world world = opened();
   struct x3d_host host = X3D_NONE;
-  uint32_t count = 7;
+  uint64_t count = 7;
+  uint32_t viewers = 7;
   must(x3d_host_open(&host, text(), sizeof scene - 1, 1) == X3D_DONE, "no host");
   struct x3d_world wrong = {host.at};
   struct x3d_viewer viewer = {world.at};
@@ -66,7 +67,7 @@ static void wrong_handles(void) {
   must(x3d_world_open(&wrong, text(), sizeof scene - 1, NULL, 0, &wanted) == X3D_MISUSE,
        "a world is opened in a host");
   x3d_world_close(&wrong);
-  must(x3d_host_viewers(&host, &count) == X3D_DONE && count == 1, "the host changed");
+  must(x3d_host_viewers(&host, &viewers) == X3D_DONE && viewers == 1, "the host changed");
   struct x3d_world copy = world, moved = world;
   world.at = NULL;
   must(x3d_world_applied(&moved, &count) == X3D_DONE && count == 0, "a moved handle is wrong");
@@ -91,7 +92,7 @@ static void tally(struct turn *turn, int status) {
 static void *reads(void *given) {
   struct turn *turn = given;
   for (int k = 0; k < TIMES; k++) {
-    uint32_t count;
+    uint64_t count;
     size_t nodes;
     tally(turn, x3d_world_applied(turn->world, &count));
     tally(turn, x3d_world_node_count(turn->world, &nodes));
@@ -103,7 +104,7 @@ static void *clocks(void *given) {
   struct turn *turn = given;
   for (int k = 0; k < TIMES; k++) {
     struct x3d_work work;
-    uint32_t count;
+    uint64_t count;
     if (x3d_world_applied(turn->world, &count) != X3D_DONE) continue;
     int status = x3d_world_clock(turn->world, count + 1, 1000 * (int64_t)(count + 1), &work);
     tally(turn, status == X3D_NOT_NEXT ? X3D_MISUSE : status);
@@ -132,7 +133,7 @@ static void threads(void) {
   struct turn read = together(&world, reads);
   must(read.done == 2 * THREADS * TIMES, "a read beside another is refused");
   struct turn ticked = together(&world, clocks);
-  uint32_t count = 0;
+  uint64_t count = 0;
   must(x3d_world_applied(&world, &count) == X3D_DONE, "the world is gone");
   must(ticked.others == 0, "two threads are answered something else");
   must(ticked.done == count, "an input is applied without an answer, or the other way round");

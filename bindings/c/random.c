@@ -15,7 +15,7 @@ static const char *names[] = {"translation", "children", "set_fraction", "\xc3\x
 
 int main(int count, char **words) {
   struct x3d_world worlds[4] = {X3D_NONE, X3D_NONE, X3D_NONE, X3D_NONE};
-  uint32_t next[4] = {1, 1, 1, 1};
+  uint64_t next[4] = {1, 1, 1, 1};
   uint8_t bytes[4096], shots[4][4096];
   int64_t numbers[64];
   struct x3d_change changes[8];
@@ -29,11 +29,12 @@ int main(int count, char **words) {
     struct x3d_saved saved;
     struct x3d_aim aim = {coordinate(), coordinate(), coordinate(),
                           coordinate(), coordinate(), coordinate()};
-    uint32_t ordinal, applied;
+    uint32_t ordinal;
+    uint64_t applied;
     uint16_t field;
     int status = 0;
     /* The next input mostly has the next number and a later time. */
-    uint32_t n = below(4) ? next[w] : (uint32_t)number();
+    uint64_t n = below(4) ? next[w] : number();
     int64_t t = below(8) ? (int64_t)n * 400000 : (int64_t)any();
     switch (below(26)) {
     case 0:
@@ -61,8 +62,8 @@ int main(int count, char **words) {
       next[w] += status == X3D_DONE;
       break;
     case 10: status = x3d_world_meet(world, &aim, &met); break;
-    case 11: status = x3d_world_make_trace(world, (uint32_t)number()); break;
-    case 12: status = x3d_world_make_changes(world, (uint32_t)number()); break;
+    case 11: status = x3d_world_make_trace(world, number()); break;
+    case 12: status = x3d_world_make_changes(world, number()); break;
     case 13: status = x3d_world_make_scene(world); break;
     case 14: status = x3d_world_make_type(world, (uint32_t)number()); break;
     case 15: status = x3d_world_make_label(world, (uint32_t)number()); break;
@@ -93,8 +94,9 @@ int main(int count, char **words) {
       break;
     }
     case 25:
-      status = x3d_world_list_changed(world, (uint32_t)number()) +
-               x3d_world_copy_changed(world, changes, below(8), &wanted);
+      if (!below(8)) status = x3d_world_forget_below(world, number());
+      status += x3d_world_list_changed(world, number()) +
+                x3d_world_copy_changed(world, changes, below(8), &wanted);
       break;
     case 23: {
       int from = (int)below(4);

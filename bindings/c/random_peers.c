@@ -44,6 +44,7 @@ int main(int count, char **words) {
   struct x3d_datagram datagram;
   size_t wanted, shot_length = 0, log_length = 0, length, n;
   uint32_t told, token = 0;
+  uint64_t input;
   uint16_t field;
   int64_t time = 0;
   long calls = count > 1 ? atol(words[1]) : 100000, done = 0;
@@ -71,7 +72,7 @@ int main(int count, char **words) {
     case 2:
     case 3:
       time += below(8) ? (int64_t)below(100000) : -5;
-      status = x3d_host_clock(host, below(16) ? time : (int64_t)any(), &told);
+      status = x3d_host_clock(host, below(16) ? time : (int64_t)any(), &input);
       break;
     case 4:
     case 5:
@@ -79,11 +80,11 @@ int main(int count, char **words) {
       length = some(bytes);
       status = x3d_host_take(host, bytes, length, &reply);
       if (status == X3D_DONE && reply.kind == X3D_REPLY_ASKED)
-        for (uint32_t i = 0; i < reply.count; i++)
+        for (uint64_t i = 0; i < reply.count; i++)
           keep(x3d_host_packet(host, reply.number + i, out, sizeof out, &wanted), out, wanted);
       break;
     case 7:
-      status = x3d_host_packet(host, (uint32_t)number(), out, room, &wanted);
+      status = x3d_host_packet(host, number(), out, room, &wanted);
       keep(status, out, wanted);
       break;
     case 8:
@@ -91,15 +92,15 @@ int main(int count, char **words) {
       keep(status, out, wanted);
       break;
     case 9:
-      status =
-          x3d_host_floor(host, &told) + x3d_host_count(host, &told) + x3d_host_viewers(host, &told);
+      status = x3d_host_floor(host, &input) + x3d_host_count(host, &input) +
+               x3d_host_viewers(host, &told);
       break;
     case 10:
       status = x3d_host_floor_packet(host, out, room, &wanted);
       keep(status, out, wanted);
       break;
     case 11:
-      if (!below(16)) status = x3d_host_drop_below(host, (uint32_t)number());
+      if (!below(16)) status = x3d_host_drop_below(host, number());
       break;
     case 12:
       if (!below(4) || !viewer->at)
@@ -110,7 +111,7 @@ int main(int count, char **words) {
       if (!below(64)) x3d_viewer_close(viewer);
       break;
     case 14:
-      status = x3d_viewer_applied(viewer, &told) + x3d_viewer_boot(viewer, &told) +
+      status = x3d_viewer_applied(viewer, &input) + x3d_viewer_boot(viewer, &told) +
                x3d_viewer_waiting(viewer, &told);
       break;
     case 15:
@@ -139,7 +140,7 @@ int main(int count, char **words) {
       break;
     case 25:
       status = x3d_viewer_rewind(viewer, (uint32_t)number(), shot,
-                                 below(4) ? shot_length : below(shot_length + 1), &told);
+                                 below(4) ? shot_length : below(shot_length + 1), &input);
       break;
     case 26:
       status = x3d_viewer_piece_count(viewer, shot, shot_length, &told);
@@ -155,13 +156,13 @@ int main(int count, char **words) {
       length = some(bytes);
       status = x3d_viewer_gather(viewer, bytes, length, &told);
       break;
-    case 29: status = x3d_viewer_join(viewer, (uint32_t)number(), &told); break;
+    case 29: status = x3d_viewer_join(viewer, (uint32_t)number(), &input); break;
     case 30:
       if (!below(8)) status = x3d_viewer_forget(viewer);
       break;
     case 31:
-      status = x3d_viewer_make_trace(viewer, (uint32_t)number()) +
-               x3d_viewer_make_changes(viewer, (uint32_t)number()) + x3d_viewer_make_scene(viewer);
+      status = x3d_viewer_make_trace(viewer, number()) + x3d_viewer_make_changes(viewer, number()) +
+               x3d_viewer_make_scene(viewer);
       status += x3d_viewer_make_type(viewer, (uint32_t)number()) +
                 x3d_viewer_make_label(viewer, (uint32_t)number());
       break;
@@ -182,8 +183,9 @@ int main(int count, char **words) {
                 x3d_viewer_node_count(viewer, &n);
       break;
     case 34:
-      status = x3d_viewer_list_changed(viewer, (uint32_t)number()) +
-               x3d_viewer_copy_changed(viewer, changes, below(8), &wanted);
+      if (!below(8)) status = x3d_viewer_forget_below(viewer, number());
+      status += x3d_viewer_list_changed(viewer, number()) +
+                x3d_viewer_copy_changed(viewer, changes, below(8), &wanted);
       break;
     case 35:
       length = some(bytes);
@@ -194,14 +196,14 @@ int main(int count, char **words) {
       status = x3d_host_take_from(host, (uint8_t)below(5), bytes, length, &reply);
       break;
     case 37:
-      status = x3d_host_heard(host, (uint8_t)below(66), &told);
-      if (!below(16)) status += x3d_host_keep(host, (uint32_t)number());
+      status = x3d_host_heard(host, (uint8_t)below(66), &input);
+      if (!below(16)) status += x3d_host_keep(host, number());
       break;
     case 38:
       if (below(8) && host->at) break;
       if (!below(4) && log_length) log[below(log_length)] ^= (uint8_t)(1 << below(8));
       status = x3d_host_resume(host, (const uint8_t *)scene, strlen(scene), (uint8_t)below(66), log,
-                               below(2) ? log_length : below(log_length + 1), &told);
+                               below(2) ? log_length : below(log_length + 1), &input);
       if (status != X3D_DONE) log_length = 0;
       break;
     case 39:

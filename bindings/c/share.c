@@ -72,7 +72,7 @@ static void host_turn(struct x3d_host *host) {
   while ((length = come(HOST, bytes, &from)) > 0) {
     struct x3d_reply reply;
     if (x3d_host_take(host, bytes, length, &reply) != X3D_DONE) continue;
-    for (uint32_t k = 0; reply.kind == X3D_REPLY_ASKED && k < reply.count; k++)
+    for (uint64_t k = 0; reply.kind == X3D_REPLY_ASKED && k < reply.count; k++)
       if (x3d_host_packet(host, reply.number + k, out, sizeof out, &wanted) == X3D_DONE)
         carry(HOST, from, out, wanted);
     if (reply.kind == X3D_REPLY_BELOW &&
@@ -91,7 +91,8 @@ static int viewer_turn(struct x3d_viewer *viewer, int who) {
   int from, behind = 0;
   while ((length = come(who, bytes, &from)) > 0) {
     struct x3d_taken taken;
-    uint32_t gathered, applied, boot;
+    uint32_t gathered, boot;
+    uint64_t applied;
     int status = x3d_viewer_take(viewer, bytes, length, &taken);
     if (status == X3D_DONE) behind |= taken.kind == X3D_TOOK_BEHIND;
     if (status == X3D_NOT_FOR_ME &&
@@ -137,7 +138,8 @@ int main(void) {
   struct x3d_aim aim = {0, 0, 10000000, 0, 0, -1000000};
   uint8_t line[64];
   size_t wanted, length = 0;
-  uint32_t number, count, applied[VIEWERS];
+  uint64_t number, count, applied[VIEWERS];
+  uint32_t offer;
   open_sockets();
   if (x3d_host_open(&host, (const uint8_t *)scene, sizeof scene - 1, VIEWERS) != X3D_DONE)
     stop("there is no host");
@@ -161,7 +163,7 @@ int main(void) {
     if (turn <= CLOCKS && x3d_host_clock(&host, 10000000 + turn * 50000, &number) != X3D_DONE)
       stop("no clock was numbered");
     if (turn == 5 || turn == 6)
-      if (x3d_viewer_offer(&viewers[0], turn == 5, &aim, &number) != X3D_DONE)
+      if (x3d_viewer_offer(&viewers[0], turn == 5, &aim, &offer) != X3D_DONE)
         stop("no point was offered");
     for (int who = 0; who < open; who++)
       if (viewer_turn(&viewers[who], who)) send_pieces(&viewers[0], 0, who, shot, length);
@@ -180,8 +182,8 @@ int main(void) {
       stop("two worlds differ");
   if (!strstr((const char *)first, "Door.translation 1 0 0\n")) stop("the door is not open");
   if (lost < sent / 5) stop("nothing was lost");
-  printf("%u inputs, %ld datagrams, %ld of them lost: three equal worlds of %zu bytes\n", count,
-         sent, lost, length);
+  printf("%llu inputs, %ld datagrams, %ld of them lost: three equal worlds of %zu bytes\n",
+         (unsigned long long)count, sent, lost, length);
   x3d_host_close(&host);
   for (int who = 0; who < VIEWERS; who++) x3d_viewer_close(&viewers[who]);
   for (int k = 0; k <= VIEWERS; k++) close(ends[k]);

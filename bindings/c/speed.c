@@ -141,7 +141,7 @@ int main(void) {
   if (!opened(&big, text)) stop("no world");
   printf("a clock with nothing to do: %.0f ns without a node, ", clocks(&bare, many));
   printf("%.0f ns with 50,000\n", clocks(&big, many));
-  uint32_t count;
+  uint64_t count;
   double begun = now();
   for (uint32_t n = 1; n <= many; n++)
     if (x3d_world_clock(&none, n, n, &work) != X3D_CLOSED) stop("a closed handle was not told");

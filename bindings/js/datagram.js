@@ -15,7 +15,7 @@ function datagramOf(data) {
     kind: KINDS[data.getUint8(0)],
     who: who === NO_VIEWER ? null : who,
     boot: data.getUint32(4, true),
-    number: data.getUint32(8, true),
+    number: Number(data.getBigUint64(8, true)),
     time: data.getBigInt64(16, true),
     down: point === DOWN,
     aim: point === 0 ? null : { origin: [side(0), side(1), side(2)], direction: [side(3), side(4), side(5)] },

@@ -1,6 +1,6 @@
 // The host of a shared world, which numbers inputs.
 import { DONE, Fault, NO_PACKET, RANGE } from "./faults.js";
-import { fits, signed } from "./numbers.js";
+import { fits, ordinal, signed } from "./numbers.js";
 import { bytesOf, Held } from "./reading.js";
 
 const REPLIES = ["Asked", "Numbered", "Repeat", "Ahead", "OldBoot", "Below", "NothingToDo"];
@@ -35,9 +35,9 @@ export class Host extends Held {
   }
 
   _resume(passed) {
-    this._library.data.setUint32(Number(this._library.out), 0, true);
+    this._library.data.setBigUint64(Number(this._library.out), 0n, true);
     const status = this._status("resume", ...passed, this._library.out);
-    if (status !== DONE) throw new Fault(status, this._library.told());
+    if (status !== DONE) throw new Fault(status, Number(this._library.toldWide()));
   }
 
   append() {
@@ -57,7 +57,7 @@ export class Host extends Held {
   }
 
   clock(time) {
-    return this._number("clock", signed(time));
+    return this._ordinal("clock", signed(time));
   }
 
   take(datagram) {
@@ -69,8 +69,8 @@ export class Host extends Held {
 
   /** What the host did with a datagram. */
   _reply() {
-    const [kind, number, count] = [0, 1, 2].map((place) => this._library.told(place));
-    return { kind: REPLIES[kind], number, count };
+    const [number, count] = [0, 1].map((place) => Number(this._library.toldWide(place)));
+    return { kind: REPLIES[this._library.told(4)], number, count };
   }
 
   takeFrom(who, datagram) {
@@ -81,15 +81,15 @@ export class Host extends Held {
   }
 
   heard(who) {
-    return this._number("heard", fits(who, 8)) || null;
+    return this._ordinal("heard", fits(who, 8)) || null;
   }
 
   keep(count) {
-    this._call("keep", fits(count, 32));
+    this._call("keep", ordinal(count));
   }
 
   packet(number) {
-    return packetOrNull(() => this._packet("packet", fits(number, 32)));
+    return packetOrNull(() => this._packet("packet", ordinal(number)));
   }
 
   packets(reply) {
@@ -104,7 +104,7 @@ export class Host extends Held {
   }
 
   floor() {
-    return this._number("floor");
+    return this._ordinal("floor");
   }
 
   floorPacket() {
@@ -112,11 +112,11 @@ export class Host extends Held {
   }
 
   dropBelow(number) {
-    this._call("drop_below", fits(number, 32));
+    this._call("drop_below", ordinal(number));
   }
 
   count() {
-    return this._number("count");
+    return this._ordinal("count");
   }
 
   viewers() {

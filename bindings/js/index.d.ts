@@ -177,6 +177,10 @@ declare abstract class Readable extends Held {
   /** The fields that inputs after number `since` set, each once, with their current values. `since` is 0, or what
    * `applied` was when the world was drawn last. A field that only sends holds no value and is left out. */
   changed(since?: number): Changed[];
+  /** Forgets the lines of the trace of inputs below number `below`, which is at most that of the next input: `trace`,
+   * `changes` and `changed` tell only of lines that are left, and so does a snapshot. Nothing else changes. Faults:
+   * `Spoiled`, `Range`. */
+  forgetBelow(below: number): void;
   /** The current scene, in the Classic encoding. */
   scene(): string;
   /** The number of nodes, which are numbered from 0. */
@@ -242,7 +246,7 @@ export class Part extends Held {
 /** The world of a scene's text, or of a part, before any input. Throws a Refusal if the text is refused. */
 export class World extends Readable {
   constructor(library: Library, scene: Scene | Part);
-  /** Applies a clock: `number` is 1 to 2^20 and the next one, `time` is 1 to 10^18 microseconds and above the last. */
+  /** Applies a clock: `number` is 1 to 2^48 - 1 and the next one, `time` is 1 to 10^18 microseconds and above the last. */
   clock(number: number, time: Whole): Work;
   /** Applies the pointer of viewer `viewer`, 0 to 63, whose button is down or not. */
   point(number: number, time: Whole, viewer: number, down: boolean, aim: Aim): Work;
@@ -285,7 +289,7 @@ export class Host extends Held {
   floorPacket(): Uint8Array;
   /** Drops the inputs below `number`, which becomes the floor. Faults: `FloorBack`, `FloorAhead`. */
   dropBelow(number: number): void;
-  /** The number of inputs that are numbered: at most 2^20. */
+  /** The number of inputs that are numbered: at most 2^48 - 1. */
   count(): number;
   /** The number of viewers. */
   viewers(): number;

@@ -8,6 +8,13 @@ export function fits(number, bits) {
   return number;
 }
 
+/** The number of an input, or of inputs, as C passes it: a whole number that is exact. */
+export function ordinal(number) {
+  if (typeof number !== "number") throw new TypeError("a number is wanted");
+  if (!Number.isSafeInteger(number) || number < 0) throw new Fault(RANGE);
+  return BigInt(number);
+}
+
 /** A whole number of 64 bits with a sign: a BigInt, or a number that is exact. */
 export function signed(number) {
   if (typeof number !== "bigint" && typeof number !== "number") throw new TypeError("a number or a BigInt is wanted");

@@ -3,7 +3,7 @@ import { CHANGE_SIZE, changedOf, typeOf } from "./changed.js";
 import { changesOf } from "./changes.js";
 import { CLOSED, DONE, Fault, NO_SUCH_NODE, RANGE, Refusal, SCENE } from "./faults.js";
 import { Library } from "./library.js";
-import { fits, signed } from "./numbers.js";
+import { fits, ordinal, signed } from "./numbers.js";
 
 const HANDLE = 8;
 const LINE = 64;
@@ -66,22 +66,35 @@ export class Held {
     return this._library.told();
   }
 
-  /** Opens what a scene's text and numbers give. */
-  _open(scene, ...numbers) {
-    this._library.lend(bytesOf(scene), (...text) => this._opened("open", [...text, ...numbers], text));
+  /** What a call that writes the number of an input, or of inputs, writes. */
+  _ordinal(name, ...passed) {
+    this._call(name, ...passed, this._library.out);
+    return Number(this._library.toldWide());
   }
 
-  /** Opens what was passed, or throws the refusal, with the instance of the text that was passed. */
-  _opened(name, passed, text = null) {
+  /** Opens what a scene's text and numbers give. */
+  _open(scene, ...numbers) {
+    this._orClosed(() => this._library.lend(bytesOf(scene), (...text) => this._opened("open", [...text, ...numbers], text)));
+  }
+
+  /** Does what opens this, and closes it if that fails. */
+  _orClosed(open) {
     try {
-      const { short, wanted } = this._library;
-      const status = this._status(name, ...passed, short, BigInt(LINE), wanted);
-      if (status === SCENE) throw this._refusal(text);
-      if (status !== DONE) throw new Fault(status);
+      open();
     } catch (error) {
       this.close();
       throw error;
     }
+  }
+
+  /** Opens what was passed, or throws the refusal, with the instance of the text that was passed. */
+  _opened(name, passed, text = null) {
+    this._orClosed(() => {
+      const { short, wanted } = this._library;
+      const status = this._status(name, ...passed, short, BigInt(LINE), wanted);
+      if (status === SCENE) throw this._refusal(text);
+      if (status !== DONE) throw new Fault(status);
+    });
   }
 
   _refusal(text) {
@@ -129,7 +142,7 @@ export class Readable extends Held {
   }
 
   applied() {
-    return this._number("applied");
+    return this._ordinal("applied");
   }
 
   meet(aim) {
@@ -139,17 +152,21 @@ export class Readable extends Held {
   }
 
   trace(first = 0) {
-    return this._text("make_trace", fits(first, 32));
+    return this._text("make_trace", ordinal(first));
   }
 
   changes(first = 0) {
-    return changesOf(this._text("make_changes", fits(first, 32)));
+    return changesOf(this._text("make_changes", ordinal(first)));
   }
 
   changed(since = 0) {
-    this._call("list_changed", fits(since, 32));
+    this._call("list_changed", ordinal(since));
     const fields = this._library.copied((...out) => this._status("copy_changed", ...out), CHANGE_SIZE);
     return changedOf(fields, this._numbers());
+  }
+
+  forgetBelow(below) {
+    this._call("forget_below", ordinal(below));
   }
 
   scene() {
@@ -157,8 +174,7 @@ export class Readable extends Held {
   }
 
   nodeCount() {
-    this._call("node_count", this._library.out);
-    return Number(this._library.toldWide());
+    return this._ordinal("node_count");
   }
 
   roots() {
@@ -213,8 +229,7 @@ export class Readable extends Held {
   }
 
   scriptCount() {
-    this._call("script_count", this._library.out);
-    return Number(this._library.toldWide());
+    return this._ordinal("script_count");
   }
 
   scripts() {

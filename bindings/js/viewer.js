@@ -19,7 +19,7 @@ export class Viewer extends Readable {
   take(datagram) {
     return this._library.lend(datagram, (...bytes) => {
       this._call("take", ...bytes, this._library.out);
-      return { kind: TAKEN[this._library.told(0)], count: this._library.told(1) };
+      return { kind: TAKEN[this._library.told(2)], count: Number(this._library.toldWide(0)) };
     });
   }
 
@@ -50,7 +50,7 @@ export class Viewer extends Readable {
   }
 
   rewind(snapshot, boot) {
-    return this._library.lend(snapshot, (...bytes) => this._number("rewind", fits(boot, 32), ...bytes));
+    return this._library.lend(snapshot, (...bytes) => this._ordinal("rewind", fits(boot, 32), ...bytes));
   }
 
   pieces(snapshot = this.snapshot()) {
@@ -65,7 +65,7 @@ export class Viewer extends Readable {
   }
 
   join(boot) {
-    return this._number("join", fits(boot, 32));
+    return this._ordinal("join", fits(boot, 32));
   }
 
   forget() {

@@ -1,5 +1,5 @@
 // A world.
-import { fits, signed, truth } from "./numbers.js";
+import { fits, ordinal, signed, truth } from "./numbers.js";
 import { Part } from "./part.js";
 import { Readable } from "./reading.js";
 
@@ -17,12 +17,12 @@ export class World extends Readable {
   }
 
   clock(number, time) {
-    this._call("clock", fits(number, 32), signed(time), this._library.out);
+    this._call("clock", ordinal(number), signed(time), this._library.out);
     return this._work();
   }
 
   point(number, time, viewer, down, aim) {
-    const numbers = [fits(number, 32), signed(time), fits(viewer, 8), truth(down)];
+    const numbers = [ordinal(number), signed(time), fits(viewer, 8), truth(down)];
     this._call("point", ...numbers, this._aim(aim), this._library.out);
     return this._work();
   }
@@ -35,7 +35,7 @@ export class World extends Readable {
   load(boot, snapshot) {
     return this._library.lend(snapshot, (...bytes) => {
       this._call("load", fits(boot, 32), ...bytes, this._library.out);
-      return { boot: this._library.told(0), applied: this._library.told(1) };
+      return { boot: this._library.told(2), applied: Number(this._library.toldWide(0)) };
     });
   }
 }

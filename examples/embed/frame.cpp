@@ -117,7 +117,7 @@ private:
   }
 
   x3d_world world_ = X3D_NONE;
-  uint32_t number_ = 0, drawn_ = 0;
+  uint64_t number_ = 0, drawn_ = 0;
   std::vector<x3d_change> changes_;
   std::vector<int64_t> numbers_;
 };

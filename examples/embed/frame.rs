@@ -41,7 +41,7 @@ fn walked(world: &mut World) -> Result<Picture, Fault> {
 /// A world, the number of its inputs, and what the program drew of it.
 struct Game {
     world: World,
-    inputs: u32,
+    inputs: u64,
     time: i64,
     changed: ChangedFields,
     picture: Picture,
@@ -70,7 +70,7 @@ impl Game {
     }
 
     /// Moves the world on by a frame, and draws what inputs set since the last frame.
-    fn frame(&mut self, drawn: u32) -> Result<usize, Fault> {
+    fn frame(&mut self, drawn: u64) -> Result<usize, Fault> {
         self.time += 16_667;
         self.world.clock(self.inputs + 1, self.time)?;
         self.inputs += 1;

@@ -117,7 +117,7 @@ static void begin_join(struct server *s, uint8_t who) {
 static void answer(struct server *s, uint8_t who, const struct x3d_reply *reply) {
   uint8_t out[X3D_PACKET];
   size_t length;
-  for (uint32_t k = 0; reply->kind == X3D_REPLY_ASKED && k < reply->count; k++)
+  for (uint64_t k = 0; reply->kind == X3D_REPLY_ASKED && k < reply->count; k++)
     if (x3d_host_packet(&s->host, reply->number + k, out, sizeof out, &length) == X3D_DONE)
       send_to(s->end, &s->clients[who], out, length);
   if (reply->kind == X3D_REPLY_BELOW &&
@@ -150,8 +150,8 @@ static void take(struct server *s, const struct sockaddr_in *from, const uint8_t
 
 /* The number that a client asked from last; 0 if it hasn't asked. Only clients that have asked hold
  * the floor back, so the first clock waits for two of them. */
-static uint32_t heard(struct server *s, uint8_t who) {
-  uint32_t asked;
+static uint64_t heard(struct server *s, uint8_t who) {
+  uint64_t asked;
   must(x3d_host_heard(&s->host, who, &asked) == X3D_DONE, "the host is closed");
   return asked;
 }
@@ -169,7 +169,7 @@ static void serve(int end) {
   struct server s = {.host = X3D_NONE, .end = end, .boots = 1};
   struct sockaddr_in from;
   uint8_t bytes[X3D_PACKET];
-  uint32_t number, floor;
+  uint64_t number, floor;
   size_t length;
   must(x3d_host_open(&s.host, scene, sizeof scene - 1, CLIENTS) == X3D_DONE, "there is no host");
   int clocks = 0;
@@ -203,7 +203,8 @@ struct client {
   struct sockaddr_in server;
   uint8_t who, boot;
   bool is_behind, is_over;
-  uint32_t drawn, joins, tick;
+  uint64_t drawn;
+  uint32_t joins, tick;
   /* The snapshot that is given, the number of its pieces, and the next one. */
   uint8_t shot[1 << 20];
   size_t size;
@@ -229,7 +230,8 @@ static void give(struct client *c) {
 }
 
 static void gather(struct client *c, const uint8_t *bytes, size_t length) {
-  uint32_t gathered, applied;
+  uint32_t gathered;
+  uint64_t applied;
   if (x3d_viewer_gather(&c->viewer, bytes, length, &gathered) != X3D_DONE) return;
   /* It is of a newer snapshot than the one that was begun, some of whose pieces were lost. */
   if (gathered == X3D_GATHERED_OTHER) {

@@ -12,10 +12,11 @@ const TURN = 33, ASKS = 4, OFFERS = 8;
 const PATIENCE = 3, LEAST = 70, MOST = 1000;
 /* A host answers an ask with at most this many inputs. */
 const ANSWER = 64;
-/* What a window that was hidden lacks is shown at once, if it is more inputs than this. */
+/* What a window that was hidden lacks is shown at once, if it is more inputs than this. A viewer that is saved keeps the
+   lines of its trace of as many inputs, as seat.py has it: the digest of a world has its trace. */
 const LATE = 300;
-/* Bytes of datagrams: the tag, and of an input its number, its kind, who, down and a ray (crates/share_wire). */
-const TAG = 5, INPUT = 1, PIECE = 6, NUMBER = 38, KIND = 50, WHO = 51, DOWN = 52, RAY = 53;
+/* The tag of a datagram, and the tags of a piece (crates/share_wire). */
+const TAG = 5, PIECES = [6, 12];
 
 export const own = {
   // The package, the library that it loaded, why it didn't, and the viewer.
@@ -92,8 +93,9 @@ async function start({ who, boot, life, text }) {
   turn();
 }
 
-/* Saves the viewer where it stands; its digest is told. */
+/* Saves the viewer where it stands, without old lines of its trace; its digest is told. */
 function mark(viewer) {
+  viewer.forgetBelow(Math.max(0, viewer.applied() + 1 - LATE));
   own.saved = viewer.snapshot();
   Object.assign(own, { at: viewer.applied(), digest: digestOf(own.saved) });
   stand(viewer);
@@ -110,10 +112,9 @@ async function stand(viewer) {
 
 /* A pointer that an input has: who, whether the button is down, and the ray. */
 function pointIn(datagram) {
-  const view = new DataView(datagram.buffer, datagram.byteOffset, datagram.byteLength);
-  if (datagram[TAG] !== INPUT || !datagram[KIND]) return null;
-  const ray = Array.from({ length: 6 }, (_, k) => Number(view.getBigInt64(RAY + 8 * k)));
-  return { number: view.getUint32(NUMBER), point: [datagram[WHO], datagram[DOWN], ray] };
+  const { kind, number, who, down, aim } = own.x3d.datagram(own.library, datagram);
+  if (kind !== "Input" || !aim) return null;
+  return { number, point: [who, down ? 1 : 0, [...aim.origin, ...aim.direction].map(Number)] };
 }
 
 /* Something came: the first since the last ask says how long an answer takes. */
@@ -124,7 +125,7 @@ function hear() {
 
 /* A datagram of the host. */
 function take(viewer, datagram) {
-  if (datagram[TAG] === PIECE) {
+  if (PIECES.includes(datagram[TAG])) {
     gather(viewer, datagram);
     return;
   }

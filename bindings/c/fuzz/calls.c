@@ -37,9 +37,9 @@ static struct x3d_aim aimed(struct schedule *s) {
 static void input(struct x3d_world both[2], struct schedule *s, int64_t *time) {
   struct x3d_work a = {0}, b = {0};
   uint8_t how = (uint8_t)taken(s, 1), one, other;
-  uint32_t number = 0;
+  uint64_t number = 0;
   must(x3d_world_applied(&both[0], &number) == X3D_DONE);
-  number = how & 1 ? (uint32_t)few(s) : number + 1;
+  number = how & 1 ? few(s) : number + 1;
   int64_t t = how & 2 ? (int64_t)few(s) : *time + 1 + (int64_t)taken(s, 1) * 50000;
   if (how & 4) {
     one = x3d_world_clock(&both[0], number, t, &a);

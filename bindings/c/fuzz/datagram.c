@@ -24,7 +24,8 @@ static void begin(struct shared *s, const char *scene) {
 /* What a viewer makes of a datagram. A snapshot whose pieces are whole is joined, if it is one. */
 static void take(struct x3d_viewer *viewer, const uint8_t *bytes, size_t length) {
   struct x3d_taken taken;
-  uint32_t gathered, boot, applied, before, after;
+  uint32_t gathered, boot;
+  uint64_t applied, before, after;
   must(x3d_viewer_applied(viewer, &before) == X3D_DONE);
   uint8_t status = x3d_viewer_take(viewer, bytes, length, &taken);
   must(status != X3D_MEMORY && status != X3D_CLOSED);
@@ -50,7 +51,7 @@ static void all_take(struct shared *s, const uint8_t *bytes, size_t length) {
 static void host_takes(struct shared *s, const uint8_t *bytes, size_t length) {
   uint8_t out[X3D_PACKET];
   size_t wanted;
-  uint32_t count, floor, new_count, new_floor;
+  uint64_t count, floor, new_count, new_floor;
   struct x3d_reply reply;
   must(x3d_host_count(&s->host, &count) == X3D_DONE &&
        x3d_host_floor(&s->host, &floor) == X3D_DONE);
@@ -61,7 +62,7 @@ static void host_takes(struct shared *s, const uint8_t *bytes, size_t length) {
        new_count == count + (status == X3D_DONE && reply.kind == X3D_REPLY_NUMBERED));
   if (status != X3D_DONE) return;
   if (reply.kind == X3D_REPLY_ASKED) must(reply.count <= 64);
-  for (uint32_t k = 0; reply.kind == X3D_REPLY_ASKED && k < reply.count; k++) {
+  for (uint64_t k = 0; reply.kind == X3D_REPLY_ASKED && k < reply.count; k++) {
     must(x3d_host_packet(&s->host, reply.number + k, out, sizeof out, &wanted) == X3D_DONE);
     all_take(s, out, wanted);
   }
@@ -73,7 +74,7 @@ static void host_takes(struct shared *s, const uint8_t *bytes, size_t length) {
 static void goes_on(struct shared *s, uint8_t how, uint8_t much) {
   uint8_t out[X3D_PACKET];
   size_t wanted;
-  uint32_t number;
+  uint64_t number;
   if (how & 1) {
     s->time += 1 + much * 50000;
     x3d_host_clock(&s->host, s->time, &number);
@@ -109,7 +110,7 @@ static void goes_through(struct shared *s, const uint8_t *data, size_t size) {
       continue;
     }
     size_t length = much < size ? much : size;
-    packet[TAG] = how & 7;
+    packet[TAG] = how & 15;
     memcpy(packet + HEAD, data, length);
     const uint8_t *sent = how & 128 ? packet + HEAD : packet;
     size_t sent_length = how & 128 ? length : HEAD + length;

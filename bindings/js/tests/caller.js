@@ -6,12 +6,21 @@ const KEPT = 64;
 const GUARD = 16;
 const FILLER = 0xaa;
 const HANDLE = /^(?:const )?struct x3d_(world|host|viewer|part) \*$/;
-const SIZES = { x3d_work: 24, x3d_met: 16, x3d_saved: 8, x3d_reply: 12, x3d_taken: 8, x3d_datagram: 72, x3d_field: 2 };
+const SIZES = { x3d_work: 24, x3d_met: 16, x3d_saved: 16, x3d_reply: 24, x3d_taken: 16, x3d_datagram: 72, x3d_field: 2 };
 /** The sizes of items that are copied as a list, and the places in a struct that hold nothing. */
 const ITEMS = { "uint8_t *": 1, "int64_t *": 8, "struct x3d_change *": 16 };
-const UNUSED = { "struct x3d_change *": [16, [7]], "struct x3d_datagram *": [72, [3, 12, 13, 14, 15]] };
-const WIDTHS = { "uint32_t *": 4, "uint16_t *": 2, "size_t *": 8, "int64_t *": 8 };
-const NAMES = ["translation", "children", "set_fraction", "\u00e9", ""];
+const LAST = [12, 13, 14, 15];
+const UNUSED = {
+  "struct x3d_change *": [16, [7]],
+  "struct x3d_datagram *": [72, [3]],
+  "struct x3d_saved *": [16, LAST],
+  "struct x3d_taken *": [16, LAST],
+  "struct x3d_reply *": [24, [20, 21, 22, 23]],
+};
+const WIDTHS = { "uint64_t *": 8, "uint32_t *": 4, "uint16_t *": 2, "size_t *": 8, "int64_t *": 8 };
+const NAMES = ["translation", "children", "set_fraction", "Door", "\u00e9", ""];
+/** How many numbers a parameter of this name usually has, from 0: others are mostly refused. */
+const FEW = { k: 2, kind: 2, token: 4, answer: 3 };
 const OF_SNAPSHOTS = /_(load|rewind|piece|piece_count)$/;
 const encoder = new TextEncoder();
 
@@ -64,7 +73,7 @@ export class Caller {
   /** How many inputs a world has had, as a call on the side says; 0 if there is none. */
   #applied(handle) {
     const status = this.library.calls.world.applied(BigInt(handle), this.library.out);
-    return status === 0 ? this.library.told() : 0;
+    return status === 0 ? Number(this.library.toldWide()) : 0;
   }
 
   #number(type, name, handle) {
@@ -72,9 +81,10 @@ export class Caller {
     if (type === "int64_t") return usual ? (this.#time += BigInt(this.#below(100_000))) : BigInt(this.#below(2 ** 32)) << 31n;
     if (type === "bool") return this.#below(2);
     if (name === "boot" && usual) return ++this.#boot;
-    if (name === "number" && usual && handle) return this.#applied(handle) + 1;
+    if (name === "number" && usual && handle) return BigInt(this.#applied(handle) + 1);
     const bits = { uint8_t: 8, uint16_t: 16 }[type] ?? 32;
-    const found = this.#below(this.#below(4) ? 12 : 2 ** bits);
+    const found = this.#below(usual && name in FEW ? FEW[name] : this.#below(4) ? 12 : 2 ** bits);
+    if (type === "uint64_t") return BigInt(found) << BigInt(usual ? 0 : 31);
     return type === "size_t" ? BigInt(found) : found;
   }
 
@@ -85,6 +95,7 @@ export class Caller {
 
   /** Bytes to pass: mostly as they were made, sometimes with another bit, or cut off. */
   #bytes(call, name) {
+    if (name === "log" && this.#below(4)) return new Uint8Array(0);
     const kept = OF_SNAPSHOTS.test(call) ? this.shots : this.packets;
     const pool = { text: this.scenes, name: NAMES.map((word) => encoder.encode(word)) }[name] ?? kept;
     const scene = name === "text" && this.#below(8) ? this.scenes[0] : null;
@@ -158,7 +169,7 @@ export class Caller {
       this.queue.push(["x3d_viewer_piece", [given[0], bytes, { number: index }, { out: 256, room: 256 }, { out: 8 }]]);
       this.queue.push(["x3d_viewer_gather", null, which]);
     }
-    this.queue.push(["x3d_viewer_join", [given[0], { number: ++this.#boot }, { out: 4 }]]);
+    this.queue.push(["x3d_viewer_join", [given[0], { number: ++this.#boot }, { out: 8 }]]);
   }
 
   /** One call more. */

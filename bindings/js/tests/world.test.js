@@ -40,6 +40,19 @@ test("a click opens the door", () => {
   assert.ok(world.trace(4).includes("4 11.000002 Door.translation 0.5 0 0\n"));
 });
 
+test("a world forgets old lines alone", () => {
+  const [world, whole] = [clicked(), clicked()];
+  for (const each of [world, whole]) each.clock(4, 11_000_002);
+  refused("Range", () => world.forgetBelow(6));
+  world.forgetBelow(4);
+  assert.equal(world.trace(), whole.trace(4));
+  assert.deepEqual(world.changed(3), whole.changed(3));
+  assert.ok(world.snapshot(1).length < whole.snapshot(1).length);
+  for (const each of [world, whole]) each.clock(5, 11_500_002);
+  assert.equal(world.trace(), whole.trace(4));
+  assert.equal(world.scene(), whole.scene());
+});
+
 test("a field that was set again is listed with its current value", () => {
   const world = new World(
     library,
@@ -173,7 +186,10 @@ test("what is refused changes nothing", () => {
   refused("Range", () => world.clock(0, 5));
   refused("Range", () => world.clock(1, 1n << 64n));
   refused("Range", () => world.clock(1, 1.5));
-  refused("Range", () => world.clock(2 ** 32 + 1, 5));
+  refused("NotNext", () => world.clock(2 ** 32 + 1, 5));
+  refused("NotNext", () => world.clock(2 ** 48 - 1, 5));
+  refused("Range", () => world.clock(2 ** 48, 5));
+  refused("Range", () => world.clock(2 ** 53, 5));
   refused("Range", () => world.point(1, 5, 64, false, AIM));
   assert.throws(() => world.clock(1, "5"), TypeError);
   assert.throws(() => world.load(2, "no bytes"), TypeError);

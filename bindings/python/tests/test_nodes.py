@@ -54,6 +54,27 @@ class Nodes(unittest.TestCase):
             call(*passed)
         self.assertEqual(told.exception.name, name)
 
+    def test_a_viewer_forgets_old_lines_alone(self):
+        host, viewer, whole = Host(DOOR, 2), Viewer(DOOR, 0, 1), Viewer(DOOR, 1, 1)
+        carrier = Carrier(host)
+        viewer.offer(True, AIM)
+        viewer.offer(False, AIM)
+        host.clock(10_000_000)
+        carrier.turn(viewer, 0)
+        host.clock(11_000_000)
+        for who, each in enumerate((viewer, whole)):
+            carrier.turn(each, who)
+        self.assertEqual((viewer.applied(), viewer.trace()), (4, whole.trace()))
+        self.refused("Range", viewer.forget_below, 6)
+        viewer.forget_below(4)
+        self.assertEqual(viewer.trace(), whole.trace(4))
+        self.assertNotEqual(viewer.trace(), whole.trace())
+        host.clock(11_500_000)
+        for who, each in enumerate((viewer, whole)):
+            carrier.turn(each, who)
+        self.assertEqual(viewer.trace(), whole.trace(4))
+        self.assertEqual((viewer.changed(4), viewer.scene()), (whole.changed(4), whole.scene()))
+
     def test_what_is_asked_of_a_viewer_is_as_of_a_world(self):
         scene = DOOR + """DEF Count Script {
   url "x3dshare:counter"

@@ -57,6 +57,28 @@ class Worlds(unittest.TestCase):
             call(*passed)
         self.assertEqual(told.exception.name, name)
 
+    def test_a_world_forgets_old_lines_alone(self):
+        world, whole = clicked(), clicked()
+        for each in (world, whole):
+            each.clock(4, 11_000_002)
+        lines, size = whole.trace(), len(whole.snapshot(1))
+        world.forget_below(0)
+        self.assertEqual(world.trace(), lines)
+        self.refused("Range", world.forget_below, 6)
+        world.forget_below(4)
+        self.assertEqual(world.trace(), whole.trace(4))
+        self.assertEqual(world.changed(3), whole.changed(3))
+        self.assertLess(len(world.snapshot(1)), size)
+        world.forget_below(5)
+        self.assertEqual((world.trace(), world.changes(), world.changed()), ("", [], []))
+        for each in (world, whole):
+            each.clock(5, 11_500_002)
+        self.assertEqual(world.trace(), whole.trace(5))
+        self.assertEqual(world.scene(), whole.scene())
+        other = World(DOOR)
+        other.load(2, world.snapshot(1))
+        self.assertEqual((other.trace(), other.scene()), (world.trace(), whole.scene()))
+
     def test_types_names_scripts_and_time(self):
         world = World(COUNT)
         door, count = world.node_named("Door"), world.node_named("Count")

@@ -24,15 +24,15 @@ class RawMet(Structure):
 
 
 class RawSaved(Structure):
-    _fields_ = [("boot", c_uint32), ("applied", c_uint32)]
+    _fields_ = [("applied", c_uint64), ("boot", c_uint32)]
 
 
 class RawReply(Structure):
-    _fields_ = [("kind", c_uint32), ("number", c_uint32), ("count", c_uint32)]
+    _fields_ = [("number", c_uint64), ("count", c_uint64), ("kind", c_uint32)]
 
 
 class RawTaken(Structure):
-    _fields_ = [("kind", c_uint32), ("count", c_uint32)]
+    _fields_ = [("count", c_uint64), ("kind", c_uint32)]
 
 
 class RawChange(Structure):
@@ -55,7 +55,7 @@ class RawDatagram(Structure):
         ("who", c_uint8),
         ("point", c_uint8),
         ("boot", c_uint32),
-        ("number", c_uint32),
+        ("number", c_uint64),
         ("time", c_int64),
         ("aim", RawAim),
     ]
@@ -73,12 +73,12 @@ CALLS = {
     "x3d_world_open": [_WORLD, c_char_p, c_size_t, c_char_p, c_size_t, _SIZE],
     "x3d_world_open_part": [_WORLD, _PART, c_char_p, c_size_t, _SIZE],
     "x3d_world_close": [_WORLD],
-    "x3d_world_applied": [_WORLD, _COUNT],
-    "x3d_world_clock": [_WORLD, c_uint32, c_int64, POINTER(RawWork)],
-    "x3d_world_point": [_WORLD, c_uint32, c_int64, c_uint8, c_bool, POINTER(RawAim), POINTER(RawWork)],
+    "x3d_world_applied": [_WORLD, POINTER(c_uint64)],
+    "x3d_world_clock": [_WORLD, c_uint64, c_int64, POINTER(RawWork)],
+    "x3d_world_point": [_WORLD, c_uint64, c_int64, c_uint8, c_bool, POINTER(RawAim), POINTER(RawWork)],
     "x3d_world_meet": [_WORLD, POINTER(RawAim), POINTER(RawMet)],
-    "x3d_world_make_trace": [_WORLD, c_uint32],
-    "x3d_world_make_changes": [_WORLD, c_uint32],
+    "x3d_world_make_trace": [_WORLD, c_uint64],
+    "x3d_world_make_changes": [_WORLD, c_uint64],
     "x3d_world_make_scene": [_WORLD],
     "x3d_world_make_type": [_WORLD, c_uint32],
     "x3d_world_make_label": [_WORLD, c_uint32],
@@ -96,8 +96,9 @@ CALLS = {
     "x3d_world_list_children": [_WORLD, c_uint32],
     "x3d_world_list_value": [_WORLD, c_uint32, c_uint16],
     "x3d_world_copy_numbers": [_WORLD, POINTER(c_int64), c_size_t, _SIZE],
-    "x3d_world_list_changed": [_WORLD, c_uint32],
+    "x3d_world_list_changed": [_WORLD, c_uint64],
     "x3d_world_copy_changed": [_WORLD, POINTER(RawChange), c_size_t, _SIZE],
+    "x3d_world_forget_below": [_WORLD, c_uint64],
     "x3d_world_load": [_WORLD, c_uint32, c_char_p, c_size_t, POINTER(RawSaved)],
     "x3d_world_script_count": [_WORLD, _SIZE],
     "x3d_world_list_scripts": [_WORLD],
@@ -105,20 +106,20 @@ CALLS = {
     "x3d_world_replace_script": [_WORLD, c_size_t, c_uint8],
     "x3d_host_open": [_HOST, c_char_p, c_size_t, c_uint8],
     "x3d_host_close": [_HOST],
-    "x3d_host_clock": [_HOST, c_int64, _COUNT],
+    "x3d_host_clock": [_HOST, c_int64, POINTER(c_uint64)],
     "x3d_host_take": [_HOST, c_char_p, c_size_t, POINTER(RawReply)],
     "x3d_host_take_from": [_HOST, c_uint8, c_char_p, c_size_t, POINTER(RawReply)],
-    "x3d_host_heard": [_HOST, c_uint8, _COUNT],
-    "x3d_host_keep": [_HOST, c_uint32],
-    "x3d_host_packet": [_HOST, c_uint32, c_char_p, c_size_t, _SIZE],
+    "x3d_host_heard": [_HOST, c_uint8, POINTER(c_uint64)],
+    "x3d_host_keep": [_HOST, c_uint64],
+    "x3d_host_packet": [_HOST, c_uint64, c_char_p, c_size_t, _SIZE],
     "x3d_host_ack": [_HOST, c_uint8, c_char_p, c_size_t, _SIZE],
-    "x3d_host_floor": [_HOST, _COUNT],
+    "x3d_host_floor": [_HOST, POINTER(c_uint64)],
     "x3d_host_floor_packet": [_HOST, c_char_p, c_size_t, _SIZE],
-    "x3d_host_drop_below": [_HOST, c_uint32],
-    "x3d_host_count": [_HOST, _COUNT],
+    "x3d_host_drop_below": [_HOST, c_uint64],
+    "x3d_host_count": [_HOST, POINTER(c_uint64)],
     "x3d_host_viewers": [_HOST, _COUNT],
     "x3d_host_time": [_HOST, POINTER(c_int64)],
-    "x3d_host_resume": [_HOST, c_char_p, c_size_t, c_uint8, c_char_p, c_size_t, POINTER(c_uint32)],
+    "x3d_host_resume": [_HOST, c_char_p, c_size_t, c_uint8, c_char_p, c_size_t, POINTER(c_uint64)],
     "x3d_host_pending": [_HOST, POINTER(c_uint32), c_char_p, c_size_t, _SIZE],
     "x3d_host_stored": [_HOST, c_uint32, c_uint8],
     "x3d_log_make": [_LOG, c_char_p, c_size_t, c_char_p, c_size_t, c_uint8],
@@ -126,12 +127,12 @@ CALLS = {
     "x3d_log_close": [_LOG],
     "x3d_log_append": [_LOG, c_char_p, c_size_t],
     "x3d_log_read": [_LOG, c_char_p, c_size_t, _SIZE],
-    "x3d_log_count": [_LOG, _COUNT],
+    "x3d_log_count": [_LOG, POINTER(c_uint64)],
     "x3d_log_viewers": [_LOG, _COUNT],
     "x3d_log_copy_run": [_LOG, c_char_p, c_size_t, _SIZE],
     "x3d_viewer_open": [_VIEWER, c_char_p, c_size_t, c_uint8, c_uint32, c_char_p, c_size_t, _SIZE],
     "x3d_viewer_close": [_VIEWER],
-    "x3d_viewer_applied": [_VIEWER, _COUNT],
+    "x3d_viewer_applied": [_VIEWER, POINTER(c_uint64)],
     "x3d_viewer_boot": [_VIEWER, _COUNT],
     "x3d_viewer_waiting": [_VIEWER, _COUNT],
     "x3d_viewer_take": [_VIEWER, c_char_p, c_size_t, POINTER(RawTaken)],
@@ -139,15 +140,15 @@ CALLS = {
     "x3d_viewer_resend": [_VIEWER, c_uint32, c_char_p, c_size_t, _SIZE],
     "x3d_viewer_ask": [_VIEWER, c_char_p, c_size_t, _SIZE],
     "x3d_viewer_make_snapshot": [_VIEWER],
-    "x3d_viewer_rewind": [_VIEWER, c_uint32, c_char_p, c_size_t, _COUNT],
+    "x3d_viewer_rewind": [_VIEWER, c_uint32, c_char_p, c_size_t, POINTER(c_uint64)],
     "x3d_viewer_piece_count": [_VIEWER, c_char_p, c_size_t, _COUNT],
     "x3d_viewer_piece": [_VIEWER, c_char_p, c_size_t, c_uint32, c_char_p, c_size_t, _SIZE],
     "x3d_viewer_gather": [_VIEWER, c_char_p, c_size_t, _COUNT],
-    "x3d_viewer_join": [_VIEWER, c_uint32, _COUNT],
+    "x3d_viewer_join": [_VIEWER, c_uint32, POINTER(c_uint64)],
     "x3d_viewer_forget": [_VIEWER],
     "x3d_viewer_meet": [_VIEWER, POINTER(RawAim), POINTER(RawMet)],
-    "x3d_viewer_make_trace": [_VIEWER, c_uint32],
-    "x3d_viewer_make_changes": [_VIEWER, c_uint32],
+    "x3d_viewer_make_trace": [_VIEWER, c_uint64],
+    "x3d_viewer_make_changes": [_VIEWER, c_uint64],
     "x3d_viewer_make_scene": [_VIEWER],
     "x3d_viewer_make_type": [_VIEWER, c_uint32],
     "x3d_viewer_make_label": [_VIEWER, c_uint32],
@@ -164,7 +165,8 @@ CALLS = {
     "x3d_viewer_list_children": [_VIEWER, c_uint32],
     "x3d_viewer_list_value": [_VIEWER, c_uint32, c_uint16],
     "x3d_viewer_copy_numbers": [_VIEWER, POINTER(c_int64), c_size_t, _SIZE],
-    "x3d_viewer_list_changed": [_VIEWER, c_uint32],
+    "x3d_viewer_forget_below": [_VIEWER, c_uint64],
+    "x3d_viewer_list_changed": [_VIEWER, c_uint64],
     "x3d_viewer_copy_changed": [_VIEWER, POINTER(RawChange), c_size_t, _SIZE],
     "x3d_viewer_script_count": [_VIEWER, _SIZE],
     "x3d_viewer_list_scripts": [_VIEWER],
@@ -184,7 +186,7 @@ CALLS = {
 # What those calls answer that answer something else.
 _ANSWERS = {"x3d_version": c_char_p, "x3d_abi": c_uint32, "x3d_status_text": c_char_p}
 # The number of the binary interface that the declarations above are of.
-ABI = 0
+ABI = 1
 
 
 def _path() -> str:

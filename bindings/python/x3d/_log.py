@@ -70,7 +70,7 @@ class Log(Held):
 
     def __len__(self) -> int:
         """The number of entries."""
-        return self._number("count")
+        return self._input("count")
 
     def viewers(self) -> int:
         """The number of viewers that the log was made for."""

@@ -136,7 +136,7 @@ class Host(_Node):
         number of the first wrong entry; `Memory`."""
         host = cls.__new__(cls)
         _Node.__init__(host)
-        host._reply, entry = RawReply(), ctypes.c_uint32()
+        host._reply, entry = RawReply(), ctypes.c_uint64()
         text = scene.encode() if isinstance(scene, str) else bytes(scene)
         status = host._status("resume", text, len(text), fits(viewers, 8), log, len(log), entry)
         if status:
@@ -174,9 +174,9 @@ class Host(_Node):
         """Numbers a clock at a time of 1 to 10^18 microseconds, above that of the last input, and
         tells its number.
 
-        Faults: `WorldFull` (2^20 inputs are numbered), `TimeNotLater`, `TimeRange`, `Memory`;
+        Faults: `WorldFull` (2^48 - 1 inputs are numbered), `TimeNotLater`, `TimeRange`, `Memory`;
         nothing has then changed."""
-        return self._number("clock", signed(time))
+        return self._input("clock", signed(time))
 
     def take(self, datagram: bytes) -> Reply:
         """Takes a datagram of a viewer: an offer is numbered 1 microsecond after the last input.
@@ -198,15 +198,15 @@ class Host(_Node):
     def heard(self, who: int) -> Optional[int]:
         """The highest number that viewer `who` has asked from: it has all inputs below. None if it
         has not asked. A viewer that there isn't: Fault `Range`."""
-        return self._number("heard", fits(who, 8)) or None
+        return self._input("heard", fits(who, 8)) or None
 
     def keep(self, count: int) -> None:
         """Drops the inputs that every viewer that asked has, but for the last `count` of them."""
-        self._call("keep", fits(count, 32))
+        self._call("keep", fits(count, 64))
 
     def packet(self, number: int) -> Optional[bytes]:
         """The datagram of the input of this number, if it is numbered and not below the floor."""
-        return self._packet("packet", fits(number, 32))
+        return self._packet("packet", fits(number, 64))
 
     def packets(self, reply: Reply) -> List[bytes]:
         """What belongs to a reply: the inputs that were asked for, at most 64, or the floor where
@@ -225,7 +225,7 @@ class Host(_Node):
 
     def floor(self) -> int:
         """The number from which on there are datagrams of inputs: 1 at first."""
-        return self._number("floor")
+        return self._input("floor")
 
     def floor_packet(self) -> bytes:
         """The datagram that tells the floor."""
@@ -235,15 +235,15 @@ class Host(_Node):
         """Drops the inputs below this number: their memory is used again or freed.
 
         Faults: `FloorBack` (below the floor), `FloorAhead` (above the number of the next input)."""
-        self._call("drop_below", fits(number, 32))
+        self._call("drop_below", fits(number, 64))
 
     def viewers(self) -> int:
         """How many viewers there are."""
         return self._number("viewers")
 
     def __len__(self) -> int:
-        """How many inputs are numbered: at most 2^20."""
-        return self._number("count")
+        """How many inputs are numbered: at most 2^48 - 1."""
+        return self._input("count")
 
     def __bool__(self) -> bool:
         return True
@@ -318,7 +318,7 @@ class Viewer(_Node, Readable):
 
         Faults: `BootNotNew` (not above its own); then as `World.load`; nothing has then changed,
         but `Memory` spoils it."""
-        return self._number("rewind", fits(boot, 32), snapshot, len(snapshot))
+        return self._input("rewind", fits(boot, 32), snapshot, len(snapshot))
 
     def pieces(self, snapshot: Optional[bytes] = None) -> List[bytes]:
         """The datagrams of a snapshot, or else of its own as it is now, for another viewer that is
@@ -341,7 +341,7 @@ class Viewer(_Node, Readable):
     def join(self, boot: int) -> int:
         """Begins again in the snapshot that was gathered, as `rewind` does. Faults: `NotWhole`,
         then as `rewind`; what was gathered is then kept."""
-        return self._number("join", fits(boot, 32))
+        return self._input("join", fits(boot, 32))
 
     def forget(self) -> None:
         """Lets go what was gathered."""

@@ -140,7 +140,8 @@ class Held:
     def __init__(self) -> None:
         self._handle = Handle()
         # What calls tell is written here: a place for each call anew takes longer than most calls.
-        self._told, self._wanted = ctypes.c_uint32(), ctypes.c_size_t()
+        self._told, self._long = ctypes.c_uint32(), ctypes.c_uint64()
+        self._wanted = ctypes.c_size_t()
 
     def _open(self, text: bytes, *numbers: int) -> None:
         """Opens what a scene's text and numbers give, or raises the refusal."""
@@ -171,6 +172,11 @@ class Held:
         """What a call that tells one number of 32 bits tells."""
         self._call(name, *passed, self._told)
         return self._told.value
+
+    def _input(self, name: str, *passed: Any) -> int:
+        """What a call that tells the number of an input tells, or how many inputs there are."""
+        self._call(name, *passed, self._long)
+        return self._long.value
 
     def _copied(self, name: str) -> bytes:
         """The bytes that a call copies."""
@@ -214,7 +220,7 @@ class Readable(Held):
 
     def applied(self) -> int:
         """How many inputs were applied: the next one has the number behind it."""
-        return self._number("applied")
+        return self._input("applied")
 
     def meet(self, aim: Aim) -> Optional[Meeting]:
         """What a ray would hit; the world stays as it is."""
@@ -225,17 +231,17 @@ class Readable(Held):
     def trace(self, first: int = 0) -> str:
         """The lines of the trace that are of inputs from a number on; from 0 on it is the whole
         trace."""
-        return self._text("make_trace", fits(first, 32))
+        return self._text("make_trace", fits(first, 64))
 
     def changes(self, first: int = 0) -> List[Change]:
         """The same lines by the numbers of nodes and fields."""
-        return [_change(line) for line in _lines(self._text("make_changes", fits(first, 32)))]
+        return [_change(line) for line in _lines(self._text("make_changes", fits(first, 64)))]
 
     def changed(self, since: int = 0) -> List[Changed]:
         """The fields that inputs after number `since` set, each once, with their current values.
         `since` is 0, or what `applied` was when the world was drawn last. A field that only sends
         holds no value and is left out."""
-        self._call("list_changed", fits(since, 32))
+        self._call("list_changed", fits(since, 64))
         self._status("copy_changed", (RawChange * 1)(), 0, self._wanted)
         size = self._wanted.value
         out = (RawChange * (size + 1))()
@@ -245,6 +251,12 @@ class Readable(Held):
             Changed(one.node, one.field, _type(one.value_type), numbers[one.first : one.first + one.count])
             for one in out[:size]
         ]
+
+    def forget_below(self, below: int) -> None:
+        """Forgets the lines of the trace that are of inputs below a number, which is at most that of
+        the next input: `trace`, `changes` and `changed` tell only of those that are left, and so does
+        a snapshot. Nothing else changes. Faults: `Spoiled`, `Range`."""
+        self._call("forget_below", fits(below, 64))
 
     def scene(self) -> str:
         """The text of the scene as it is now."""

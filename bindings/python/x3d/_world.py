@@ -41,16 +41,16 @@ class World(Readable):
         return world
 
     def clock(self, number: int, time: int) -> Work:
-        """Applies a clock: number 1 to 2^20, time 1 to 10^18 microseconds, above that of the last
+        """Applies a clock: number 1 to 2^48 - 1, time 1 to 10^18 microseconds, above that of the last
         input."""
         work = RawWork()
-        self._call("clock", fits(number, 32), signed(time), work)
+        self._call("clock", fits(number, 64), signed(time), work)
         return Work(work.sends, work.deliveries, work.settles)
 
     def point(self, number: int, time: int, viewer: int, down: bool, aim: Aim) -> Work:
         """Applies the pointer of a viewer, 0 to 63, whose button is down or not."""
         work = RawWork()
-        self._call("point", fits(number, 32), signed(time), fits(viewer, 8), down, raw_aim(aim), work)
+        self._call("point", fits(number, 64), signed(time), fits(viewer, 8), down, raw_aim(aim), work)
         return Work(work.sends, work.deliveries, work.settles)
 
     def snapshot(self, boot: int) -> bytes:

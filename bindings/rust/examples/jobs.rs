@@ -31,7 +31,7 @@ fn main() -> Result<(), Box<dyn std::error::Error>> {
     for line in std::str::from_utf8(&job[..at])?.lines() {
         let words: Vec<_> = line.split(' ').collect();
         let n = numbers(&words[1..]);
-        let number = u32::try_from(n[0])?;
+        let number = u64::try_from(n[0])?;
         if words[0] == "clock" {
             world.clock(number, n[1])?;
         } else {

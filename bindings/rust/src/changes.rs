@@ -4,7 +4,7 @@
 /// set again after that: read its value to draw it.
 #[derive(Clone, Copy, Debug, PartialEq, Eq)]
 pub struct Change<'a> {
-    pub input: u32,
+    pub input: u64,
     /// In microseconds.
     pub time: i64,
     pub node: u32,

@@ -18,7 +18,7 @@ pub struct Pointing {
 pub enum Datagram {
     /// From the host: an input. Without a pointer it is a clock.
     Input {
-        number: u32,
+        number: u64,
         time: i64,
         pointing: Option<Pointing>,
     },
@@ -29,13 +29,13 @@ pub enum Datagram {
         pointing: Pointing,
     },
     /// From a viewer: it lacks the inputs from this number on.
-    Ask { who: u8, next: u32 },
+    Ask { who: u8, next: u64 },
     /// From the host: that many offers of this viewer in this boot are numbered.
     Ack { who: u8, boot: u32, count: u32 },
     /// From the host: the floor.
-    Floor(u32),
+    Floor(u64),
     /// From a viewer: a piece of a snapshot.
-    Piece { boot: u32, applied: u32 },
+    Piece { boot: u32, applied: u64 },
 }
 
 impl Datagram {
@@ -71,6 +71,11 @@ fn pointing_of(raw: &RawDatagram) -> Pointing {
     }
 }
 
+/// The number of an offer, or of offers.
+fn offer_number(raw: &RawDatagram) -> u32 {
+    u32::try_from(raw.number).expect("the number of an offer has 32 bits")
+}
+
 fn datagram_of(raw: &RawDatagram) -> Datagram {
     let (who, boot, number) = (raw.who, raw.boot, raw.number);
     match raw.tag {
@@ -81,14 +86,14 @@ fn datagram_of(raw: &RawDatagram) -> Datagram {
         },
         2 => Datagram::Offer {
             boot,
-            number,
+            number: offer_number(raw),
             pointing: pointing_of(raw),
         },
         3 => Datagram::Ask { who, next: number },
         4 => Datagram::Ack {
             who,
             boot,
-            count: number,
+            count: offer_number(raw),
         },
         5 => Datagram::Floor(number),
         _ => Datagram::Piece {

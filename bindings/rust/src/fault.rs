@@ -50,7 +50,7 @@ pub struct LogRefusal {
     /// `WrongScene`, `LogGap`, `NotALog`, `Range` or `Memory`.
     pub fault: Fault,
     /// The number of the first wrong entry, from 1, if an entry is wrong.
-    pub entry: Option<u32>,
+    pub entry: Option<u64>,
 }
 
 impl fmt::Display for LogRefusal {
@@ -117,7 +117,7 @@ pub enum Fault {
     ZeroRay,
     /// There is no such viewer, or the datagram is another viewer's.
     BadViewer,
-    /// The world has 1048576 inputs.
+    /// The world has 2^48 - 1 inputs.
     WorldFull,
     /// The time is above 1000000000000 seconds.
     TimeRange,
@@ -163,7 +163,7 @@ pub enum Fault {
     LogDamaged,
     /// The bytes are not the next entries of this log.
     NotEntries,
-    /// The log would have more than 2^20 entries.
+    /// The log would have more than 2^48 - 1 entries.
     LogFull,
     /// An append failed, and may be stored: drop the log, and open it again.
     InDoubt,
@@ -258,7 +258,7 @@ impl fmt::Display for Fault {
             Fault::BadRange => "a field of the datagram is out of its range",
             Fault::ZeroRay => "the direction is 0 0 0",
             Fault::BadViewer => "there is no such viewer",
-            Fault::WorldFull => "the world has 1048576 inputs",
+            Fault::WorldFull => "the world has 2^48 - 1 inputs",
             Fault::TimeRange => "the time is above 1000000000000 seconds",
             Fault::FloorBack => "the floor is above that",
             Fault::FloorAhead => "there are no inputs up to that",

@@ -10,11 +10,11 @@ use std::ptr;
 pub enum Reply {
     /// These inputs were asked for: `count` of them, at most 64, from number `first` on.
     Asked {
-        first: u32,
-        count: u32,
+        first: u64,
+        count: u64,
     },
     /// The offer is the input of this number.
-    Numbered(u32),
+    Numbered(u64),
     /// The offer has been numbered before.
     Repeat,
     /// An offer before this one has not come yet.
@@ -22,7 +22,7 @@ pub enum Reply {
     /// The offer is of a boot that is over.
     OldBoot,
     /// Inputs were asked for that the host has no more; it has those from this number on.
-    Below(u32),
+    Below(u64),
     NothingToDo,
 }
 
@@ -138,7 +138,7 @@ impl Host {
 
     /// Numbers a clock at a time of 1 to 10^18 microseconds, above that of the last input, and
     /// gives its number.
-    pub fn clock(&mut self, time: i64) -> Result<u32, Fault> {
+    pub fn clock(&mut self, time: i64) -> Result<u64, Fault> {
         let mut number = 0;
         Fault::told(unsafe { raw::x3d_host_clock(&mut self.handle, time, &mut number) })?;
         Ok(number)
@@ -178,19 +178,19 @@ impl Host {
 
     /// The highest number that viewer `who` has asked from: it has all inputs below. `None` if it
     /// has not asked.
-    pub fn heard(&mut self, who: u8) -> Result<Option<u32>, Fault> {
+    pub fn heard(&mut self, who: u8) -> Result<Option<u64>, Fault> {
         let mut asked = 0;
         Fault::told(unsafe { raw::x3d_host_heard(&mut self.handle, who, &mut asked) })?;
         Ok((asked != 0).then_some(asked))
     }
 
     /// Drops the inputs that every viewer that asked has, but for the last `count` of them.
-    pub fn keep(&mut self, count: u32) {
+    pub fn keep(&mut self, count: u64) {
         unsafe { raw::x3d_host_keep(&mut self.handle, count) };
     }
 
     /// The datagram of the input of this number, from the floor on.
-    pub fn packet(&mut self, number: u32) -> Option<Packet> {
+    pub fn packet(&mut self, number: u64) -> Option<Packet> {
         packet(|out, room, wanted| unsafe {
             raw::x3d_host_packet(&mut self.handle, number, out, room, wanted)
         })
@@ -221,7 +221,7 @@ impl Host {
     }
 
     /// The number from which on there are datagrams of inputs: 1 at first.
-    pub fn floor(&mut self) -> u32 {
+    pub fn floor(&mut self) -> u64 {
         let mut number = 0;
         unsafe { raw::x3d_host_floor(&mut self.handle, &mut number) };
         number
@@ -236,12 +236,12 @@ impl Host {
     }
 
     /// Drops the inputs below this number: their memory is used again or freed.
-    pub fn drop_below(&mut self, number: u32) -> Result<(), Fault> {
+    pub fn drop_below(&mut self, number: u64) -> Result<(), Fault> {
         Fault::told(unsafe { raw::x3d_host_drop_below(&mut self.handle, number) })
     }
 
     /// How many inputs are numbered.
-    pub fn count(&mut self) -> u32 {
+    pub fn count(&mut self) -> u64 {
         let mut count = 0;
         unsafe { raw::x3d_host_count(&mut self.handle, &mut count) };
         count

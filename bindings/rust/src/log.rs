@@ -153,7 +153,7 @@ impl Log {
     }
 
     /// The number of entries.
-    pub fn count(&mut self) -> u32 {
+    pub fn count(&mut self) -> u64 {
         let mut count = 0;
         // The handle holds a log, so the call answers.
         unsafe { raw::x3d_log_count(&mut self.handle, &mut count) };

@@ -4,7 +4,7 @@
 use std::ffi::{c_char, c_void};
 
 /// The number of the binary interface that the declarations below are of.
-pub const ABI: u32 = 0;
+pub const ABI: u32 = 1;
 
 #[repr(C)]
 pub struct RawWorld {
@@ -60,23 +60,23 @@ pub struct RawMet {
 #[repr(C)]
 #[derive(Default)]
 pub struct RawSaved {
+    pub applied: u64,
     pub boot: u32,
-    pub applied: u32,
 }
 
 #[repr(C)]
 #[derive(Default)]
 pub struct RawReply {
+    pub number: u64,
+    pub count: u64,
     pub kind: u32,
-    pub number: u32,
-    pub count: u32,
 }
 
 #[repr(C)]
 #[derive(Default)]
 pub struct RawTaken {
+    pub count: u64,
     pub kind: u32,
-    pub count: u32,
 }
 
 /// A field that was set, as C has it.
@@ -104,7 +104,7 @@ pub struct RawDatagram {
     pub who: u8,
     pub point: u8,
     pub boot: u32,
-    pub number: u32,
+    pub number: u64,
     pub time: i64,
     pub aim: RawAim,
 }
@@ -155,11 +155,11 @@ unsafe extern "C" {
         wanted: *mut usize,
     ) -> u8;
     pub fn x3d_world_close(world: *mut RawWorld);
-    pub fn x3d_world_applied(world: *mut RawWorld, count: *mut u32) -> u8;
-    pub fn x3d_world_clock(world: *mut RawWorld, number: u32, time: i64, work: *mut RawWork) -> u8;
+    pub fn x3d_world_applied(world: *mut RawWorld, count: *mut u64) -> u8;
+    pub fn x3d_world_clock(world: *mut RawWorld, number: u64, time: i64, work: *mut RawWork) -> u8;
     pub fn x3d_world_point(
         world: *mut RawWorld,
-        number: u32,
+        number: u64,
         time: i64,
         viewer: u8,
         down: bool,
@@ -167,8 +167,8 @@ unsafe extern "C" {
         work: *mut RawWork,
     ) -> u8;
     pub fn x3d_world_meet(world: *mut RawWorld, aim: *const RawAim, met: *mut RawMet) -> u8;
-    pub fn x3d_world_make_trace(world: *mut RawWorld, first: u32) -> u8;
-    pub fn x3d_world_make_changes(world: *mut RawWorld, first: u32) -> u8;
+    pub fn x3d_world_make_trace(world: *mut RawWorld, first: u64) -> u8;
+    pub fn x3d_world_make_changes(world: *mut RawWorld, first: u64) -> u8;
     pub fn x3d_world_make_scene(world: *mut RawWorld) -> u8;
     pub fn x3d_world_make_type(world: *mut RawWorld, node: u32) -> u8;
     pub fn x3d_world_make_label(world: *mut RawWorld, node: u32) -> u8;
@@ -214,7 +214,8 @@ unsafe extern "C" {
         room: usize,
         wanted: *mut usize,
     ) -> u8;
-    pub fn x3d_world_list_changed(world: *mut RawWorld, since: u32) -> u8;
+    pub fn x3d_world_forget_below(world: *mut RawWorld, below: u64) -> u8;
+    pub fn x3d_world_list_changed(world: *mut RawWorld, since: u64) -> u8;
     pub fn x3d_world_copy_changed(
         world: *mut RawWorld,
         out: *mut RawChange,
@@ -232,7 +233,7 @@ unsafe extern "C" {
     pub fn x3d_world_replace_script(world: *mut RawWorld, k: usize, kind: u8) -> u8;
     pub fn x3d_host_open(host: *mut RawHost, text: *const u8, length: usize, viewers: u8) -> u8;
     pub fn x3d_host_close(host: *mut RawHost);
-    pub fn x3d_host_clock(host: *mut RawHost, time: i64, number: *mut u32) -> u8;
+    pub fn x3d_host_clock(host: *mut RawHost, time: i64, number: *mut u64) -> u8;
     pub fn x3d_host_take(
         host: *mut RawHost,
         bytes: *const u8,
@@ -246,11 +247,11 @@ unsafe extern "C" {
         length: usize,
         reply: *mut RawReply,
     ) -> u8;
-    pub fn x3d_host_heard(host: *mut RawHost, who: u8, asked: *mut u32) -> u8;
-    pub fn x3d_host_keep(host: *mut RawHost, count: u32) -> u8;
+    pub fn x3d_host_heard(host: *mut RawHost, who: u8, asked: *mut u64) -> u8;
+    pub fn x3d_host_keep(host: *mut RawHost, count: u64) -> u8;
     pub fn x3d_host_packet(
         host: *mut RawHost,
-        number: u32,
+        number: u64,
         out: *mut u8,
         room: usize,
         wanted: *mut usize,
@@ -262,15 +263,15 @@ unsafe extern "C" {
         room: usize,
         wanted: *mut usize,
     ) -> u8;
-    pub fn x3d_host_floor(host: *mut RawHost, number: *mut u32) -> u8;
+    pub fn x3d_host_floor(host: *mut RawHost, number: *mut u64) -> u8;
     pub fn x3d_host_floor_packet(
         host: *mut RawHost,
         out: *mut u8,
         room: usize,
         wanted: *mut usize,
     ) -> u8;
-    pub fn x3d_host_drop_below(host: *mut RawHost, number: u32) -> u8;
-    pub fn x3d_host_count(host: *mut RawHost, count: *mut u32) -> u8;
+    pub fn x3d_host_drop_below(host: *mut RawHost, number: u64) -> u8;
+    pub fn x3d_host_count(host: *mut RawHost, count: *mut u64) -> u8;
     pub fn x3d_host_viewers(host: *mut RawHost, count: *mut u32) -> u8;
     pub fn x3d_host_time(host: *mut RawHost, time: *mut i64) -> u8;
     pub fn x3d_host_resume(
@@ -280,7 +281,7 @@ unsafe extern "C" {
         viewers: u8,
         log: *const u8,
         log_length: usize,
-        entry: *mut u32,
+        entry: *mut u64,
     ) -> u8;
     pub fn x3d_host_pending(
         host: *mut RawHost,
@@ -310,7 +311,7 @@ unsafe extern "C" {
     pub fn x3d_log_close(log: *mut RawLog);
     pub fn x3d_log_append(log: *mut RawLog, bytes: *const u8, length: usize) -> u8;
     pub fn x3d_log_read(log: *mut RawLog, out: *mut u8, room: usize, wanted: *mut usize) -> u8;
-    pub fn x3d_log_count(log: *mut RawLog, count: *mut u32) -> u8;
+    pub fn x3d_log_count(log: *mut RawLog, count: *mut u64) -> u8;
     pub fn x3d_log_viewers(log: *mut RawLog, count: *mut u32) -> u8;
     pub fn x3d_log_copy_run(log: *mut RawLog, out: *mut u8, room: usize, wanted: *mut usize) -> u8;
     pub fn x3d_viewer_open(
@@ -324,7 +325,7 @@ unsafe extern "C" {
         wanted: *mut usize,
     ) -> u8;
     pub fn x3d_viewer_close(viewer: *mut RawViewer);
-    pub fn x3d_viewer_applied(viewer: *mut RawViewer, count: *mut u32) -> u8;
+    pub fn x3d_viewer_applied(viewer: *mut RawViewer, count: *mut u64) -> u8;
     pub fn x3d_viewer_boot(viewer: *mut RawViewer, boot: *mut u32) -> u8;
     pub fn x3d_viewer_waiting(viewer: *mut RawViewer, count: *mut u32) -> u8;
     pub fn x3d_viewer_take(
@@ -358,7 +359,7 @@ unsafe extern "C" {
         boot: u32,
         bytes: *const u8,
         length: usize,
-        applied: *mut u32,
+        applied: *mut u64,
     ) -> u8;
     pub fn x3d_viewer_piece_count(
         viewer: *mut RawViewer,
@@ -381,10 +382,10 @@ unsafe extern "C" {
         length: usize,
         gathered: *mut u32,
     ) -> u8;
-    pub fn x3d_viewer_join(viewer: *mut RawViewer, boot: u32, applied: *mut u32) -> u8;
+    pub fn x3d_viewer_join(viewer: *mut RawViewer, boot: u32, applied: *mut u64) -> u8;
     pub fn x3d_viewer_forget(viewer: *mut RawViewer) -> u8;
-    pub fn x3d_viewer_make_trace(viewer: *mut RawViewer, first: u32) -> u8;
-    pub fn x3d_viewer_make_changes(viewer: *mut RawViewer, first: u32) -> u8;
+    pub fn x3d_viewer_make_trace(viewer: *mut RawViewer, first: u64) -> u8;
+    pub fn x3d_viewer_make_changes(viewer: *mut RawViewer, first: u64) -> u8;
     pub fn x3d_viewer_make_scene(viewer: *mut RawViewer) -> u8;
     pub fn x3d_viewer_make_type(viewer: *mut RawViewer, node: u32) -> u8;
     pub fn x3d_viewer_make_label(viewer: *mut RawViewer, node: u32) -> u8;
@@ -429,7 +430,8 @@ unsafe extern "C" {
         room: usize,
         wanted: *mut usize,
     ) -> u8;
-    pub fn x3d_viewer_list_changed(viewer: *mut RawViewer, since: u32) -> u8;
+    pub fn x3d_viewer_forget_below(viewer: *mut RawViewer, below: u64) -> u8;
+    pub fn x3d_viewer_list_changed(viewer: *mut RawViewer, since: u64) -> u8;
     pub fn x3d_viewer_copy_changed(
         viewer: *mut RawViewer,
         out: *mut RawChange,

@@ -100,6 +100,7 @@ macro_rules! readable {
         $field_count:ident,
         $field_named:ident,
         $field_type:ident,
+        $forget_below:ident,
         $list_changed:ident,
         $list_children:ident,
         $list_roots:ident,
@@ -134,7 +135,7 @@ macro_rules! readable {
 
             /// The lines of the trace that are of inputs from a number on; from 0 on it is the
             /// whole trace.
-            pub fn trace(&mut self, first: u32) -> Result<String, Fault> {
+            pub fn trace(&mut self, first: u64) -> Result<String, Fault> {
                 Fault::told(unsafe { raw::$make_trace(&mut self.handle, first) })?;
                 Ok(self.string())
             }
@@ -142,7 +143,7 @@ macro_rules! readable {
             /// The fields that inputs after number `since` set, each once, with their current
             /// values. `since` is 0, or the number of inputs that were applied when the world was
             /// drawn last. A field that only sends holds no value and is left out.
-            pub fn changed(&mut self, since: u32) -> Result<ChangedFields, Fault> {
+            pub fn changed(&mut self, since: u64) -> Result<ChangedFields, Fault> {
                 let mut changed = ChangedFields::default();
                 self.changed_into(since, &mut changed)?;
                 Ok(changed)
@@ -151,7 +152,7 @@ macro_rules! readable {
             /// Like `changed`, into fields that the caller keeps from frame to frame.
             pub fn changed_into(
                 &mut self,
-                since: u32,
+                since: u64,
                 changed: &mut ChangedFields,
             ) -> Result<(), Fault> {
                 Fault::told(unsafe { raw::$list_changed(&mut self.handle, since) })?;
@@ -163,11 +164,18 @@ macro_rules! readable {
             }
 
             /// The same lines by the numbers of nodes and fields.
-            pub fn changes(&mut self, first: u32) -> Result<Changes, Fault> {
+            pub fn changes(&mut self, first: u64) -> Result<Changes, Fault> {
                 Fault::told(unsafe { raw::$make_changes(&mut self.handle, first) })?;
                 Ok(Changes {
                     text: self.string(),
                 })
+            }
+
+            /// Forgets the lines of the trace that are of inputs below a number, which is at most
+            /// that of the next input: `trace`, `changes` and `changed` tell only of those that are
+            /// left, and so does a snapshot. Nothing else changes. Faults: `Spoiled`, `Range`.
+            pub fn forget_below(&mut self, below: u64) -> Result<(), Fault> {
+                Fault::told(unsafe { raw::$forget_below(&mut self.handle, below) })
             }
 
             /// The text of the scene as it is now.

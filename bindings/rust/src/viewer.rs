@@ -19,7 +19,7 @@ pub enum Taken {
     /// The input is kept until those before it have come.
     Kept,
     /// So many inputs were applied.
-    Applied(u32),
+    Applied(u64),
     /// What the host tells of offers, or of its floor, was noted.
     Noted,
     /// The host has the next input no more: only a snapshot helps.
@@ -82,7 +82,7 @@ impl Viewer {
     }
 
     /// How many inputs were applied, or had been when memory was refused.
-    pub fn applied(&mut self) -> u32 {
+    pub fn applied(&mut self) -> u64 {
         let mut count = 0;
         unsafe { raw::x3d_viewer_applied(&mut self.handle, &mut count) };
         count
@@ -164,7 +164,7 @@ impl Viewer {
 
     /// Begins again in the world of a snapshot, as another boot, above its own and the snapshot's,
     /// and gives how many inputs that has had. No offer waits then.
-    pub fn rewind(&mut self, snapshot: &[u8], boot: u32) -> Result<u32, Fault> {
+    pub fn rewind(&mut self, snapshot: &[u8], boot: u32) -> Result<u64, Fault> {
         let mut applied = 0;
         let status = unsafe {
             raw::x3d_viewer_rewind(
@@ -238,7 +238,7 @@ impl Viewer {
 
     /// Begins again in the snapshot that was gathered, as `rewind` does. What was gathered is kept
     /// where that is refused.
-    pub fn join(&mut self, boot: u32) -> Result<u32, Fault> {
+    pub fn join(&mut self, boot: u32) -> Result<u64, Fault> {
         let mut applied = 0;
         Fault::told(unsafe { raw::x3d_viewer_join(&mut self.handle, boot, &mut applied) })?;
         Ok(applied)
@@ -264,6 +264,7 @@ readable!(
     x3d_viewer_field_count,
     x3d_viewer_field_named,
     x3d_viewer_field_type,
+    x3d_viewer_forget_below,
     x3d_viewer_list_changed,
     x3d_viewer_list_children,
     x3d_viewer_list_roots,

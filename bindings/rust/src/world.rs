@@ -23,7 +23,7 @@ pub struct Work {
 #[derive(Clone, Copy, Debug, PartialEq, Eq)]
 pub struct Saved {
     pub boot: u32,
-    pub applied: u32,
+    pub applied: u64,
 }
 
 /// The kind of a script.
@@ -100,14 +100,14 @@ impl World {
     }
 
     /// How many inputs were applied: the next one has the number behind it.
-    pub fn applied(&mut self) -> u32 {
+    pub fn applied(&mut self) -> u64 {
         let mut count = 0;
         unsafe { raw::x3d_world_applied(&mut self.handle, &mut count) };
         count
     }
 
-    /// Applies a clock: number 1 to 2^20, time 1 to 10^18 microseconds.
-    pub fn clock(&mut self, number: u32, time: i64) -> Result<Work, Fault> {
+    /// Applies a clock: number 1 to 2^48 - 1, time 1 to 10^18 microseconds.
+    pub fn clock(&mut self, number: u64, time: i64) -> Result<Work, Fault> {
         let mut work = RawWork::default();
         Fault::told(unsafe { raw::x3d_world_clock(&mut self.handle, number, time, &mut work) })?;
         Ok(work_of(&work))
@@ -116,7 +116,7 @@ impl World {
     /// Applies the pointer of a viewer, 0 to 63, whose button is down or not.
     pub fn point(
         &mut self,
-        number: u32,
+        number: u64,
         time: i64,
         viewer: u8,
         down: bool,
@@ -187,6 +187,7 @@ readable!(
     x3d_world_field_count,
     x3d_world_field_named,
     x3d_world_field_type,
+    x3d_world_forget_below,
     x3d_world_list_changed,
     x3d_world_list_children,
     x3d_world_list_roots,

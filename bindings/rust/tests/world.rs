@@ -47,6 +47,25 @@ fn clicked() -> World {
 }
 
 #[test]
+fn a_world_forgets_old_lines_alone() {
+    let (mut world, mut whole) = (clicked(), clicked());
+    for each in [&mut world, &mut whole] {
+        each.clock(4, 11_000_002).unwrap();
+    }
+    let size = whole.snapshot(1).unwrap().len();
+    assert_eq!(world.forget_below(6), Err(Fault::Range));
+    world.forget_below(4).unwrap();
+    assert_eq!(world.trace(0).unwrap(), whole.trace(4).unwrap());
+    assert_eq!(world.changed(3).unwrap(), whole.changed(3).unwrap());
+    assert!(world.snapshot(1).unwrap().len() < size);
+    for each in [&mut world, &mut whole] {
+        each.clock(5, 11_500_002).unwrap();
+    }
+    assert_eq!(world.trace(0).unwrap(), whole.trace(4).unwrap());
+    assert_eq!(world.scene().unwrap(), whole.scene().unwrap());
+}
+
+#[test]
 fn a_line_may_have_another_value_than_its_field() {
     let mut world = World::open(TWICE).unwrap();
     world.clock(1, 1_000_000).unwrap();
@@ -193,7 +212,7 @@ fn worlds_go_to_other_threads() {
         let mut world = clicked();
         threads.push(thread::spawn(move || {
             for number in 4..200 {
-                let time = 7_000_000 + i64::from(number) * 1_000_000;
+                let time = 7_000_000 + number as i64 * 1_000_000;
                 world.clock(number, time).unwrap();
             }
             world

@@ -8,15 +8,15 @@ use x3d_values::Stamped;
 #[derive(Clone, Copy)]
 pub(crate) enum Brief {
     /// A viewer asks for the inputs from number `next` on.
-    Ask { who: u8, next: u32 },
+    Ask { who: u8, next: u64 },
     /// A viewer offers point `number` of a boot.
     Offer { who: u8, boot: u32, number: u32 },
     /// `count` offers of a viewer's boot are numbered.
     Ack { who: u8, boot: u32, count: u32 },
     /// The input of this number.
-    Input { number: u32 },
+    Input { number: u64 },
     /// The host dropped the inputs below this number.
-    Floor { number: u32 },
+    Floor { number: u64 },
     /// A piece of a snapshot.
     Other,
 }

@@ -9,7 +9,7 @@ use share_wire::{Body, decode};
 
 /// Reports whether the bytes are a datagram of an input beyond `last`, or of a piece of a snapshot
 /// with more inputs applied than `last`.
-fn is_beyond(bytes: &[u8], last: u32) -> bool
+fn is_beyond(bytes: &[u8], last: u64) -> bool
     ensures { result ≡ is_beyond last (decoded bytes.now) }
 {
     match decode(bytes) {
@@ -18,7 +18,7 @@ fn is_beyond(bytes: &[u8], last: u32) -> bool
     }
 }
 
-fn body_is_beyond(body: Body, last: u32) -> bool
+fn body_is_beyond(body: Body, last: u64) -> bool
     ensures { result ≡ body_is_beyond last body }
 {
     match body {
@@ -34,7 +34,7 @@ fn body_is_beyond(body: Body, last: u32) -> bool
 #[derive(Drop)]
 pub struct ExactPort<P> {
     port: P,
-    last: Option<u32>,
+    last: Option<u64>,
 }
 
 impl<P> ExactPort<P> {
@@ -42,7 +42,7 @@ impl<P> ExactPort<P> {
 
     /// Returns a port over `port` that ignores inputs beyond `last`, or no inputs if `last` is
     /// `None`.
-    pub fn new(port: P, last: Option<u32>) -> ExactPort<P>
+    pub fn new(port: P, last: Option<u64>) -> ExactPort<P>
         ensures { result.port ≡ port }
     {
         ExactPort { port, last }
@@ -57,7 +57,7 @@ impl<P> ExactPort<P> {
 }
 
 /// Returns how many bytes of a datagram are received.
-fn count_of(bytes: &[u8], last: Option<u32>) -> usize
+fn count_of(bytes: &[u8], last: Option<u64>) -> usize
     ensures { result ≡ count_of last bytes.now }
 {
     match last {

@@ -63,7 +63,7 @@ pub enum Note {
     /// No host has answered a viewer yet.
     NoAnswer,
     /// The host dropped the inputs below this number, and a viewer lacks some of them.
-    Behind(u32),
+    Behind(u64),
 }
 
 impl fmt::Display for Note {

@@ -25,7 +25,7 @@ pub struct Pace {
     /// The measured round trip.
     trip: u64,
     /// The number that the last ask asked from, and when it was sent.
-    next: u32,
+    next: u64,
     asked: u64,
     /// When that number was first asked for since an answer came, and whether its input is still to
     /// come.
@@ -85,7 +85,7 @@ impl Pace {
     }
 
     /// Reports whether an ask from this number on repeats the last one within `pause` microseconds.
-    fn is_again(&self, next: u32, now: u64, pause: u64) -> bool
+    fn is_again(&self, next: u64, now: u64, pause: u64) -> bool
         ensures { result ≡ is_again self.now next now pause }
     {
         next == self.next && now < self.asked.saturating_add(pause)
@@ -93,7 +93,7 @@ impl Pace {
 
     /// Reports whether an ask is due: no answer is awaited, and the ask does not repeat the last
     /// one within `pause` microseconds. A repeat is due if the last ask had no answer.
-    fn is_due(&self, next: u32, now: u64, pause: u64) -> bool
+    fn is_due(&self, next: u64, now: u64, pause: u64) -> bool
         ensures { result ≡ is_due self.now next now pause }
     {
         if self.left(now) > 0 {
@@ -105,7 +105,7 @@ impl Pace {
     /// Reports whether an ask from this number on is sent now, and if so, records that. If the last
     /// ask had no answer in time, the wait for this one is longer. `now` and `pause` are
     /// microseconds.
-    pub fn asks(&mut self, next: u32, now: u64, pause: u64) -> bool
+    pub fn asks(&mut self, next: u64, now: u64, pause: u64) -> bool
         ensures due { result ≡ is_due self.old next now pause }
         ensures state { self.new
             ≡ (if is_due self.old next now pause then asked self.old next now else self.old) }
@@ -162,7 +162,7 @@ impl Pace {
     /// Records that an input came. The first input that was asked for gives the round trip. If it
     /// was asked for more than once, the ask that it answers is unknown, so the measure grows by at
     /// most an eighth.
-    pub fn measures(&mut self, number: u32, now: u64)
+    pub fn measures(&mut self, number: u64, now: u64)
         ensures { self.new ≡ measured self.old number now }
     {
         if self.measuring && number == self.next {

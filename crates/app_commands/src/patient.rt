@@ -214,4 +214,8 @@ impl<P: Learns, C: Clock> Learns for PatientPort<P, C> {
     fn learn(&mut self, entries: &[Entry]) -> Result<(), PortFault> {
         self.port.learn(entries)
     }
+
+    fn drop_below(&mut self, floor: u64) {
+        self.port.drop_below(floor);
+    }
 }

@@ -99,4 +99,8 @@ impl<P: Learns, R: Eprint> Learns for TellingPort<P, R> {
     fn learn(&mut self, entries: &[Entry]) -> Result<(), PortFault> {
         self.port.learn(entries)
     }
+
+    fn drop_below(&mut self, floor: u64) {
+        self.port.drop_below(floor);
+    }
 }

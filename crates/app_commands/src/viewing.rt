@@ -145,7 +145,8 @@ fn alone(plan: &ViewPlan) -> ViewPlan
 }
 
 /// Runs a viewer as its plan says, and offers each of its points to the host. Returns the trace and
-/// then the scene of the viewer; a viewer that forgets has the lines of the last inputs alone. It gives nothing: that is `give_job`, once the text is written.
+/// then the scene of the viewer; a viewer that forgets has the lines of the last inputs alone. It
+/// gives nothing: that is `give_job`, once the text is written.
 ///
 /// Fails with `TurnsUsedUp` if its turns were not enough, with `Port` if a send or a receive fails,
 /// with `Memory` if memory is refused, and with `Spoiled` if it was refused to the viewer earlier.

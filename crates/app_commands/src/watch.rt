@@ -65,7 +65,7 @@ pub struct Watch {
     boots: [u32; PLACES],
     acked: [(u32, u32); PLACES],
     /// The number that a viewer last asked from, and whether the note of a floor above it was made.
-    asked: u32,
+    asked: u64,
     is_behind: bool,
     wait: Wait,
     told: [bool; 5],
@@ -178,7 +178,7 @@ impl Watch {
     }
 
     /// Returns the note of a floor that is above what a viewer asks from, if it is the first one.
-    fn floor_above(&mut self, floor: u32) -> Option<Note> {
+    fn floor_above(&mut self, floor: u64) -> Option<Note> {
         if self.is_behind || floor <= self.asked {
             return None;
         }
@@ -241,7 +241,7 @@ impl Watch {
     }
 
     /// Records an ask of a viewer that is sent.
-    fn asks(&mut self, next: u32) {
+    fn asks(&mut self, next: u64) {
         self.asked = next;
         if let Wait::Idle(_) = self.wait {
             self.wait = Wait::Asking(0);

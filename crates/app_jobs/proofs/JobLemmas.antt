@@ -1,5 +1,5 @@
 -- A job line by line: what is left to answer where these inputs were read.
-use Rattle.std.proofs.Common.{◌≡◌, ℕ, suc, ◌+◌, ◌-◌, ◌^◌, ◌<◌, ◌≤◌, ◌<ℤ◌, ℤ, pos, ◌+ℤ◌, List, [], ◌∷◌, ◌++◌, length, take, Bool, true, false, Option}
+use Rattle.std.proofs.Common.{◌≡◌, ℕ, suc, ◌+◌, ◌-◌, ◌<◌, ◌≤◌, ◌<ℤ◌, ℤ, pos, ◌+ℤ◌, List, [], ◌∷◌, ◌++◌, length, take, Bool, true, false, Option}
 use Rattle.std.proofs.Common.{Some, None, Result, Ok, Err, slice_get, refl, sym, ap, ◌∙◌, inl, inr, arith, zero-add}
 use Rattle.std.specs.Option.{option_map_or}
 use Rattle.std.specs.List.{fold, list_any, position_or_len, before_first}
@@ -8,7 +8,7 @@ use Rattle.std.proofs.lemmas.Bool.{cases_Bool, ltb-true, and_parts}
 use Rattle.std.proofs.lemmas.Float.{T_from_true}
 use Rattle.std.proofs.lemmas.List.{length-append}
 use Rattle.x3d_values.specs.Pointing.{PointerView}
-use Rattle.x3d_values.specs.Ranges.{is_input_time}
+use Rattle.x3d_values.specs.Ranges.{is_input_time, max_inputs}
 use Rattle.x3d_values.specs.Stamp.{StampedView}
 use Rattle.x3d_values.specs.declared.stamped.Cause.{Cause}
 use Rattle.x3d_values.specs.declared.stamped.Cause.TheVariants.{Clock, Pointer}
@@ -163,7 +163,7 @@ follow_more n t (x ∷ xs) s h e later =
 -- a host numbers the input behind these
 pub record IsNext (given : List StampedView) (input : StampedView) : Type 0 where
   pub number : input.number ≡ length given + 1
-  pub few : length given < 2 ^ 20
+  pub few : length given < max_inputs
   pub later : last_time given <ℤ input.time
 
 pub record IsTaken (given : List StampedView) (t : ℤ) (cause : Cause) (input : StampedView) : Type 0 where
@@ -183,7 +183,7 @@ taken_from given t cause input e = elim (cases_Bool (is_taken given t)) [
       record {
         next = record {
           number = sym (ap (λ (s : StampedView). s.number) same);
-          few = ltb-true (length given) (2 ^ 20) tests.0;
+          few = ltb-true (length given) max_inputs tests.0;
           later = record { lt = T_from_true _ (rw (← time) later.0) };
         };
         time = sym time;
@@ -235,5 +235,5 @@ pub step_taken : (bytes : List ℕ) (given : List StampedView) (text line behind
 step_taken bytes given text line behind input answer some at_line at_behind fails e =
     answer ∙ at_step given text input some (rw at_line at fails) (rw at_line at e) ∙ ap (λ t. left_of (given ++ input ∷ []) t) (sym at_behind)
 
-pub few_more : (given : List StampedView) (input : StampedView) → IsNext given input → length (given ++ input ∷ []) ≤ 2 ^ 20
+pub few_more : (given : List StampedView) (input : StampedView) → IsNext given input → length (given ++ input ∷ []) ≤ max_inputs
 few_more given input next = omega (arith, length-append given (input ∷ []), next.few)

@@ -1,7 +1,7 @@
 -- A line of a job is one step at most, and bytes that are a job are answered as it.
 use Rattle.std.proofs.Common.{◌≡◌, ℕ, ◌+◌, ◌<◌, ◌<ℤ◌, ◌==◌, ℤ, pos, List, [], ◌∷◌, ◌++◌, length, true, false, codes}
 use Rattle.std.proofs.Common.{Option, Some, None, Ok, refl, sym, ap, ◌∙◌, inl, inr, arith, append_assoc, append-nil}
-use Rattle.std.specs.Prelude.{◌^◌, int_lt, if◌then◌else◌}
+use Rattle.std.specs.Prelude.{int_lt, if◌then◌else◌}
 use Rattle.std.specs.Result.{result_ok}
 use Rattle.std.specs.List.{fold, list_any, before_first}
 use Rattle.std.specs.Str.Lines.{lines}
@@ -12,7 +12,7 @@ use Rattle.std.proofs.lemmas.List.{length-append}
 use Rattle.x3d_numerals.specs.Reading.{numeral}
 use Rattle.x3d_numerals.proofs.Numerals.{numeral_complete}
 use Rattle.x3d_values.specs.Pointing.{PointerView, RayView, is_ray}
-use Rattle.x3d_values.specs.Ranges.{max_viewers}
+use Rattle.x3d_values.specs.Ranges.{max_inputs, max_viewers}
 use Rattle.x3d_values.specs.Stamp.{StampedView}
 use Rattle.x3d_values.specs.declared.stamped.Cause.{Cause}
 use Rattle.x3d_values.specs.declared.stamped.Cause.TheVariants.{Clock, Pointer}
@@ -122,7 +122,7 @@ later_is : (a b : ℤ) → a <ℤ b → int_lt a b ≡ true
 later_is a b h = grind (arith, ints)
 
 taken_by : (given : List StampedView) (input : StampedView) → IsNumbered (length given) (last_time given) input → is_taken given input.time ≡ true
-taken_by given input h = rw (lt-ltb (length given) (2 ^ 20) h.few, later_is (last_time given) input.time h.later, h.in_range) refl
+taken_by given input h = rw (lt-ltb (length given) max_inputs h.few, later_is (last_time given) input.time h.later, h.in_range) refl
 
 input_is : (given : List StampedView) (input : StampedView) (cause : Cause) → IsNumbered (length given) (last_time given) input → input.cause ≡ cause
     → input_at given input.time cause ≡ Some input

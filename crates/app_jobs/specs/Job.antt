@@ -1,5 +1,5 @@
 -- A job: lines of steps, a line `scene`, then the scene (our choice).
-use Rattle.std.specs.Prelude.{◌≡◌, ℕ, ◌+◌, ◌-◌, ◌^◌, ◌<◌, ◌&&◌, nat_lt, ℤ, pos, ◌+ℤ◌, ◌<ℤ◌, int_lt, ⊤, ◌⊎◌, Bool, true, List, [], ◌∷◌, ◌++◌, length, take, drop, slice_get}
+use Rattle.std.specs.Prelude.{◌≡◌, ℕ, ◌+◌, ◌-◌, ◌<◌, ◌&&◌, nat_lt, ℤ, pos, ◌+ℤ◌, ◌<ℤ◌, int_lt, ⊤, ◌⊎◌, Bool, true, List, [], ◌∷◌, ◌++◌, length, take, drop, slice_get}
 use Rattle.std.specs.Prelude.{codes, Option, Some, None, Result, Ok, Err, if◌then◌else◌}
 use Rattle.std.specs.Option.{option_map_or}
 use Rattle.std.specs.Result.{result_ok}
@@ -29,8 +29,8 @@ clock_time line = if bytes_eq (take 6 line) (codes "clock ") then result_ok (num
 unfoldable pub last_time : List StampedView → ℤ
 last_time inputs = option_map_or (λ s. s.time) (slice_get inputs (length inputs - 1)) (pos 0)
 
--- a host numbers an input of this time after these inputs: there are fewer than 2^20 of them, the
--- time is later than theirs, and it is in range
+-- a host numbers an input of this time after these inputs: there are fewer than 2^48 - 1 of them,
+-- the time is later than theirs, and it is in range
 abbrev pub is_taken : List StampedView → ℤ → Bool
 is_taken inputs t =
     nat_lt (length inputs) max_inputs && (int_lt (last_time inputs) t && is_input_time t)

@@ -20,7 +20,7 @@ pub enum JobFault {
     #[error("the input or the output failed, or the input had no end")]
     Device,
     #[error("line {0} is not a step")]
-    BadJob(u32),
+    BadJob(u64),
     #[error(transparent)]
     Read(ReadFault),
     #[error(transparent)]

@@ -65,7 +65,7 @@ fn input_at(inputs: &[Stamped], time: i64, cause: Cause) -> Option<Stamped>
     if !is_taken(inputs, time) {
         return None;
     }
-    let number = inputs.len() as u32 + 1;
+    let number = inputs.len() as u64 + 1;
     Some(Stamped::new(number, time, cause))
 }
 
@@ -123,10 +123,10 @@ pub fn job_of(alloc: Global, bytes: &[u8]) -> Result<Steps<'_>, JobFault>
             });
         }
         let Some(input) = next_input(inputs.as_slice(), line) else {
-            return Err(JobFault::BadJob(inputs.len() as u32 + 1));
+            return Err(JobFault::BadJob(inputs.len() as u64 + 1));
         };
         inputs.push(input)?;
         rest = behind;
     }
-    Err(JobFault::BadJob(inputs.len() as u32 + 1))
+    Err(JobFault::BadJob(inputs.len() as u64 + 1))
 }

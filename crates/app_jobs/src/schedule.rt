@@ -23,13 +23,13 @@ pub struct Schedule {
 }
 
 /// Returns the number, from 1, of the line after `lines` lines, but at most 2^32 - 1.
-fn line_behind(lines: usize) -> u32
+fn line_behind(lines: usize) -> u64
     ensures { result ≡ line_behind lines }
 {
     if lines < u32::MAX as usize {
-        lines as u32 + 1
+        lines as u64 + 1
     } else {
-        u32::MAX
+        u32::MAX as u64
     }
 }
 

@@ -133,13 +133,17 @@ fn host_step(name: &[u8], text: &[u8]) -> Option<Step>
     if is(name, b"clock") {
         clock_step(text)
     } else if is(name, b"packet") {
-        number(text).map(|input| Step::HostPacket { input })
+        number(text).map(|input| Step::HostPacket {
+            input: input as u64,
+        })
     } else if is(name, b"ack") {
         number(text).map(|viewer| Step::HostAck { viewer })
     } else if is(name, b"give") {
         give_step(text)
     } else if is(name, b"floor") {
-        number(text).map(|floor| Step::HostDropBelow { floor })
+        number(text).map(|floor| Step::HostDropBelow {
+            floor: floor as u64,
+        })
     } else {
         None
     }

@@ -29,7 +29,7 @@ pub enum LogFault {
     #[error("frame {0} of the log is damaged")]
     LogDamaged(u64),
     #[error("entry {0} is not one that a host wrote there")]
-    NotALog(u32),
+    NotALog(u64),
     #[error("the log is full")]
     LogFull,
     #[error("the log's device failed")]

@@ -55,7 +55,7 @@ fn next_due(hosting: &LoggedHost, job: Option<i64>, every: Option<u32>, due: u64
 fn taken_turn<L: Log, P: Learns>(
     hosting: LoggedHost,
     clock: Option<i64>,
-    keep: Option<u32>,
+    keep: Option<u64>,
     log: &mut L,
     port: &mut P,
 ) -> Result<LoggedHost, LoggedFault>
@@ -81,7 +81,7 @@ fn taken_turn<L: Log, P: Learns>(
 }
 
 /// Returns the result of a host that has taken all its turns and isn't done.
-fn used_up(until: Option<u32>) -> Result<(), RunFault>
+fn used_up(until: Option<u64>) -> Result<(), RunFault>
     ensures ok { OnOk result (is_none until ≡ true) }
     ensures err { IfErr result (λ fault. (fault ≡ TurnsUsedUp) × (is_none until ≡ false)) }
 {

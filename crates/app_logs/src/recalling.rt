@@ -141,7 +141,7 @@ fn is_written(alloc: Global, found: &FoundLog) -> Result<(), LogFault>
 }
 
 /// Returns the first entries, or all.
-pub(crate) fn first_of(entries: &[Entry], until: Option<u32>) -> &[Entry]
+pub(crate) fn first_of(entries: &[Entry], until: Option<u64>) -> &[Entry]
     ensures { result.now ≡ first_of until entries.now }
 {
     match until {
@@ -151,7 +151,7 @@ pub(crate) fn first_of(entries: &[Entry], until: Option<u32>) -> &[Entry]
 }
 
 /// Returns the lines of the first entries, or of all.
-fn text_of(alloc: Global, entries: &[Entry], until: Option<u32>) -> Result<Vec<u8>, AllocError>
+fn text_of(alloc: Global, entries: &[Entry], until: Option<u64>) -> Result<Vec<u8>, AllocError>
     ensures { IfOk result (λ v. v.items ≡ steps_text (first_of until entries.now)) }
 {
     let mut text = Vec::new(alloc);
@@ -164,7 +164,7 @@ fn info_of(
     alloc: Global,
     size: usize,
     found: &FoundLog,
-    until: Option<u32>,
+    until: Option<u64>,
 ) -> Result<Vec<u8>, AllocError>
     ensures { IfOk result (λ v. v.items ≡ info_text size found.now.cut found.now.head
         (first_of until found.now.entries.items)) }
@@ -197,7 +197,7 @@ pub(crate) fn written_in(alloc: Global, bytes: &[u8]) -> Result<FoundLog, LogFau
 ///
 /// Fails with `BadHead` or `LogDamaged` if the bytes are no log, with `NotALog` and the number of
 /// the first entry that no host wrote there, or with `Memory`.
-pub fn recalled(alloc: Global, bytes: &[u8], until: Option<u32>) -> Result<Vec<u8>, LogFault>
+pub fn recalled(alloc: Global, bytes: &[u8], until: Option<u64>) -> Result<Vec<u8>, LogFault>
     ensures found { IfOk result (λ text. IsRecalled until bytes.now text.items) }
     ensures refused { IfErr result (λ fault. (fault ≡ NoMemory) ⊎ IsNoLog bytes.now fault) }
 {
@@ -210,7 +210,7 @@ pub fn recalled(alloc: Global, bytes: &[u8], until: Option<u32>) -> Result<Vec<u
 /// many each viewer has offered.
 ///
 /// Fails like `recalled`.
-pub fn recalled_info(alloc: Global, bytes: &[u8], until: Option<u32>) -> Result<Vec<u8>, LogFault>
+pub fn recalled_info(alloc: Global, bytes: &[u8], until: Option<u64>) -> Result<Vec<u8>, LogFault>
     ensures found { IfOk result (λ text. IsInfo until bytes.now text.items) }
     ensures refused { IfErr result (λ fault. (fault ≡ NoMemory) ⊎ IsNoLog bytes.now fault) }
 {

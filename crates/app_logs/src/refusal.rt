@@ -64,7 +64,7 @@ fn push_place(fault: LogFault, text: &mut ArrayString<64>)
 {
     match fault {
         LogFault::LogDamaged(frame) => push_number(" frame ", frame, text),
-        LogFault::NotALog(entry) => push_number(" entry ", u64::from(entry), text),
+        LogFault::NotALog(entry) => push_number(" entry ", entry, text),
         _ => {}
     }
 }

@@ -100,7 +100,7 @@ pub fn restored<D: Disk + Drop>(
     alloc: Global,
     disk: D,
     bytes: &[u8],
-    until: Option<u32>,
+    until: Option<u64>,
     run: [u8; 16],
 ) -> Result<FileLog<D>, LogFault>
     requires { IsTrue (D.is_usable disk) }

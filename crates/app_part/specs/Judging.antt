@@ -22,7 +22,7 @@ pub record IsGood (document : Document) : Type 0 where
   pub scene : OpenedScene
   pub opened : opened_document document ≡ Ok scene
 
--- a document is no scene: its first fault, and all that is told at once
+-- a document is no scene: its first fault, and all that is printed of it at once
 pub record IsToldBad (document : Document) (fault : JobFault) (blames : List Blame) : Type 0 where
   pub opened : opened_document document ≡ Err fault
   pub told : blames ≡ blames_of document (flat document)

@@ -159,15 +159,15 @@ fn name_of(failure: &Failure) -> &'static str
     }
 }
 
-fn line_of(failure: &Failure) -> u32
+fn line_of(failure: &Failure) -> u64
     ensures { result ≡ failure_line failure.now }
 {
     match failure {
         Failure::Job(JobFault::BadJob(line)) => *line,
-        Failure::Job(JobFault::Read(fault)) => fault.line,
-        Failure::Job(JobFault::Expand(fault)) => fault.line,
-        Failure::Job(JobFault::Scene(fault)) => fault.line,
-        Failure::Job(JobFault::Route(fault)) => fault.line,
+        Failure::Job(JobFault::Read(fault)) => fault.line as u64,
+        Failure::Job(JobFault::Expand(fault)) => fault.line as u64,
+        Failure::Job(JobFault::Scene(fault)) => fault.line as u64,
+        Failure::Job(JobFault::Route(fault)) => fault.line as u64,
         _ => 0,
     }
 }

@@ -26,7 +26,7 @@ pub struct Alone {
 fn turn_over<L: Log>(
     hosting: LoggedHost,
     clock: Option<i64>,
-    keep: Option<u32>,
+    keep: Option<u64>,
     log: &mut L,
     stack: &mut Stack,
 ) -> Result<LoggedHost, LoggedFault>
@@ -42,7 +42,7 @@ fn turn_over<L: Log>(
 fn stored_turn<L: Log>(
     hosting: LoggedHost,
     clock: Option<i64>,
-    keep: Option<u32>,
+    keep: Option<u64>,
     log: &mut L,
     stack: &mut Stack,
 ) -> Result<LoggedHost, End> {

@@ -115,8 +115,8 @@ impl<'e, 'r> Known<'e, 'r> {
         }
     }
 
-    /// Opens the world, unless it was refused and its files didn't change. Fails with `EtcdSilent` if
-    /// etcd isn't asked now.
+    /// Opens the world, unless it was refused and its files didn't change. Fails with `EtcdSilent`
+    /// if etcd isn't asked now.
     pub fn open(&mut self, served: &Served<'_, 'e, 'r>) -> Result<(), End> {
         let found = stamps_of(served.rt, served.folder, &self.name).ok();
         if self.is_unchanged(&found, served.now) {

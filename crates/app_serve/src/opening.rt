@@ -55,7 +55,7 @@ struct Keyed {
     keys: Keys,
     stage: Stage<StockScript>,
     /// Of how many of the last inputs the stage keeps the lines of its trace; `None` keeps all.
-    forget: Option<u32>,
+    forget: Option<u64>,
 }
 
 /// What is kept of a job.
@@ -182,7 +182,7 @@ fn kept_of(
     alloc: Global,
     job: SharedJob,
     keys: Option<Keys>,
-    forget: Option<u32>,
+    forget: Option<u64>,
 ) -> Result<Kept, JobFault> {
     let SharedJob {
         inputs,

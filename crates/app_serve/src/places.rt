@@ -40,8 +40,8 @@ fn address_end(kind: io::ErrorKind) -> End {
     }
 }
 
-/// Returns the addresses of a text, one to 16 with commas between them, each as `address_at` has it.
-/// Fails with `NoAddress` or `Memory`.
+/// Returns the addresses of a text, one to 16 with commas between them, each as `address_at` has
+/// it. Fails with `NoAddress` or `Memory`.
 pub fn addresses_at<R: Net>(rt: &R, alloc: Global, text: &str) -> Result<Vec<SocketAddr>, End> {
     let mut addresses = Vec::new(alloc);
     for part in text.split(',') {

@@ -15,10 +15,10 @@ pub struct Serving {
     /// a log is made, and for those of the log where there is one.
     pub viewers: Option<u8>,
     /// How many of the last inputs are kept for viewers that have them; `None` keeps all.
-    pub keep: Option<u32>,
+    pub keep: Option<u64>,
     /// Of how many of the last inputs the world of a host with keys keeps the lines of its trace;
     /// `None` keeps all.
-    pub forget: Option<u32>,
+    pub forget: Option<u64>,
     /// How many milliseconds pass from one clock that a world makes to the next, once those of its
     /// job are over; `None` for no such clocks.
     pub every: Option<u32>,

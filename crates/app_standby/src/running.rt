@@ -19,7 +19,7 @@ use share_store::Remembers;
 use std::alloc::Global;
 
 /// Returns the result of a host that has taken all its turns and isn't done.
-fn used_up(until: Option<u32>) -> Result<(), SharedFault>
+fn used_up(until: Option<u64>) -> Result<(), SharedFault>
     ensures ok { OnOk result (is_none until ≡ true) }
     ensures err { IfErr result (λ fault. (fault ≡ TurnsUsedUp) × (is_none until ≡ false)) }
 {

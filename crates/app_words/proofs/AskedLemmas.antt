@@ -215,7 +215,7 @@ at_least : (id : Text) (rows : List Row) (low high : ℕ) (o : Option ℕ) → M
 at_least id rows low high (Some n) h = h.low_end
 at_least id rows low high None h = tt
 
-end_range : (rows : List Row) (e : ViewEnd) → IsEnd rows e → end_count e ≤ 1048576
+end_range : (rows : List Row) (e : ViewEnd) → IsEnd rows e → end_count e ≤ 281474976710655
 end_range rows (Until n) h = h.0.high_end
 end_range rows (Exactly n) h = h.1.high_end
 
@@ -229,9 +229,9 @@ asked_range (Host asked) p h = record {
   port_low = at_least (codes "port") p.1 1 65535 asked.port h.1.port;
   viewers_low = at_least (codes "viewers") p.1 1 64 asked.viewers h.1.viewers;
   viewers_high = at_most (codes "viewers") p.1 1 64 asked.viewers h.1.viewers;
-  until_high = at_most (codes "until") p.1 0 1048576 asked.until h.1.until;
-  keep_high = at_most (codes "keep") p.1 0 1048576 asked.keep h.1.keep;
-  forget_high = at_most (codes "forget") p.1 0 1048576 asked.forget h.1.forget;
+  until_high = at_most (codes "until") p.1 0 281474976710655 asked.until h.1.until;
+  keep_high = at_most (codes "keep") p.1 0 281474976710655 asked.keep h.1.keep;
+  forget_high = at_most (codes "forget") p.1 0 281474976710655 asked.forget h.1.forget;
   every_low = at_least (codes "every") p.1 1 3600000 asked.every h.1.every;
   every_high = at_most (codes "every") p.1 1 3600000 asked.every h.1.every;
   standby_low = at_least (codes "standby") p.1 1 3600 asked.standby h.1.standby;
@@ -252,20 +252,20 @@ asked_range (View asked) p h = record {
   give_turns_low = h.1.give_turns.low_end;
   wire_low = at_least (codes "wire") p.1 1 2 asked.wire h.1.wire;
   wire_high = at_most (codes "wire") p.1 1 2 asked.wire h.1.wire;
-  forget_high = at_most (codes "forget") p.1 0 1048576 asked.forget h.1.forget;
+  forget_high = at_most (codes "forget") p.1 0 281474976710655 asked.forget h.1.forget;
   together = h.2;
 }
 asked_range (Serve asked) p h = record {
   port_low = at_least (codes "port") p.1 1 65535 asked.port h.1.port;
   viewers_low = at_least (codes "viewers") p.1 1 64 asked.viewers h.1.viewers;
   viewers_high = at_most (codes "viewers") p.1 1 64 asked.viewers h.1.viewers;
-  keep_high = at_most (codes "keep") p.1 0 1048576 asked.keep h.1.keep;
-  forget_high = at_most (codes "forget") p.1 0 1048576 asked.forget h.1.forget;
+  keep_high = at_most (codes "keep") p.1 0 281474976710655 asked.keep h.1.keep;
+  forget_high = at_most (codes "forget") p.1 0 281474976710655 asked.forget h.1.forget;
   every_low = at_least (codes "every") p.1 1 3600000 asked.every h.1.every;
   every_high = at_most (codes "every") p.1 1 3600000 asked.every h.1.every;
   together = h.2;
 }
-asked_range (Recall until info makes) p h = at_most (codes "until") p.1 0 1048576 until h.1
+asked_range (Recall until info makes) p h = at_most (codes "until") p.1 0 281474976710655 until h.1
 asked_range (Part list) p h = tt
 asked_range (Key viewers) p h = (h.1.low_end, h.1.high_end)
 

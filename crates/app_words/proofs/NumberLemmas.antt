@@ -16,12 +16,12 @@ use Rattle.clap.specs.declared.parser.matches.Found.{Found}
 use Rattle.clap.specs.declared.parser.matches.MatchedArg.{MatchedArg}
 use Rattle.app_words.specs.Words.{HasNumber, is_given}
 
--- how `from_str` reads a number of 32 bits
-abbrev pub reads_u32 : List ℕ → Result ℕ ParseIntError → Type 0
-reads_u32 bs r = ParsesUnsigned 32 10 bs r × ExplainsUnsignedError 10 bs r × HasUnsignedDigitsIfOk bs r
+-- how `from_str` reads a number of 64 bits
+abbrev pub reads_u64 : List ℕ → Result ℕ ParseIntError → Type 0
+reads_u64 bs r = ParsesUnsigned 64 10 bs r × ExplainsUnsignedError 10 bs r × HasUnsignedDigitsIfOk bs r
 
 pub number_some : (id : Text) (rows : List Row) (o : Option Text) (r : Option ℕ) → o ≡ one_of id rows
-    → (o ≡ None → r ≡ None) → ((t : List ℕ) → o ≡ Some t → ReadsOne reads_u32 t r)
+    → (o ≡ None → r ≡ None) → ((t : List ℕ) → o ≡ Some t → ReadsOne reads_u64 t r)
     → IfSome r (λ n. HasNumber id rows n)
 number_some id rows None None e none value = tt
 number_some id rows None (Some n) e none value = let bad : Some n ≡ None = none refl in (cc)
@@ -30,8 +30,8 @@ number_some id rows (Some t) (Some n) e none value =
     let g = value t refl in record { text = t; found = sym e; numeral = g.0.0.0; value = g.0.1 }
 
 pub number_none : (id : Text) (rows : List Row) (o : Option Text) (r : Option ℕ) → o ≡ one_of id rows
-    → (o ≡ None → r ≡ None) → ((t : List ℕ) → o ≡ Some t → ReadsOne reads_u32 t r)
-    → IfNone r ((n : ℕ) → n < 2 ^ 32 → ¬ HasNumber id rows n)
+    → (o ≡ None → r ≡ None) → ((t : List ℕ) → o ≡ Some t → ReadsOne reads_u64 t r)
+    → IfNone r ((n : ℕ) → n < 2 ^ 64 → ¬ HasNumber id rows n)
 number_none id rows None None e none value = λ n small h. let bad : None ≡ Some h.text = e ∙ h.found in (cc)
 number_none id rows o (Some n) e none value = tt
 number_none id rows (Some t) None e none value = λ n small h.
@@ -39,7 +39,7 @@ number_none id rows (Some t) None e none value = λ n small h.
     let text : h.text ≡ t = (cc) in
     let g = value t refl in
     let numeral : IsNumeral 10 (without_leading_plus t) = rw (← text) h.numeral in
-    let below : digits_value 10 (without_leading_plus t) < 2 ^ 32 = rw (← text, ← h.value) small in
+    let below : digits_value 10 (without_leading_plus t) < 2 ^ 64 = rw (← text, ← h.value) small in
     g.1.0 (numeral, below)
 
 -- ---- flags

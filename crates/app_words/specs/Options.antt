@@ -7,6 +7,8 @@ use Rattle.clap.specs.declared.builder.action.ArgAction.TheVariants.{SetTrue}
 use Rattle.clap.specs.declared.builder.value_parser.ValueParser.TheVariants.{Signed}
 use Rattle.x3d_values.specs.Ranges.{max_viewers, max_inputs}
 use Rattle.app_words.specs.declared.options.FlagOption.{FlagOption}
+use Rattle.app_words.specs.declared.options.High.{High}
+use Rattle.app_words.specs.declared.options.High.TheVariants.{Number, Inputs}
 use Rattle.app_words.specs.declared.options.NumberOption.{NumberOption}
 use Rattle.app_words.specs.declared.options.TextOption.{TextOption}
 use Rattle.app_words.specs.declared.options.Unless.{Unless}
@@ -98,7 +100,7 @@ who_rule = record (ranged (codes "who") 0 max_who) { required = true }
 abbrev pub boot_rule : Rule
 boot_rule = ranged (codes "boot") 1 4294967295
 
--- `--until N`, `--exactly N`, `--keep N` and `--forget N`, from 0 to 2^20
+-- `--until N`, `--exactly N`, `--keep N` and `--forget N`, from 0 to 2^48 - 1
 abbrev pub until_rule : Rule
 until_rule = ranged (codes "until") 0 max_inputs
 
@@ -161,8 +163,13 @@ verbose_rule = record (flag (codes "verbose")) { short = Some 118 }
 
 -- ---- the program's table
 
+-- the highest number of an option
+abbrev pub high_of : High → ℕ
+high_of (Number n) = n
+high_of Inputs = max_inputs
+
 abbrev pub ranged_rule : NumberOption → Rule
-ranged_rule o = ranged o.name.now o.low o.high
+ranged_rule o = ranged o.name.now o.low (high_of o.high)
 
 abbrev pub with_unless : Unless → Rule → Rule
 with_unless Refused r = record r { required = true }

@@ -3,18 +3,29 @@
 ghost use Rattle.std.specs.Prelude.{◌≡◌, false, pos};
 ghost use Rattle.clap.specs.Words.{rule_of};
 ghost use Rattle.clap.specs.declared.builder.value_parser.ValueParser.TheVariants.{Signed};
-ghost use Rattle.app_words.specs.Options.{flag_rule, number_rule, ranged_rule, text_rule};
+ghost use Rattle.app_words.specs.Options.{flag_rule, high_of, number_rule, ranged_rule, text_rule};
 
-use crate::options::{FlagOption, NumberOption, TextOption, Unless};
+use crate::options::{FlagOption, High, NumberOption, TextOption, Unless};
 use clap::builder::ValueParser;
 use clap::{Arg, ArgAction};
 use std::alloc::Global;
+use x3d_values::MAX_INPUTS;
+
+/// Returns the number that is the highest.
+fn number_of(high: High) -> i64
+    ensures { result ≡ pos (high_of high) }
+{
+    match high {
+        High::Number(number) => number as i64,
+        High::Inputs => MAX_INPUTS as i64,
+    }
+}
 
 /// Returns the parser for the range of the option.
 fn range_of<'a>(option: &NumberOption) -> ValueParser<'a>
-    ensures { result ≡ Signed (pos option.now.low) (pos option.now.high) }
+    ensures { result ≡ Signed (pos option.now.low) (pos (high_of option.now.high)) }
 {
-    ValueParser::signed(option.low as i64, option.high as i64)
+    ValueParser::signed(option.low as i64, number_of(option.high))
 }
 
 /// Builds an option of `clap` with the name, the range and the help of `option`.

@@ -8,7 +8,9 @@ ghost use Rattle.app_words.specs.Words.{MayHaveViewers};
 ghost use Rattle.app_words.specs.declared.host.Kept.{Kept as KeptOf};
 ghost use Rattle.app_words.specs.declared.order.HostOrder.{HostOrder as HostOf};
 
-use crate::numbers::{forget_in, is_named, is_text_given, optional_in, port_in, until_in};
+use crate::numbers::{
+    forget_in, is_named, is_text_given, optional_in, optional_u32_in, port_in, until_in,
+};
 use crate::order::{HostOrder, LogUse};
 use clap::ArgMatches;
 use x3d_values::{MAX_INPUTS, MAX_VIEWERS};
@@ -16,8 +18,8 @@ use x3d_values::{MAX_INPUTS, MAX_VIEWERS};
 /// How many of the last inputs a host keeps, and how many keep their lines of the trace.
 #[derive(Clone, Copy)]
 pub(crate) struct Kept {
-    pub(crate) keep: Option<u32>,
-    pub(crate) forget: Option<u32>,
+    pub(crate) keep: Option<u64>,
+    pub(crate) forget: Option<u64>,
 }
 
 /// Returns the number of viewers of `host` or `serve`, or `Some(None)` if it was left out.
@@ -26,7 +28,7 @@ pub(crate) fn viewers_or_none(found: &ArgMatches<'_>) -> Option<Option<u8>>
     ensures none { IfNone result
         ((o : Option ℕ) → ¬ MayHaveViewers (rows_of (found_of found.now)) o) }
 {
-    match optional_in(found, "viewers", 1, MAX_VIEWERS as u32) {
+    match optional_in(found, "viewers", 1, MAX_VIEWERS as u64) {
         Some(Some(viewers)) => Some(Some(viewers as u8)),
         Some(None) => Some(None),
         None => None,
@@ -38,11 +40,11 @@ fn turns_or_none(found: &ArgMatches<'_>) -> Option<Option<u32>>
     ensures none { IfNone result
         ((o : Option ℕ) → ¬ MayHaveTurns (rows_of (found_of found.now)) o) }
 {
-    optional_in(found, "turns", 1, 10_000_000)
+    optional_u32_in(found, "turns", 1, 10_000_000)
 }
 
 /// Returns the number of `--keep`, or `Some(None)` if it was left out.
-fn keep_in(found: &ArgMatches<'_>) -> Option<Option<u32>>
+fn keep_in(found: &ArgMatches<'_>) -> Option<Option<u64>>
     ensures some { IfSome result (λ o. MayHaveKeep (rows_of (found_of found.now)) o) }
     ensures none { IfNone result
         ((o : Option ℕ) → ¬ MayHaveKeep (rows_of (found_of found.now)) o) }
@@ -72,7 +74,7 @@ pub(crate) fn every_in(found: &ArgMatches<'_>) -> Option<Option<u32>>
     ensures none { IfNone result
         ((o : Option ℕ) → ¬ MayHaveEvery (rows_of (found_of found.now)) o) }
 {
-    optional_in(found, "every", 1, 3_600_000)
+    optional_u32_in(found, "every", 1, 3_600_000)
 }
 
 fn standby_in(found: &ArgMatches<'_>) -> Option<Option<u32>>
@@ -80,7 +82,7 @@ fn standby_in(found: &ArgMatches<'_>) -> Option<Option<u32>>
     ensures none { IfNone result
         ((o : Option ℕ) → ¬ MayHaveStandby (rows_of (found_of found.now)) o) }
 {
-    optional_in(found, "standby", 1, 3_600)
+    optional_u32_in(found, "standby", 1, 3_600)
 }
 
 /// Returns what is done with a log, by which of `--log`, `--new-log` and `--etcd` was given, unless

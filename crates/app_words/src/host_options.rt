@@ -1,7 +1,7 @@
 //! The options of `host` and `serve` alone, with their ranges.
 
-use crate::options::{NumberOption, TextOption, Unless};
-use x3d_values::{MAX_INPUTS, MAX_VIEWERS};
+use crate::options::{High, NumberOption, TextOption, Unless};
+use x3d_values::MAX_VIEWERS;
 
 pub const LISTEN: TextOption = TextOption {
     name: "listen",
@@ -21,7 +21,7 @@ pub const KEYS: TextOption = TextOption {
 pub const HOST_VIEWERS: NumberOption = NumberOption {
     name: "viewers",
     low: 1,
-    high: MAX_VIEWERS as u32,
+    high: High::Number(MAX_VIEWERS as u32),
     unless: Unless::Nothing,
     value: "K",
     help: "How many viewers, 1 to 64 [default: 2, or with --log those of the log]",
@@ -31,7 +31,7 @@ pub const HOST_VIEWERS: NumberOption = NumberOption {
 pub const HOST_TURNS: NumberOption = NumberOption {
     name: "turns",
     low: 1,
-    high: 10_000_000,
+    high: High::Number(10_000_000),
     unless: Unless::Nothing,
     value: "T",
     help: "How many turns at most, 1 to 10000000 [default: 1000000, or with a log no end]",
@@ -76,7 +76,7 @@ pub const LOGIN: TextOption = TextOption {
 pub const STANDBY: NumberOption = NumberOption {
     name: "standby",
     low: 1,
-    high: 3_600,
+    high: High::Number(3_600),
     unless: Unless::Nothing,
     value: "SECONDS",
     help: "With --etcd, makes clocks once no other host has made an input for so long, 1 to 3600",
@@ -85,26 +85,26 @@ pub const STANDBY: NumberOption = NumberOption {
 pub const KEEP: NumberOption = NumberOption {
     name: "keep",
     low: 0,
-    high: MAX_INPUTS,
+    high: High::Inputs,
     unless: Unless::Nothing,
     value: "N",
-    help: "Keeps the last N of the inputs that all viewers have, 0 to 1048576 [default: all]",
+    help: "Keeps the last N of the inputs that all viewers have, 0 to 281474976710655 [default: all]",
 };
 
 /// The option `--forget` of `host`.
 pub const HOST_FORGET: NumberOption = NumberOption {
     name: "forget",
     low: 0,
-    high: MAX_INPUTS,
+    high: High::Inputs,
     unless: Unless::Nothing,
     value: "N",
-    help: "With --keys, keeps the trace of the last N inputs, 0 to 1048576 [default: all]",
+    help: "With --keys, keeps the trace of the last N inputs, 0 to 281474976710655 [default: all]",
 };
 
 pub const EVERY: NumberOption = NumberOption {
     name: "every",
     low: 1,
-    high: 3_600_000,
+    high: High::Number(3_600_000),
     unless: Unless::Nothing,
     value: "MS",
     help: "With a log, makes a clock every MS milliseconds after the job's, 1 to 3600000",
@@ -114,10 +114,10 @@ pub const EVERY: NumberOption = NumberOption {
 pub const HOST_UNTIL: NumberOption = NumberOption {
     name: "until",
     low: 0,
-    high: MAX_INPUTS,
+    high: High::Inputs,
     unless: Unless::Nothing,
     value: "N",
-    help: "Ends once N inputs are numbered and each viewer has them, 0 to 1048576",
+    help: "Ends once N inputs are numbered and each viewer has them, 0 to 281474976710655",
 };
 
 /// The folder of `serve`.
@@ -132,7 +132,7 @@ pub const WORLDS: TextOption = TextOption {
 pub const WORLD_VIEWERS: NumberOption = NumberOption {
     name: "viewers",
     low: 1,
-    high: MAX_VIEWERS as u32,
+    high: High::Number(MAX_VIEWERS as u32),
     unless: Unless::Nothing,
     value: "K",
     help: "How many viewers a new world has, 1 to 64 [default: 2]",
@@ -142,7 +142,7 @@ pub const WORLD_VIEWERS: NumberOption = NumberOption {
 pub const WORLD_EVERY: NumberOption = NumberOption {
     name: "every",
     low: 1,
-    high: 3_600_000,
+    high: High::Number(3_600_000),
     unless: Unless::Nothing,
     value: "MS",
     help: "Makes a clock in each world every MS milliseconds after its job's, 1 to 3600000",
@@ -152,10 +152,10 @@ pub const WORLD_EVERY: NumberOption = NumberOption {
 pub const WORLD_FORGET: NumberOption = NumberOption {
     name: "forget",
     low: 0,
-    high: MAX_INPUTS,
+    high: High::Inputs,
     unless: Unless::Nothing,
     value: "N",
-    help: "Keeps the trace of the last N inputs of each world, 0 to 1048576 [default: all]",
+    help: "Keeps the trace of the last N inputs of each world, 0 to 281474976710655 [default: all]",
 };
 
 /// The option `--etcd` of `serve`.

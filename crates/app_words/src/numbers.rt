@@ -12,17 +12,17 @@ use clap::ArgMatches;
 use x3d_values::{MAX_INPUTS, MAX_VIEWERS};
 
 /// Returns the number of an option.
-fn number(matches: &ArgMatches<'_>, id: &str) -> Option<u32>
+fn number(matches: &ArgMatches<'_>, id: &str) -> Option<u64>
     ensures some { IfSome result (λ n. HasNumber id.now (rows_of (found_of matches.now)) n) }
     ensures none { IfNone result
-        ((n : ℕ) → n < 2 ^ 32 → ¬ HasNumber id.now (rows_of (found_of matches.now)) n) }
+        ((n : ℕ) → n < 2 ^ 64 → ¬ HasNumber id.now (rows_of (found_of matches.now)) n) }
 {
-    matches.get_one::<u32>(id)
+    matches.get_one::<u64>(id)
 }
 
 /// Returns the number of an option, if it is from `low` to `high`. An option's default counts as
 /// its number.
-pub fn number_in(matches: &ArgMatches<'_>, id: &str, low: u32, high: u32) -> Option<u32>
+pub fn number_in(matches: &ArgMatches<'_>, id: &str, low: u64, high: u64) -> Option<u64>
     ensures some { IfSome result
         (λ n. HasNumberIn id.now (rows_of (found_of matches.now)) low high n) }
     ensures none { IfNone result
@@ -44,7 +44,7 @@ fn is_left_out(matches: &ArgMatches<'_>, id: &str) -> bool
 
 /// Returns the number of an option, if it is from `low` to `high`, or `Some(None)` if the option
 /// was left out and has no default.
-pub fn optional_in(matches: &ArgMatches<'_>, id: &str, low: u32, high: u32) -> Option<Option<u32>>
+pub fn optional_in(matches: &ArgMatches<'_>, id: &str, low: u64, high: u64) -> Option<Option<u64>>
     ensures some { IfSome result
         (λ o. MayHaveNumberIn id.now (rows_of (found_of matches.now)) low high o) }
     ensures none { IfNone result
@@ -55,6 +55,26 @@ pub fn optional_in(matches: &ArgMatches<'_>, id: &str, low: u32, high: u32) -> O
     }
     match number_in(matches, id, low, high) {
         Some(n) => Some(Some(n)),
+        None => None,
+    }
+}
+
+/// Returns the number of an option whose numbers have 32 bits, if it is from `low` to `high`, or
+/// `Some(None)` if the option was left out and has no default.
+pub fn optional_u32_in(
+    matches: &ArgMatches<'_>,
+    id: &str,
+    low: u32,
+    high: u32,
+) -> Option<Option<u32>>
+    ensures some { IfSome result
+        (λ o. MayHaveNumberIn id.now (rows_of (found_of matches.now)) low high o) }
+    ensures none { IfNone result
+        ((o : Option ℕ) → ¬ MayHaveNumberIn id.now (rows_of (found_of matches.now)) low high o) }
+{
+    match optional_in(matches, id, low as u64, high as u64) {
+        Some(Some(n)) => Some(Some(n as u32)),
+        Some(None) => Some(None),
         None => None,
     }
 }
@@ -85,7 +105,7 @@ pub fn viewers_in(found: &ArgMatches<'_>) -> Option<u8>
     ensures some { IfSome result (λ n. IsViewers (rows_of (found_of found.now)) n) }
     ensures none { IfNone result ((n : ℕ) → ¬ IsViewers (rows_of (found_of found.now)) n) }
 {
-    let viewers = number_in(found, "viewers", 1, MAX_VIEWERS as u32)?;
+    let viewers = number_in(found, "viewers", 1, MAX_VIEWERS as u64)?;
     Some(viewers as u8)
 }
 
@@ -94,7 +114,8 @@ pub fn turns_in(found: &ArgMatches<'_>) -> Option<u32>
     ensures some { IfSome result (λ n. IsTurns (rows_of (found_of found.now)) n) }
     ensures none { IfNone result ((n : ℕ) → ¬ IsTurns (rows_of (found_of found.now)) n) }
 {
-    number_in(found, "turns", 1, 10_000_000)
+    let turns = number_in(found, "turns", 1, 10_000_000)?;
+    Some(turns as u32)
 }
 
 /// Returns the UDP port, 1 to 65,535, that an option names, or `Some(None)` if the option was left
@@ -122,7 +143,7 @@ pub fn port_in(found: &ArgMatches<'_>) -> Option<Option<u16>>
 }
 
 /// Returns the number of `--until`, or `Some(None)` if it was left out.
-pub fn until_in(found: &ArgMatches<'_>) -> Option<Option<u32>>
+pub fn until_in(found: &ArgMatches<'_>) -> Option<Option<u64>>
     ensures some { IfSome result (λ o. MayHaveUntil (rows_of (found_of found.now)) o) }
     ensures none { IfNone result
         ((o : Option ℕ) → ¬ MayHaveUntil (rows_of (found_of found.now)) o) }
@@ -131,7 +152,7 @@ pub fn until_in(found: &ArgMatches<'_>) -> Option<Option<u32>>
 }
 
 /// Returns the number of `--forget`, or `Some(None)` if it was left out.
-pub fn forget_in(found: &ArgMatches<'_>) -> Option<Option<u32>>
+pub fn forget_in(found: &ArgMatches<'_>) -> Option<Option<u64>>
     ensures some { IfSome result (λ o. MayHaveForget (rows_of (found_of found.now)) o) }
     ensures none { IfNone result
         ((o : Option ℕ) → ¬ MayHaveForget (rows_of (found_of found.now)) o) }

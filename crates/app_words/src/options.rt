@@ -14,12 +14,21 @@ pub enum Unless {
     Nothing,
 }
 
+/// The highest number of an option.
+#[derive(Clone, Copy)]
+pub enum High {
+    /// This number.
+    Number(u32),
+    /// The most inputs that a world can have.
+    Inputs,
+}
+
 /// An option that takes a number from `low` to `high`.
 #[derive(Clone, Copy)]
 pub struct NumberOption {
     pub name: &'static str,
     pub low: u32,
-    pub high: u32,
+    pub high: High,
     pub unless: Unless,
     /// The name of the number in help.
     pub value: &'static str,
@@ -49,13 +58,13 @@ pub struct FlagOption {
 /// The highest number that a viewer can have.
 pub const MAX_WHO: u32 = MAX_VIEWERS as u32 - 1;
 
-// The help of `VIEWERS` and of `WHO` states these numbers.
-const _: () = prove!(MAX_VIEWERS == 64 && MAX_WHO == 63);
+// The help of `VIEWERS`, of `WHO` and of the options of inputs states these numbers.
+const _: () = prove!(MAX_VIEWERS == 64 && MAX_WHO == 63 && MAX_INPUTS == 281_474_976_710_655);
 
 pub const VIEWERS: NumberOption = NumberOption {
     name: "viewers",
     low: 1,
-    high: MAX_VIEWERS as u32,
+    high: High::Number(MAX_VIEWERS as u32),
     unless: Unless::Has("2"),
     value: "K",
     help: "How many viewers, 1 to 64",
@@ -64,7 +73,7 @@ pub const VIEWERS: NumberOption = NumberOption {
 pub const TURNS: NumberOption = NumberOption {
     name: "turns",
     low: 1,
-    high: 10_000_000,
+    high: High::Number(10_000_000),
     unless: Unless::Has("1000000"),
     value: "T",
     help: "How many turns at most, 1 to 10000000",
@@ -73,7 +82,7 @@ pub const TURNS: NumberOption = NumberOption {
 pub const PORT: NumberOption = NumberOption {
     name: "port",
     low: 1,
-    high: 65535,
+    high: High::Number(65535),
     unless: Unless::Nothing,
     value: "P",
     help: "The host's UDP port on 127.0.0.1, 1 to 65535",
@@ -112,10 +121,10 @@ pub const KEEP_NAMES: TextOption = TextOption {
 pub const RECALL_UNTIL: NumberOption = NumberOption {
     name: "until",
     low: 0,
-    high: MAX_INPUTS,
+    high: High::Inputs,
     unless: Unless::Nothing,
     value: "N",
-    help: "Prints the first N inputs, 0 to 1048576 [default: all]",
+    help: "Prints the first N inputs, 0 to 281474976710655 [default: all]",
 };
 
 pub const NO_TRACE: FlagOption = FlagOption {

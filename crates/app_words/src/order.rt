@@ -36,28 +36,28 @@ pub struct HostOrder {
     pub viewers: Option<u8>,
     /// The limit of turns, 1 to 10,000,000, if there is one.
     pub turns: Option<u32>,
-    /// How many of the last inputs are kept for viewers that have them, 0 to 2^20; `None` keeps
+    /// How many of the last inputs are kept for viewers that have them, 0 to 2^48 - 1; `None` keeps
     /// all.
-    pub keep: Option<u32>,
+    pub keep: Option<u64>,
     /// How many of the last inputs keep their lines of the trace in the world for viewers that
-    /// join, 0 to 2^20; `None` keeps all.
-    pub forget: Option<u32>,
+    /// join, 0 to 2^48 - 1; `None` keeps all.
+    pub forget: Option<u64>,
     /// How many milliseconds pass from one clock that the host makes to the next, 1 to 3,600,000,
     /// once those of its job are over; `None` for no such clocks.
     pub every: Option<u32>,
-    /// After how many inputs the host ends, 0 to 2^20; `None` for no such end.
-    pub until: Option<u32>,
+    /// After how many inputs the host ends, 0 to 2^48 - 1; `None` for no such end.
+    pub until: Option<u64>,
     /// Reports events on standard error.
     pub verbose: bool,
 }
 
-/// How many inputs a viewer applies before it ends, 0 to 2^20.
+/// How many inputs a viewer applies before it ends, 0 to 2^48 - 1.
 #[derive(Clone, Copy, PartialEq, Eq)]
 pub enum ViewEnd {
     /// At least this many.
-    Until(u32),
+    Until(u64),
     /// Exactly this many. Inputs beyond them are not applied.
-    Exactly(u32),
+    Exactly(u64),
 }
 
 /// What `view` does; its input is a job of this viewer's points.
@@ -91,8 +91,8 @@ pub struct ViewOrder {
     pub wire: Option<u8>,
     /// Joins from the pieces of a snapshot: another viewer's, or with a key the host's.
     pub join: bool,
-    /// How many of the last inputs keep their lines of the trace, 0 to 2^20; `None` keeps all.
-    pub forget: Option<u32>,
+    /// How many of the last inputs keep their lines of the trace, 0 to 2^48 - 1; `None` keeps all.
+    pub forget: Option<u64>,
     /// Reports events on standard error.
     pub verbose: bool,
 }
@@ -113,12 +113,12 @@ pub struct ServeOrder {
     pub has_login: bool,
     /// How many viewers a new world can have, 1 to `MAX_VIEWERS` of x3d_values, if that is given.
     pub viewers: Option<u8>,
-    /// How many of a world's last inputs are kept for viewers that have them, 0 to 2^20; `None`
+    /// How many of a world's last inputs are kept for viewers that have them, 0 to 2^48 - 1; `None`
     /// keeps all.
-    pub keep: Option<u32>,
+    pub keep: Option<u64>,
     /// How many of a world's last inputs keep their lines of the trace for viewers that join, 0 to
-    /// 2^20; `None` keeps all.
-    pub forget: Option<u32>,
+    /// 2^48 - 1; `None` keeps all.
+    pub forget: Option<u64>,
     /// How many milliseconds pass from one clock that a world's host makes to the next, 1 to
     /// 3,600,000, once those of its job are over; `None` for no such clocks.
     pub every: Option<u32>,
@@ -149,11 +149,11 @@ pub enum Order {
     Host(HostOrder),
     View(ViewOrder),
     Serve(ServeOrder),
-    /// `recall`: the input is a log's file; at most this many of its inputs, 0 to 2^20, or all.
+    /// `recall`: the input is a log's file; at most this many of its inputs, 0 to 2^48 - 1, or all.
     /// `info` prints what the log has instead of them; `makes` makes a log of them in the file that
     /// `--new-log` names.
     Recall {
-        until: Option<u32>,
+        until: Option<u64>,
         info: bool,
         makes: bool,
     },

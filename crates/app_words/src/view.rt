@@ -12,8 +12,8 @@ ghost use Rattle.app_words.specs.declared.view.ViewPorts.{ViewPorts as PortsOf};
 ghost use Rattle.app_words.specs.declared.view.ViewTurns.{ViewTurns as TurnsOf};
 
 use crate::numbers::{
-    forget_in, is_named, is_text_given, number_in, optional_in, port_in, port_or_none, turns_in,
-    until_in,
+    forget_in, is_named, is_text_given, number_in, optional_in, optional_u32_in, port_in,
+    port_or_none, turns_in, until_in,
 };
 use crate::options::MAX_WHO;
 use crate::order::{ViewEnd, ViewOrder};
@@ -39,7 +39,7 @@ fn who_in(found: &ArgMatches<'_>) -> Option<u8>
     ensures some { IfSome result (λ n. IsWho (rows_of (found_of found.now)) n) }
     ensures none { IfNone result ((n : ℕ) → ¬ IsWho (rows_of (found_of found.now)) n) }
 {
-    let who = number_in(found, "who", 0, MAX_WHO)?;
+    let who = number_in(found, "who", 0, MAX_WHO as u64)?;
     Some(who as u8)
 }
 
@@ -48,10 +48,10 @@ fn boot_in(found: &ArgMatches<'_>) -> Option<Option<u32>>
     ensures none { IfNone result
         ((o : Option ℕ) → ¬ MayHaveBoot (rows_of (found_of found.now)) o) }
 {
-    optional_in(found, "boot", 1, u32::MAX)
+    optional_u32_in(found, "boot", 1, u32::MAX)
 }
 
-fn exactly_in(found: &ArgMatches<'_>) -> Option<Option<u32>>
+fn exactly_in(found: &ArgMatches<'_>) -> Option<Option<u64>>
     ensures some { IfSome result (λ o. MayHaveExactly (rows_of (found_of found.now)) o) }
     ensures none { IfNone result
         ((o : Option ℕ) → ¬ MayHaveExactly (rows_of (found_of found.now)) o) }
@@ -98,7 +98,8 @@ fn give_turns_in(found: &ArgMatches<'_>) -> Option<u32>
     ensures some { IfSome result (λ n. IsGiveTurns (rows_of (found_of found.now)) n) }
     ensures none { IfNone result ((n : ℕ) → ¬ IsGiveTurns (rows_of (found_of found.now)) n) }
 {
-    number_in(found, "give-turns", 1, u32::MAX)
+    let turns = number_in(found, "give-turns", 1, u32::MAX as u64)?;
+    Some(turns as u32)
 }
 
 /// Returns the numbers of `--turns` and `--give-turns`, or `None` if one is out of its range.
@@ -130,7 +131,7 @@ fn wire_in(found: &ArgMatches<'_>) -> Option<Option<u8>>
 }
 
 /// Returns the end that `--until` and `--exactly` ask for, if exactly one of them has a number.
-fn end_of(until: Option<u32>, exactly: Option<u32>) -> Option<ViewEnd>
+fn end_of(until: Option<u64>, exactly: Option<u64>) -> Option<ViewEnd>
     ensures { result ≡ end_of until exactly }
 {
     match (until, exactly) {

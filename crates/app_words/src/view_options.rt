@@ -1,7 +1,6 @@
 //! The options of `view` alone, with their ranges and defaults.
 
-use crate::options::{FlagOption, MAX_WHO, NumberOption, TextOption, Unless};
-use x3d_values::MAX_INPUTS;
+use crate::options::{FlagOption, High, MAX_WHO, NumberOption, TextOption, Unless};
 
 /// The option `--host` of `view`.
 pub const HOST: TextOption = TextOption {
@@ -30,7 +29,7 @@ pub const WORLD: TextOption = TextOption {
 pub const WHO: NumberOption = NumberOption {
     name: "who",
     low: 0,
-    high: MAX_WHO,
+    high: High::Number(MAX_WHO),
     unless: Unless::Refused,
     value: "V",
     help: "Which viewer this is, 0 to 63",
@@ -39,7 +38,7 @@ pub const WHO: NumberOption = NumberOption {
 pub const BOOT: NumberOption = NumberOption {
     name: "boot",
     low: 1,
-    high: u32::MAX,
+    high: High::Number(u32::MAX),
     unless: Unless::Nothing,
     value: "B",
     help: "Which start of this viewer this is, 1 to 4294967295 [default: one that works]",
@@ -49,25 +48,25 @@ pub const BOOT: NumberOption = NumberOption {
 pub const VIEW_UNTIL: NumberOption = NumberOption {
     name: "until",
     low: 0,
-    high: MAX_INPUTS,
+    high: High::Inputs,
     unless: Unless::Nothing,
     value: "N",
-    help: "Ends once at least N inputs are applied, 0 to 1048576",
+    help: "Ends once at least N inputs are applied, 0 to 281474976710655",
 };
 
 pub const EXACTLY: NumberOption = NumberOption {
     name: "exactly",
     low: 0,
-    high: MAX_INPUTS,
+    high: High::Inputs,
     unless: Unless::Nothing,
     value: "N",
-    help: "Ends once N inputs are applied, and ignores later ones, 0 to 1048576",
+    help: "Ends once N inputs are applied, and ignores later ones, 0 to 281474976710655",
 };
 
 pub const AT: NumberOption = NumberOption {
     name: "at",
     low: 1,
-    high: 65535,
+    high: High::Number(65535),
     unless: Unless::Nothing,
     value: "Q",
     help: "This viewer's own UDP port, 1 to 65535 [default: a free one]",
@@ -76,7 +75,7 @@ pub const AT: NumberOption = NumberOption {
 pub const GIVE: NumberOption = NumberOption {
     name: "give",
     low: 1,
-    high: 65535,
+    high: High::Number(65535),
     unless: Unless::Nothing,
     value: "Q",
     help: "Sends its snapshot to port Q once its texts are printed, 1 to 65535",
@@ -85,7 +84,7 @@ pub const GIVE: NumberOption = NumberOption {
 pub const GIVE_TURNS: NumberOption = NumberOption {
     name: "give-turns",
     low: 1,
-    high: u32::MAX,
+    high: High::Number(u32::MAX),
     unless: Unless::Has("1000000"),
     value: "T",
     help: "How many turns it gives, 1 to 4294967295",
@@ -94,7 +93,7 @@ pub const GIVE_TURNS: NumberOption = NumberOption {
 pub const WIRE: NumberOption = NumberOption {
     name: "wire",
     low: 1,
-    high: 2,
+    high: High::Number(2),
     unless: Unless::Nothing,
     value: "VERSION",
     help: "The version of datagrams, 1 or 2 [default: 2, or else 1]",
@@ -110,8 +109,8 @@ pub const JOIN: FlagOption = FlagOption {
 pub const VIEW_FORGET: NumberOption = NumberOption {
     name: "forget",
     low: 0,
-    high: MAX_INPUTS,
+    high: High::Inputs,
     unless: Unless::Nothing,
     value: "N",
-    help: "Keeps the trace of the last N inputs, 0 to 1048576 [default: all]",
+    help: "Keeps the trace of the last N inputs, 0 to 281474976710655 [default: all]",
 };

@@ -14,7 +14,7 @@ impl<B: Behaviour> Stage<B> {
     ///
     /// Returns `Spoiled` if the stage is spoiled, or `Ahead` if `below` is above the number of the
     /// next input; the stage is then unchanged.
-    pub fn forget(&mut self, below: u32) -> Result<(), ForgetFault>
+    pub fn forget(&mut self, below: u64) -> Result<(), ForgetFault>
         ensures done { IfNone (forget_refusal below self.old.held) ((result ≡ Ok tt)
             × (self.new ≡ holding self.old (forgotten below self.old.held))) }
         ensures refused { IfSome (forget_refusal below self.old.held) (λ fault.

@@ -24,7 +24,7 @@ pub struct Stage<B: Behaviour> {
     pub(crate) routed: RoutedScene,
     pub(crate) course: Course<B>,
     buffers: Buffers,
-    pub(crate) spoiled: Option<u32>,
+    pub(crate) spoiled: Option<u64>,
 }
 
 impl<B: Behaviour> Model for Stage<B> {
@@ -135,7 +135,7 @@ impl<B: Behaviour> Stage<B> {
 
     /// Returns the number of inputs applied. For a spoiled stage, the number applied before it was
     /// spoiled.
-    pub fn applied(&self) -> u32
+    pub fn applied(&self) -> u64
         ensures { result ≡ applied_of self.now.held }
     {
         match self.spoiled {

@@ -25,8 +25,8 @@ risen-input false o n h = cc
 above-by : (e : Entry) (es : List Entry) (i n : ℕ) (k : EntryKind) → ((j : ℕ) → risen j es ≡ Some n → j ≤ n) →
     risen_by (λ m. risen m es) i e k ≡ Some n → i ≤ n
 above-by e es i n entry_kind.Input more h =
-    let (b, r) = risen-input (nat_lt i e.node) (risen e.node es) n h in
-    omega (arith, ltb-true i e.node b, more e.node r)
+    let (b, r) = risen-input (nat_lt i e.input) (risen e.input es) n h in
+    omega (arith, ltb-true i e.input b, more e.input r)
 above-by e es i n entry_kind.True more h = more i h
 above-by e es i n entry_kind.False more h = more i h
 above-by e es i n entry_kind.Whole more h = more i h
@@ -43,8 +43,8 @@ risen-above (e ∷ es) i n h = above-by e es i n e.kind (λ j r. risen-above es 
 more-by : (e : Entry) (es fs : List Entry) (i n : ℕ) (k : EntryKind) → ((j : ℕ) → risen j es ≡ Some n → risen j (es ++ fs) ≡ risen n fs) →
     risen_by (λ m. risen m es) i e k ≡ Some n → risen_by (λ m. risen m (es ++ fs)) i e k ≡ risen n fs
 more-by e es fs i n entry_kind.Input more h =
-    let (b, r) = risen-input (nat_lt i e.node) (risen e.node es) n h in
-    ap (λ (t : Bool). if t then risen e.node (es ++ fs) else None) b ∙ more e.node r
+    let (b, r) = risen-input (nat_lt i e.input) (risen e.input es) n h in
+    ap (λ (t : Bool). if t then risen e.input (es ++ fs) else None) b ∙ more e.input r
 more-by e es fs i n entry_kind.True more h = more i h
 more-by e es fs i n entry_kind.False more h = more i h
 more-by e es fs i n entry_kind.Whole more h = more i h
@@ -62,7 +62,7 @@ both : (a b : Bool) → (a && b) ≡ true → (a ≡ true) × (b ≡ true)
 both true b h = (refl, h)
 both false b h = cc
 
-next-by : (e : Entry) (last input : ℕ) (k : EntryKind) → k ≡ entry_kind.Input → e.node ≡ input → nat_lt last input ≡ true →
+next-by : (e : Entry) (last input : ℕ) (k : EntryKind) → k ≡ entry_kind.Input → e.input ≡ input → nat_lt last input ≡ true →
     risen_by (λ n. risen n []) last e k ≡ Some input
 unfolding risen
 next-by e last input entry_kind.Input is named above =
@@ -76,7 +76,7 @@ next-by e last input entry_kind.Other is named above = cc
 
 -- an input above the last one
 pub in-order-next : (es : List Entry) (e : Entry) (last input : ℕ) (turn follows : Bool) → (turn ≡ true → risen 0 es ≡ Some last) →
-    e.kind ≡ entry_kind.Input → e.node ≡ input → follows ≡ (turn && nat_lt last input) → follows ≡ true → risen 0 (es ++ e ∷ []) ≡ Some input
+    e.kind ≡ entry_kind.Input → e.input ≡ input → follows ≡ (turn && nat_lt last input) → follows ≡ true → risen 0 (es ++ e ∷ []) ≡ Some input
 unfolding risen
 in-order-next es e last input turn follows before is named said h =
     let (still, above) = both turn (nat_lt last input) (sym said ∙ h) in
@@ -143,8 +143,8 @@ alike P es fs vs ws one other h = subst (λ (us : List Value). P fs us) other (s
 
 -- ---- where the lines begin
 
-begins-input : (first : ℕ) (e : Entry) (k : EntryKind) → kind_begins first e k ≡ true → (k ≡ entry_kind.Input) × (e.node ≤ first)
-begins-input first e entry_kind.Input h = (refl, leb-true e.node first h)
+begins-input : (first : ℕ) (e : Entry) (k : EntryKind) → kind_begins first e k ≡ true → (k ≡ entry_kind.Input) × (e.input ≤ first)
+begins-input first e entry_kind.Input h = (refl, leb-true e.input first h)
 begins-input first e entry_kind.True h = cc
 begins-input first e entry_kind.False h = cc
 begins-input first e entry_kind.Whole h = cc
@@ -155,8 +155,8 @@ begins-input first e entry_kind.Other h = cc
 below-by : (first : ℕ) (e : Entry) (es : List Entry) (i n : ℕ) (k : EntryKind) → ((j : ℕ) → risen j es ≡ Some n → j < first) →
     risen_by (λ m. risen m es) i e k ≡ Some n → i < first
 below-by first e es i n entry_kind.Input more h =
-    let (b, r) = risen-input (nat_lt i e.node) (risen e.node es) n h in
-    omega (arith, ltb-true i e.node b, more e.node r)
+    let (b, r) = risen-input (nat_lt i e.input) (risen e.input es) n h in
+    omega (arith, ltb-true i e.input b, more e.input r)
 below-by first e es i n entry_kind.True more h = more i h
 below-by first e es i n entry_kind.False more h = more i h
 below-by first e es i n entry_kind.Whole more h = more i h
@@ -164,10 +164,10 @@ below-by first e es i n entry_kind.Number more h = more i h
 below-by first e es i n entry_kind.Time more h = more i h
 below-by first e es i n entry_kind.Other more h = more i h
 
-below-first : (first : ℕ) (e : Entry) (es : List Entry) (i n : ℕ) → (k : EntryKind) → k ≡ entry_kind.Input → e.node ≤ first →
+below-first : (first : ℕ) (e : Entry) (es : List Entry) (i n : ℕ) → (k : EntryKind) → k ≡ entry_kind.Input → e.input ≤ first →
     risen_by (λ m. risen m es) i e k ≡ Some n → i < first
 below-first first e es i n entry_kind.Input is low h =
-    omega (arith, low, ltb-true i e.node (risen-input (nat_lt i e.node) (risen e.node es) n h).0)
+    omega (arith, low, ltb-true i e.input (risen-input (nat_lt i e.input) (risen e.input es) n h).0)
 below-first first e es i n entry_kind.True is low h = cc
 below-first first e es i n entry_kind.False is low h = cc
 below-first first e es i n entry_kind.Whole is low h = cc
@@ -213,7 +213,7 @@ module _ (text : TraceLine → List ℕ) (first : ℕ) (silent : IsSilent text f
   none-by : (e : Entry) (es : List Entry) (i n : ℕ) (t : ℤ) (vs : List Value) (k : EntryKind) → i < first →
       ((j : ℕ) (s : ℤ) (us : List Value) → risen j es ≡ Some n → told es j s us ≡ []) →
       risen_by (λ m. risen m es) i e k ≡ Some n → flat_map text (lines_by (lines_of es) i t vs e k) ≡ []
-  none-by e es i n t vs entry_kind.Input low more h = more e.node e.word vs (risen-input (nat_lt i e.node) (risen e.node es) n h).1
+  none-by e es i n t vs entry_kind.Input low more h = more e.input e.word vs (risen-input (nat_lt i e.input) (risen e.input es) n h).1
   none-by e es i n t vs entry_kind.True low more h = skipped es i t (end_of e) (SFBool true) vs low ∙ more i t vs h
   none-by e es i n t vs entry_kind.False low more h = skipped es i t (end_of e) (SFBool false) vs low ∙ more i t vs h
   none-by e es i n t vs entry_kind.Whole low more h = skipped es i t (end_of e) (SFInt32 (whole_of e.word)) vs low ∙ more i t vs h
@@ -239,7 +239,7 @@ module _ (text : TraceLine → List ℕ) (first : ℕ) (silent : IsSilent text f
       risen_by (λ m. risen m es) i e k ≡ Some n →
       flat_map text (lines_by (lines_of es) i t vs e k) ≡ behind es at (drop (cond (is_aside k) 1 0 + count_by takes_value (take at es)) vs)
   since-by e es at i n t vs entry_kind.Input low more h =
-      more e.node e.word vs (risen-input (nat_lt i e.node) (risen e.node es) n h).1 ∙ ap (behind es at) (sym (drop-zero (count_by takes_value (take at es)) vs))
+      more e.input e.word vs (risen-input (nat_lt i e.input) (risen e.input es) n h).1 ∙ ap (behind es at) (sym (drop-zero (count_by takes_value (take at es)) vs))
   since-by e es at i n t vs entry_kind.True low more h =
       skipped es i t (end_of e) (SFBool true) vs low ∙ more i t vs h ∙ ap (behind es at) (sym (drop-zero (count_by takes_value (take at es)) vs))
   since-by e es at i n t vs entry_kind.False low more h =

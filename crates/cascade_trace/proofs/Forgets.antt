@@ -8,7 +8,8 @@ use Rattle.cascade_trace.specs.declared.trace.Entry.{Entry}
 use Rattle.cascade_trace.specs.declared.trace.EntryKind.{EntryKind}
 use Rattle.cascade_trace.specs.declared.trace.EntryKind.TheVariants as entry_kind
 use Rattle.cascade_trace.specs.declared.trace.TraceLine.{TraceLine}
-use Rattle.cascade_trace.specs.Forgetting.{entries_from, input_after, input_by, last_input, last_time, lines_from, time_by, value_from, values_from}
+use Rattle.cascade_trace.specs.Forgetting.{lines_from}
+use Rattle.cascade_trace.specs.Staying.{entries_from, input_after, input_by, last_input, last_time, time_by, value_from, values_from}
 use Rattle.cascade_trace.specs.Since.{is_aside, risen, risen_by, takes_value}
 use Rattle.cascade_trace.specs.Trace.{lines_of, lines_by, line, end_of, whole_of}
 
@@ -26,7 +27,7 @@ module _ (fs : List Entry) (ws : List Value) where
       lines_of (es ++ fs) j s (us ++ ws) ≡ lines_of es j s us ++ lines_of fs (last_input es j) (last_time es s) ws) →
       lines_by (lines_of (es ++ fs)) i t (vs ++ ws) e k
       ≡ lines_by (lines_of es) i t vs e k ++ lines_of fs (last_input es (input_by i e k)) (last_time es (time_by t e k)) ws
-  open-by e es i t vs entry_kind.Input n more = more e.node e.word vs (omega (arith, n))
+  open-by e es i t vs entry_kind.Input n more = more e.input e.word vs (omega (arith, n))
   open-by e es i t vs entry_kind.True n more = ap (λ (ls : List TraceLine). line i t (end_of e) (SFBool true) ∷ ls) (more i t vs (omega (arith, n)))
   open-by e es i t vs entry_kind.False n more = ap (λ (ls : List TraceLine). line i t (end_of e) (SFBool false) ∷ ls) (more i t vs (omega (arith, n)))
   open-by e es i t vs entry_kind.Whole n more = ap (λ (ls : List TraceLine). line i t (end_of e) (SFInt32 (whole_of e.word)) ∷ ls) (more i t vs (omega (arith, n)))
@@ -95,9 +96,9 @@ module _ (below : ℕ) where
       ≡ lines_from below (lines_by (lines_of es) i t vs e k)
   unfolding lines_of
   from-by e es stay rest i j t s vs entry_kind.Input true is up at n more =
-      ap (lines_by (lines_of stay) j s (rest vs) e) is ∙ more e.node e.word e.word vs (omega (arith, n)) (λ h. (refl, refl))
+      ap (lines_by (lines_of stay) j s (rest vs) e) is ∙ more e.input e.word e.word vs (omega (arith, n)) (λ h. (refl, refl))
   from-by e es stay rest i j t s vs entry_kind.Input false is low-one at n more =
-      more j e.word s vs (omega (arith, n)) (none-at e.node j e.word s low-one)
+      more j e.word s vs (omega (arith, n)) (none-at e.input j e.word s low-one)
   from-by e es stay rest i j t s vs entry_kind.True true is up at n more =
       ap (lines_by (lines_of stay) j s (rest vs) e) is ∙ one-from e (SFBool true) es stay i j t s vs (rest vs) up at (more j t s vs (omega (arith, n)) at)
   from-by e es stay rest i j t s vs entry_kind.False true is up at n more =
@@ -146,13 +147,13 @@ module _ (below : ℕ) where
       risen_by (λ j. risen j es) l e k ≡ Some n → ((j o : ℕ) → o ≤ j → risen j es ≡ Some n → Rises stay o) → Rises (if stays then e ∷ stay else stay) m
   unfolding risen last_input
   rises-by e es stay l m n entry_kind.Input true is low h more =
-      let (above, r) = after-input (nat_lt l e.node) (risen e.node es) n h in
-      let over : nat_lt m e.node ≡ true = lt-ltb m e.node (omega (arith, low, ltb-true l e.node above)) in
-      ap (risen_by (λ j. risen j stay) m e) is ∙ ap (λ (x : Bool). if x then risen e.node stay else None) over ∙ more e.node e.node (omega arith) r
+      let (above, r) = after-input (nat_lt l e.input) (risen e.input es) n h in
+      let over : nat_lt m e.input ≡ true = lt-ltb m e.input (omega (arith, low, ltb-true l e.input above)) in
+      ap (risen_by (λ j. risen j stay) m e) is ∙ ap (λ (x : Bool). if x then risen e.input stay else None) over ∙ more e.input e.input (omega arith) r
       ∙ sym (ap (λ (k : EntryKind). Some (last_input stay (input_by m e k))) is)
   rises-by e es stay l m n entry_kind.Input false is low h more =
-      let (above, r) = after-input (nat_lt l e.node) (risen e.node es) n h in
-      more e.node m (omega (arith, low, ltb-true l e.node above)) r
+      let (above, r) = after-input (nat_lt l e.input) (risen e.input es) n h in
+      more e.input m (omega (arith, low, ltb-true l e.input above)) r
   rises-by e es stay l m n entry_kind.True true is low h more =
       ap (risen_by (λ j. risen j stay) m e) is ∙ more l m low h ∙ sym (ap (λ (k : EntryKind). Some (last_input stay (input_by m e k))) is)
   rises-by e es stay l m n entry_kind.False true is low h more =

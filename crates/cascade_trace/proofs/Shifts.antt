@@ -4,7 +4,7 @@ use Rattle.std.specs.Prelude.{count_by, nat_le, nat_lt, slice_index_or, slice_se
 use Rattle.std.proofs.lemmas.List.{append_assoc, append-nil, at_drop_more, drop-set-lt, drop_all, drop_more, get_or_default, length-set, take-set, take-set-le, take_more_set}
 use Rattle.x3d_values.specs.declared.value.Value.{Value}
 use Rattle.cascade_trace.specs.declared.trace.Entry.{Entry}
-use Rattle.cascade_trace.specs.Forgetting.{entries_from, input_after, last_input, last_time, time_after, value_from, values_from}
+use Rattle.cascade_trace.specs.Staying.{entries_from, input_after, last_input, last_time, time_after, value_from, values_from}
 use Rattle.cascade_trace.specs.Since.{takes_value}
 use Rattle.cascade_trace.proofs.Forgets.{count-one, one_if}
 

@@ -16,7 +16,7 @@ use Rattle.cascade_trace.specs.declared.trace.TraceLine.{TraceLine}
 use Rattle.cascade_trace.specs.Trace.{lines_of, lines_by, line, end_of, plain_value, is_event, tells_line, kept_lines, taking, IsOpen}
 
 -- the entry of an input
-pub input-left : (e : Entry) (es : List Entry) (i : ℕ) (t : ℤ) (vs : List Value) → e.kind ≡ entry_kind.Input → lines_of (e ∷ es) i t vs ≡ lines_of es e.node e.word vs
+pub input-left : (e : Entry) (es : List Entry) (i : ℕ) (t : ℤ) (vs : List Value) → e.kind ≡ entry_kind.Input → lines_of (e ∷ es) i t vs ≡ lines_of es e.input e.word vs
 unfolding lines_of
 input-left e es i t vs h = ap (lines_by (lines_of es) i t vs e) h
 
@@ -99,7 +99,7 @@ many-by : (e : Entry) (es : List Entry) (i : ℕ) (t : ℤ) (vs : List Value) (k
     ((j : ℕ) (s : ℤ) (us : List Value) → length es ≤ length us → length (lines_of es j s us) ≡ count_by tells_line es) →
     length es + 1 ≤ length vs →
     length (lines_by (lines_of es) i t vs e k) ≡ cond (is_event k) 1 0 + count_by tells_line es
-many-by e es i t vs entry_kind.Input more n = omega (arith, more e.node e.word vs (omega (arith, n)))
+many-by e es i t vs entry_kind.Input more n = omega (arith, more e.input e.word vs (omega (arith, n)))
 many-by e es i t vs entry_kind.True more n = omega (arith, more i t vs (omega (arith, n)))
 many-by e es i t vs entry_kind.False more n = omega (arith, more i t vs (omega (arith, n)))
 many-by e es i t vs entry_kind.Whole more n = omega (arith, more i t vs (omega (arith, n)))

@@ -10,7 +10,7 @@ use Rattle.cascade_trace.specs.declared.trace.EntryKind.TheVariants as entry_kin
 use Rattle.std.proofs.lemmas.Int.{to_z-of_z}
 use Rattle.std.proofs.Common.{Option, Some, None}
 use Rattle.x3d_values.specs.declared.value.Value.TheVariants.{SFBool, SFInt32, SFFloat, SFTime, SFString, SFVec2f, SFVec3f, SFColor, SFNode, MFBool, MFInt32, MFFloat, MFTime, MFString, MFVec2f, MFVec3f, MFColor, MFNode}
-use Rattle.cascade_trace.specs.Trace.{lines_of, line, IsPlain, IsWhole, plain_entry}
+use Rattle.cascade_trace.specs.Trace.{lines_of, line, IsPlain, IsWhole, input_entry, plain_entry}
 
 -- a signed number that was handed on is the number
 pub ruleset passed = (to_z-of_z, append_assoc)
@@ -37,13 +37,13 @@ module _ (es : List Entry) (vs : List Value) (i : ℕ) (t : ℤ) (opens : IsOpen
   lines-one : (e : Entry) → lines_of (es ++ e ∷ []) 0 (pos 0) vs ≡ lines_of es 0 (pos 0) vs ++ lines_of (e ∷ []) i t []
   lines-one e = let more = opens (e ∷ []) [] in rw (append-nil vs) at more
 
-  pub input-opens : (j : ℕ) (s : ℤ) → IsOpenAt (es ++ record { node = j; field = 0; kind = entry_kind.Input; word = s } ∷ []) vs j s
+  pub input-opens : (j : ℕ) (s : ℤ) → IsOpenAt (es ++ input_entry j s ∷ []) vs j s
   unfolding lines_of
-  input-opens j s = opens-one (record { node = j; field = 0; kind = entry_kind.Input; word = s }) j s (λ fs ws. refl)
+  input-opens j s = opens-one (input_entry j s) j s (λ fs ws. refl)
 
-  pub input-lines : (j : ℕ) (s : ℤ) → lines_of (es ++ record { node = j; field = 0; kind = entry_kind.Input; word = s } ∷ []) 0 (pos 0) vs ≡ lines_of es 0 (pos 0) vs
+  pub input-lines : (j : ℕ) (s : ℤ) → lines_of (es ++ input_entry j s ∷ []) 0 (pos 0) vs ≡ lines_of es 0 (pos 0) vs
   unfolding lines_of
-  input-lines j s = lines-one (record { node = j; field = 0; kind = entry_kind.Input; word = s }) ∙ append-nil (lines_of es 0 (pos 0) vs)
+  input-lines j s = lines-one (input_entry j s) ∙ append-nil (lines_of es 0 (pos 0) vs)
 
   plain-rest : (source : End) (v : Value) (fs : List Entry) (ws : List Value) →
       line i t source v ∷ lines_of fs i t ws ≡ (line i t source v ∷ lines_of [] i t []) ++ lines_of fs i t ws
@@ -57,14 +57,14 @@ module _ (es : List Entry) (vs : List Value) (i : ℕ) (t : ℤ) (opens : IsOpen
   unfolding lines_of
   plain-lines source v e h = lines-one e ∙ ap (λ (ls : List TraceLine). lines_of es 0 (pos 0) vs ++ ls) (h [] i t [])
 
-  pub other-opens : (source : End) (v : Value) → IsOpenAt (es ++ record { node = source.node; field = source.field; kind = entry_kind.Other; word = pos 0 } ∷ []) (vs ++ v ∷ []) i t
+  pub other-opens : (source : End) (v : Value) → IsOpenAt (es ++ record { input = 0; node = source.node; field = source.field; kind = entry_kind.Other; word = pos 0 } ∷ []) (vs ++ v ∷ []) i t
   unfolding lines_of
-  other-opens source v = opens-more (record { node = source.node; field = source.field; kind = entry_kind.Other; word = pos 0 }) (v ∷ []) i t (λ fs ws. refl)
+  other-opens source v = opens-more (record { input = 0; node = source.node; field = source.field; kind = entry_kind.Other; word = pos 0 }) (v ∷ []) i t (λ fs ws. refl)
 
   pub other-lines : (source : End) (v : Value) →
-      lines_of (es ++ record { node = source.node; field = source.field; kind = entry_kind.Other; word = pos 0 } ∷ []) 0 (pos 0) (vs ++ v ∷ []) ≡ lines_of es 0 (pos 0) vs ++ line i t source v ∷ []
+      lines_of (es ++ record { input = 0; node = source.node; field = source.field; kind = entry_kind.Other; word = pos 0 } ∷ []) 0 (pos 0) (vs ++ v ∷ []) ≡ lines_of es 0 (pos 0) vs ++ line i t source v ∷ []
   unfolding lines_of
-  other-lines source v = opens (record { node = source.node; field = source.field; kind = entry_kind.Other; word = pos 0 } ∷ []) (v ∷ [])
+  other-lines source v = opens (record { input = 0; node = source.node; field = source.field; kind = entry_kind.Other; word = pos 0 } ∷ []) (v ∷ [])
 
 plain-one : (source : End) (v : Value) (f e : Entry) → IsPlain source v f → Some f ≡ Some e → IsPlain source v e
 plain-one source v f e p h = let same : f ≡ e = cc in subst (λ (x : Entry). IsPlain source v x) same p

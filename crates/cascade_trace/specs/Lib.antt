@@ -4,4 +4,5 @@ pub mod Forgetting
 pub mod LineText
 pub mod Since
 pub mod Spans
+pub mod Staying
 pub mod Trace

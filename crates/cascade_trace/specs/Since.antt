@@ -20,7 +20,7 @@ takes_value e = is_aside e.kind
 
 -- an entry of this kind is an input whose number is at most `first`
 abbrev pub kind_begins : ℕ → Entry → EntryKind → Bool
-kind_begins first e entry_kind.Input = nat_le e.node first
+kind_begins first e entry_kind.Input = nat_le e.input first
 kind_begins first e _ = false
 
 abbrev pub begins_by : ℕ → Entry → Bool
@@ -28,7 +28,7 @@ begins_by first e = kind_begins first e e.kind
 
 -- the number of the last input, if each is above the one before it
 abbrev pub risen_by : (ℕ → Option ℕ) → ℕ → Entry → EntryKind → Option ℕ
-risen_by rest last e entry_kind.Input = if nat_lt last e.node then rest e.node else None
+risen_by rest last e entry_kind.Input = if nat_lt last e.input then rest e.input else None
 risen_by rest last e _ = rest last
 
 unfoldable pub risen : ℕ → List Entry → Option ℕ

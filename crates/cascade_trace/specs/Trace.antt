@@ -29,7 +29,7 @@ taking rest input time source (v ∷ values) = line input time source v ∷ rest
 -- time
 abbrev pub lines_by : (ℕ → ℤ → List Value → List TraceLine) → ℕ → ℤ → List Value → Entry → EntryKind
     → List TraceLine
-lines_by rest input time values e entry_kind.Input = rest e.node e.word values
+lines_by rest input time values e entry_kind.Input = rest e.input e.word values
 lines_by rest input time values e entry_kind.True =
     line input time (end_of e) (SFBool true) ∷ rest input time values
 lines_by rest input time values e entry_kind.False =
@@ -83,7 +83,12 @@ IsPlain source v e = (es : List Entry) (input : ℕ) (time : ℤ) (vs : List Val
 
 abbrev pub entry_of : End → EntryKind → ℤ → Entry
 entry_of source kind word =
-    record { node = source.node; field = source.field; kind = kind; word = word }
+    record { input = 0; node = source.node; field = source.field; kind = kind; word = word }
+
+-- the entry of an input
+abbrev pub input_entry : ℕ → ℤ → Entry
+input_entry input time =
+    record { input = input; node = 0; field = 0; kind = entry_kind.Input; word = time }
 
 -- the entry of an event with this value, if the entry can hold the value itself
 abbrev pub plain_entry : End → Value → Option Entry

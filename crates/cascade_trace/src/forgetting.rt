@@ -1,7 +1,7 @@
 //! Drops the entries of inputs below a number.
 
 ghost use Rattle.std.specs.Prelude.{◌≡◌, count_by, length, pos, take};
-ghost use Rattle.cascade_trace.specs.Forgetting.{entries_from, input_after, last_input, last_time, time_after, values_from};
+ghost use Rattle.cascade_trace.specs.Staying.{entries_from, input_after, last_input, last_time, time_after, values_from};
 ghost use Rattle.cascade_trace.specs.Since.{takes_value};
 
 use crate::lines::{Moment, moment_of};
@@ -10,17 +10,17 @@ use crate::trace::{Entry, EntryKind, EntryList};
 use x3d_values::Value;
 
 /// Returns the number of the last input, once an entry is passed.
-fn input_after(input: u32, entry: &Entry) -> u32
+fn input_after(input: u64, entry: &Entry) -> u64
     ensures { result ≡ input_after input entry.now }
 {
     match entry.kind {
-        EntryKind::Input => entry.node,
+        EntryKind::Input => entry.input,
         _ => input,
     }
 }
 
 /// Keeps of the entries those of inputs from `below` on, and drops the others.
-pub(crate) fn keep_entries(entries: &mut Vec<Entry>, below: u32)
+pub(crate) fn keep_entries(entries: &mut Vec<Entry>, below: u64)
     ensures { entries.new.items ≡ entries_from below entries.old.items 0 }
 {
     let mut input = 0;
@@ -38,7 +38,7 @@ pub(crate) fn keep_entries(entries: &mut Vec<Entry>, below: u32)
 
 /// Keeps of the separate values those of entries of inputs from `below` on, and drops the others.
 /// There must be one value for each entry that takes one.
-pub(crate) fn keep_values(values: &mut Vec<Value>, entries: &[Entry], below: u32)
+pub(crate) fn keep_values(values: &mut Vec<Value>, entries: &[Entry], below: u64)
     requires { count_by takes_value entries.now ≡ length values.old.items }
     ensures { values.new.items ≡ values_from below entries.now 0 values.old.items }
 {
@@ -98,7 +98,7 @@ impl EntryList {
     }
 
     /// Drops the lines of inputs below a number. Takes no memory.
-    pub(crate) fn forget(&mut self, below: u32)
+    pub(crate) fn forget(&mut self, below: u64)
         requires counted { IsCounted self.old }
         requires in_order { IsInOrder self.old }
         ensures open { IsOpen self.new }

@@ -23,7 +23,7 @@ const GREATEST: i64 = 2_147_483_647;
 #[derive(Clone, Copy)]
 pub struct LineHead {
     /// The number of the input.
-    pub input: u32,
+    pub input: u64,
     /// In microseconds.
     pub time: i64,
     /// The output.
@@ -33,7 +33,7 @@ pub struct LineHead {
 /// The number and the time of an input.
 #[derive(Clone, Copy, PartialEq, Eq)]
 pub(crate) struct Moment {
-    pub input: u32,
+    pub input: u64,
     pub time: i64,
 }
 
@@ -81,10 +81,10 @@ pub(crate) fn plain_value(kind: EntryKind, word: i64) -> Option<Value>
 /// Returns the input that an entry records.
 #[tactic(auto, using(crate::proofs::Traces::passed))]
 pub(crate) fn moment_of(entry: Entry) -> Moment
-    ensures { result ≡ record { input = entry.node; time = entry.word } }
+    ensures { result ≡ record { input = entry.input; time = entry.word } }
 {
     Moment {
-        input: entry.node,
+        input: entry.input,
         time: entry.word,
     }
 }

@@ -27,18 +27,18 @@ fn values_of(entries: &[Entry]) -> usize
 }
 
 /// Reports whether an entry is an input whose number is at most `first`.
-fn begins_by(entry: &Entry, first: u32) -> bool
+fn begins_by(entry: &Entry, first: u64) -> bool
     ensures { result ≡ begins_by first entry.now }
 {
     match entry.kind {
-        EntryKind::Input => entry.node <= first,
+        EntryKind::Input => entry.input <= first,
         _ => false,
     }
 }
 
 /// Returns the place of the last entry that is an input whose number is at most `first`, if there
 /// is one.
-pub(crate) fn start_of(entries: &[Entry], first: u32) -> Option<usize>
+pub(crate) fn start_of(entries: &[Entry], first: u64) -> Option<usize>
     ensures { IfSome result
         (λ at. option_map_or (begins_by first) (slice_get entries.now at) false ≡ true) }
 {

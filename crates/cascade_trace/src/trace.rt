@@ -1,8 +1,8 @@
-//! The trace as it is kept: 16 bytes for each event, and the number and the time of an input once
+//! The trace as it is kept: 24 bytes for each event, and the number and the time of an input once
 //! for all its events.
 
 ghost use Rattle.std.specs.Prelude.{◌≡◌, ◌++◌, [], ◌∷◌, ◌&&◌, nat_lt, OnErr, OnOk};
-ghost use Rattle.cascade_trace.specs.Trace.{IsWhole, entry_of, plain_entry, whole_of};
+ghost use Rattle.cascade_trace.specs.Trace.{IsWhole, entry_of, input_entry, plain_entry, whole_of};
 
 use crate::lines::{WritesLines, lines_in, write_lines};
 use crate::passing::{TestsLines, all_pass};
@@ -16,7 +16,7 @@ use x3d_values::{Value, clone_value};
 #[derive(Drop)]
 pub struct TraceLine {
     /// The number of the input.
-    pub input: u32,
+    pub input: u64,
     /// In microseconds.
     pub time: i64,
     /// The output.
@@ -27,7 +27,7 @@ pub struct TraceLine {
 /// The kind of an entry.
 #[derive(Clone, Copy)]
 pub enum EntryKind {
-    /// An input, for the events after it: its number is in `node`, its time in `word`.
+    /// An input, for the events after it: its number is in `input`, its time in `word`.
     Input,
     /// The value TRUE.
     True,
@@ -46,19 +46,21 @@ pub enum EntryKind {
 /// An event, or the input of the events after it.
 #[derive(Clone, Copy)]
 pub struct Entry {
+    /// 0 for an event.
+    pub input: u64,
     pub node: u32,
     pub field: u16,
     pub kind: EntryKind,
     pub word: i64,
 }
 
-const _: () = prove!(size_of::<Entry>() == 16);
+const _: () = prove!(size_of::<Entry>() == 24);
 
 /// The entries of a trace, and the values that are kept separately.
 #[derive(Drop)]
 pub struct EntryList {
     /// The number and the time of the input of the next events.
-    pub input: u32,
+    pub input: u64,
     pub time: i64,
     /// Whether each input's number is above the numbers before it.
     pub in_order: bool,
@@ -72,6 +74,7 @@ fn entry_of(source: End, kind: EntryKind, word: i64) -> Entry
     ensures { result ≡ entry_of source kind word }
 {
     Entry {
+        input: 0,
         node: source.node,
         field: source.field,
         kind,
@@ -81,11 +84,12 @@ fn entry_of(source: End, kind: EntryKind, word: i64) -> Entry
 
 /// Returns the entry of an input.
 #[tactic(auto, using(crate::proofs::Traces::passed))]
-fn input_entry(input: u32, time: i64) -> Entry
-    ensures { result ≡ record { node = input; field = 0; kind = EntryKind.Input; word = time } }
+fn input_entry(input: u64, time: i64) -> Entry
+    ensures { result ≡ input_entry input time }
 {
     Entry {
-        node: input,
+        input,
+        node: 0,
         field: 0,
         kind: EntryKind::Input,
         word: time,
@@ -118,7 +122,7 @@ fn plain_entry(source: End, value: &Value) -> Option<Entry>
 }
 
 /// Reports whether the numbers of all inputs rise, `next` included.
-fn follows(in_order: bool, last: u32, next: u32) -> bool
+fn follows(in_order: bool, last: u64, next: u64) -> bool
     ensures { result ≡ (in_order && nat_lt last next) }
 {
     in_order && last < next
@@ -132,7 +136,7 @@ impl EntryList {
     ghost use Rattle.cascade_trace.specs.Trace.{IsOpen, kept_lines, line};
 
     /// Sets the input of the next events.
-    fn begin(&mut self, input: u32, time: i64) -> Result<(), AllocError>
+    fn begin(&mut self, input: u64, time: i64) -> Result<(), AllocError>
         requires open { IsOpen self.old }
         requires counted { IsCounted self.old }
         requires in_order { IsInOrder self.old }
@@ -179,7 +183,7 @@ impl EntryList {
     /// `out` may hold a part of them.
     fn write_from<W: WritesLines>(
         &self,
-        first: u32,
+        first: u64,
         writer: &mut W,
         out: &mut Vec<u8>,
     ) -> Result<(), AllocError>
@@ -270,7 +274,7 @@ impl Trace {
     pub fn push(
         &mut self,
         alloc: Global,
-        input: u32,
+        input: u64,
         time: i64,
         source: End,
         value: &Value,
@@ -290,7 +294,7 @@ impl Trace {
     }
 
     /// Drops the lines of inputs with a number below `below`. Takes no memory.
-    pub fn forget(&mut self, below: u32)
+    pub fn forget(&mut self, below: u64)
         ensures { self.new ≡ lines_from below self.old }
     {
         self.kept.forget(below);
@@ -321,7 +325,7 @@ impl Trace {
     /// the inputs rise, it starts at the last input whose number is at most `first`.
     pub fn write_from<W: WritesLines>(
         &self,
-        first: u32,
+        first: u64,
         writer: &mut W,
         out: &mut Vec<u8>,
     ) -> Result<(), AllocError>

@@ -20,7 +20,7 @@ pub const VIEWERS: usize = MAX_VIEWERS as usize;
 #[derive(Drop)]
 pub struct WorldData {
     /// The number of inputs applied.
-    pub applied: u32,
+    pub applied: u64,
     /// The time of the last input in microseconds, or 0.
     pub last_time: i64,
     pub fields: State,

@@ -13,7 +13,7 @@ use std::alloc::Global;
 
 /// Lists the fields that inputs after number `since` set, and the numbers of their values.
 #[unsafe(no_mangle)]
-pub extern "C" fn x3d_world_list_changed(alloc: Global, handle: &mut WorldHandle, since: u32) -> u8
+pub extern "C" fn x3d_world_list_changed(alloc: Global, handle: &mut WorldHandle, since: u64) -> u8
     ensures { Calls (λ (w : Embedded). ListsChanged (look.changed_in w.stage since) w)
         status_of_look handle.old.world result handle.new.world }
 {

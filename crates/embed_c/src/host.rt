@@ -72,7 +72,7 @@ pub extern "C" fn x3d_host_clock(
     alloc: Global,
     handle: &mut HostHandle,
     time: i64,
-    number: &mut u32,
+    number: &mut u64,
 ) -> u8
     ensures { CallsOut (λ (h : Embedded). hosts.Clocks h time) (status_by status_of_number)
         number_by handle.old.host result handle.new.host number.old number.new }
@@ -132,7 +132,7 @@ pub extern "C" fn x3d_host_heard(
     alloc: Global,
     handle: &mut HostHandle,
     who: u8,
-    asked: &mut u32,
+    asked: &mut u64,
 ) -> u8
     ensures kept { handle.new.host ≡ handle.old.host }
     ensures asked { Hears (λ (h : Embedded). hosts.heard_of h who) handle.old.host result asked.old
@@ -148,7 +148,7 @@ pub extern "C" fn x3d_host_heard(
 
 /// Drops the inputs that every viewer that asked has, except the last `count` of them.
 #[unsafe(no_mangle)]
-pub extern "C" fn x3d_host_keep(alloc: Global, handle: &mut HostHandle, count: u32) -> u8
+pub extern "C" fn x3d_host_keep(alloc: Global, handle: &mut HostHandle, count: u64) -> u8
     ensures { Calls (keeps count) status_of_nothing handle.old.host result handle.new.host }
 {
     let Some(mut host) = take(handle, alloc) else {
@@ -164,7 +164,7 @@ pub extern "C" fn x3d_host_keep(alloc: Global, handle: &mut HostHandle, count: u
 pub extern "C" fn x3d_host_packet(
     alloc: Global,
     handle: &mut HostHandle,
-    number: u32,
+    number: u64,
     out: &mut [u8],
     wanted: &mut usize,
 ) -> u8
@@ -203,7 +203,7 @@ pub extern "C" fn x3d_host_ack(
 
 /// Writes the floor to `number`: inputs below it have no datagrams.
 #[unsafe(no_mangle)]
-pub extern "C" fn x3d_host_floor(alloc: Global, handle: &mut HostHandle, number: &mut u32) -> u8
+pub extern "C" fn x3d_host_floor(alloc: Global, handle: &mut HostHandle, number: &mut u64) -> u8
     ensures kept { handle.new.host ≡ handle.old.host }
     ensures number { Asks (λ (h : Embedded). h.host.part.floor) handle.old.host result number.old
         number.new }
@@ -238,7 +238,7 @@ pub extern "C" fn x3d_host_floor_packet(
 
 /// Drops the inputs below this number.
 #[unsafe(no_mangle)]
-pub extern "C" fn x3d_host_drop_below(alloc: Global, handle: &mut HostHandle, number: u32) -> u8
+pub extern "C" fn x3d_host_drop_below(alloc: Global, handle: &mut HostHandle, number: u64) -> u8
     ensures { Calls (λ (h : Embedded). hosts.Drops h number) status_of_floor
         handle.old.host result handle.new.host }
 {
@@ -252,7 +252,7 @@ pub extern "C" fn x3d_host_drop_below(alloc: Global, handle: &mut HostHandle, nu
 
 /// Writes how many inputs are numbered to `count`.
 #[unsafe(no_mangle)]
-pub extern "C" fn x3d_host_count(alloc: Global, handle: &mut HostHandle, count: &mut u32) -> u8
+pub extern "C" fn x3d_host_count(alloc: Global, handle: &mut HostHandle, count: &mut u64) -> u8
     ensures kept { handle.new.host ≡ handle.old.host }
     ensures count { Asks (λ (h : Embedded). h.host.part.count) handle.old.host result count.old
         count.new }

@@ -47,7 +47,7 @@ fn apply(alloc: Global, handle: &mut WorldHandle, input: &Stamped, work: &mut Wo
 pub extern "C" fn x3d_world_clock(
     alloc: Global,
     handle: &mut WorldHandle,
-    number: u32,
+    number: u64,
     time: i64,
     work: &mut WorkCount,
 ) -> u8
@@ -90,7 +90,7 @@ pub(crate) fn aimed(aim: &Aim) -> Option<Ray>
 }
 
 /// Returns the pointer input of viewer `who`. `None` if a number is out of range.
-fn pointed(number: u32, time: i64, who: u8, down: bool, aim: &Aim) -> Option<Stamped>
+fn pointed(number: u64, time: i64, who: u8, down: bool, aim: &Aim) -> Option<Stamped>
     ensures { result ≡ pointed number time who down aim.now }
 {
     let Some(pointer) = pointer_of(who, down, origin_of(aim), direction_of(aim)) else {
@@ -104,7 +104,7 @@ fn pointed(number: u32, time: i64, who: u8, down: bool, aim: &Aim) -> Option<Sta
 pub extern "C" fn x3d_world_point(
     alloc: Global,
     handle: &mut WorldHandle,
-    number: u32,
+    number: u64,
     time: i64,
     who: u8,
     down: bool,

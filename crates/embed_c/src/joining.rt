@@ -37,7 +37,7 @@ pub extern "C" fn x3d_viewer_rewind(
     handle: &mut ViewerHandle,
     boot: u32,
     bytes: &[u8],
-    applied: &mut u32,
+    applied: &mut u64,
 ) -> u8
     ensures { CallsOut (λ (v : Embedded). viewers.Rewinds v boot bytes.now)
         (status_by status_of_snap) number_by handle.old.viewer result handle.new.viewer
@@ -122,7 +122,7 @@ pub extern "C" fn x3d_viewer_join(
     alloc: Global,
     handle: &mut ViewerHandle,
     boot: u32,
-    applied: &mut u32,
+    applied: &mut u64,
 ) -> u8
     ensures { CallsOut (λ (v : Embedded). viewers.Joins v boot) (status_by status_of_join)
         number_by handle.old.viewer result handle.new.viewer applied.old applied.new }

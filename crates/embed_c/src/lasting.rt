@@ -45,7 +45,7 @@ pub extern "C" fn x3d_host_resume(
     text: &[u8],
     viewers: u8,
     log: &[u8],
-    entry: &mut u32,
+    entry: &mut u64,
 ) -> u8
     ensures { HostResumes text.now viewers log.now result handle.new.host entry.old entry.new }
 {

@@ -4,13 +4,14 @@
 //! The functions of a world are in `open`, `inputs`, `scripts`, `shots`, `texts`, `lists`,
 //! `changed` and `asks`. Those of a host are in `host` and `lasting`, and those of a viewer in
 //! `viewer`, `joining`, `viewer_texts`, `viewer_lists`, `viewer_changed` and `viewer_asks`.
-//! `routes` has a call of a world and one of a viewer. Those of a log in a file are in `logs`.
-//! `datagram` reads a datagram, and `parts` makes the part of a text.
+//! `routes` and `forgetting` have a call of a world and one of a viewer each. Those of a log in a
+//! file are in `logs`. `datagram` reads a datagram, and `parts` makes the part of a text.
 #![tactic(auto)]
 
 mod asks;
 mod changed;
 mod datagram;
+mod forgetting;
 mod host;
 mod inputs;
 mod joining;

@@ -70,7 +70,7 @@ pub extern "C" fn x3d_world_list_value(
 
 /// Writes the number of inputs that were applied, or that had been when memory ran out, to `count`.
 #[unsafe(no_mangle)]
-pub extern "C" fn x3d_world_applied(alloc: Global, handle: &mut WorldHandle, count: &mut u32) -> u8
+pub extern "C" fn x3d_world_applied(alloc: Global, handle: &mut WorldHandle, count: &mut u64) -> u8
     ensures kept { handle.new.world ≡ handle.old.world }
     ensures count { Asks (λ (w : Embedded). applied_of w.stage.held)
         handle.old.world result count.old count.new }

@@ -177,7 +177,7 @@ pub extern "C" fn x3d_log_read(
 
 /// Writes the number of entries.
 #[unsafe(no_mangle)]
-pub extern "C" fn x3d_log_count(alloc: Global, handle: &mut LogHandle, count: &mut u32) -> u8
+pub extern "C" fn x3d_log_count(alloc: Global, handle: &mut LogHandle, count: &mut u64) -> u8
     ensures kept { handle.new.log ≡ handle.old.log }
     ensures count { Asks (λ (f : Embedded). length f.log.entries.items) handle.old.log result
         count.old count.new }

@@ -14,8 +14,8 @@ use std::alloc::Global;
 #[derive(Clone, Copy)]
 #[repr(C)]
 pub struct SavedAs {
+    pub applied: u64,
     pub boot: u32,
-    pub applied: u32,
 }
 
 /// Makes the snapshot of the world, taken as this boot. It is copied like a text.

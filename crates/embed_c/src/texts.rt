@@ -13,7 +13,7 @@ use std::alloc::Global;
 
 /// Makes the lines of the trace of inputs from a number on.
 #[unsafe(no_mangle)]
-pub extern "C" fn x3d_world_make_trace(alloc: Global, handle: &mut WorldHandle, first: u32) -> u8
+pub extern "C" fn x3d_world_make_trace(alloc: Global, handle: &mut WorldHandle, first: u64) -> u8
     ensures { Calls (λ (w : Embedded). Makes (look.trace_from w.stage first) w) status_of_look
         handle.old.world result handle.new.world }
 {
@@ -27,7 +27,7 @@ pub extern "C" fn x3d_world_make_trace(alloc: Global, handle: &mut WorldHandle, 
 
 /// Makes the same lines with the numbers of nodes and fields.
 #[unsafe(no_mangle)]
-pub extern "C" fn x3d_world_make_changes(alloc: Global, handle: &mut WorldHandle, first: u32) -> u8
+pub extern "C" fn x3d_world_make_changes(alloc: Global, handle: &mut WorldHandle, first: u64) -> u8
     ensures { Calls (λ (w : Embedded). Makes (look.changes_from w.stage first) w) status_of_look
         handle.old.world result handle.new.world }
 {

@@ -111,7 +111,7 @@ pub extern "C" fn x3d_viewer_close(alloc: Global, handle: &mut ViewerHandle)
 pub extern "C" fn x3d_viewer_applied(
     alloc: Global,
     handle: &mut ViewerHandle,
-    count: &mut u32,
+    count: &mut u64,
 ) -> u8
     ensures kept { handle.new.viewer ≡ handle.old.viewer }
     ensures count { Asks (λ (v : Embedded). applied_in (machine_of v.viewer) v.viewer.state.view)

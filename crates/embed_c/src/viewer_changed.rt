@@ -17,7 +17,7 @@ use std::alloc::Global;
 pub extern "C" fn x3d_viewer_list_changed(
     alloc: Global,
     handle: &mut ViewerHandle,
-    since: u32,
+    since: u64,
 ) -> u8
     ensures { Calls (λ (v : Embedded). ListsChanged (look.changed_in (stage_in v.viewer) since) v)
         status_of_look handle.old.viewer result handle.new.viewer }

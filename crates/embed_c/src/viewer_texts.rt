@@ -14,7 +14,7 @@ use std::alloc::Global;
 
 /// Makes the lines of the trace of inputs from a number on.
 #[unsafe(no_mangle)]
-pub extern "C" fn x3d_viewer_make_trace(alloc: Global, handle: &mut ViewerHandle, first: u32) -> u8
+pub extern "C" fn x3d_viewer_make_trace(alloc: Global, handle: &mut ViewerHandle, first: u64) -> u8
     ensures { Calls (λ (v : Embedded). Makes (look.trace_from (stage_in v.viewer) first) v)
         status_of_look handle.old.viewer result handle.new.viewer }
 {
@@ -31,7 +31,7 @@ pub extern "C" fn x3d_viewer_make_trace(alloc: Global, handle: &mut ViewerHandle
 pub extern "C" fn x3d_viewer_make_changes(
     alloc: Global,
     handle: &mut ViewerHandle,
-    first: u32,
+    first: u64,
 ) -> u8
     ensures { Calls (λ (v : Embedded). Makes (look.changes_from (stage_in v.viewer) first) v)
         status_of_look handle.old.viewer result handle.new.viewer }

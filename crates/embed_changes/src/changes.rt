@@ -162,7 +162,7 @@ impl ChangeList {
         scene: &Scene,
         state: &[Fields],
         trace: &Trace,
-        since: u32,
+        since: u64,
         numbers: &mut Vec<i64>,
     ) -> Result<(), AllocError>
         requires no_changes { self.old ≡ [] }
@@ -192,7 +192,7 @@ impl ChangeList {
         scene: &Scene,
         state: &[Fields],
         trace: &Trace,
-        since: u32,
+        since: u64,
         numbers: &mut Vec<i64>,
     ) -> Result<(), AllocError>
         ensures ok { OnOk result ((self.new, numbers.new.items)

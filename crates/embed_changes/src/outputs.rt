@@ -18,7 +18,7 @@ const SIZE: usize = 7;
 /// Writes the outputs of lines of inputs after `since`.
 #[derive(Drop)]
 struct OutputsAfter {
-    since: u32,
+    since: u64,
 }
 
 impl WritesLines for OutputsAfter {
@@ -73,7 +73,7 @@ fn note_all(bytes: &[u8], marks: &mut SentBits) -> Result<(), AllocError>
 pub(crate) fn note_after(
     alloc: Global,
     trace: &Trace,
-    since: u32,
+    since: u64,
     marks: &mut SentBits,
 ) -> Result<(), AllocError>
     ensures { OnOk result (marks.new ≡ outputs_after since trace.now) }

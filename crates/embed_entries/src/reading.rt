@@ -18,9 +18,9 @@ use x3d_values::MAX_INPUTS;
 #[derive(Clone, Copy, Debug, PartialEq, Eq, Error)]
 pub enum EntriesFault {
     #[error("where entry {0} should be is another number")]
-    Gap(u32),
+    Gap(u64),
     #[error("entry {0} is none, or one more than a world has")]
-    NotAnEntry(u32),
+    NotAnEntry(u64),
     #[error("memory was refused")]
     Memory,
 }
@@ -49,10 +49,10 @@ fn after_number(bytes: &[u8], number: u64) -> Option<&[u8]>
     after_front(bytes, &number.to_be_bytes())
 }
 
-/// Reads all of the bytes as entries after their numbers, from `first` on, at most 2^20 of them.
+/// Reads all of the bytes as entries after their numbers, from `first` on, at most 2^48 - 1 of them.
 /// Fails with the first wrong entry, or `Memory`.
 pub fn entries_from(alloc: Global, first: u64, bytes: &[u8]) -> Result<Vec<Entry>, EntriesFault>
-    requires { first ≤ 2 ^ 32 }
+    requires { first ≤ 2 ^ 48 }
     ensures read { IfOk result (λ v. bytes.now ≡ lines_from first v.items) }
     ensures why { IfErr result (λ fault. spec.WhyNoEntries first bytes.now fault) }
 {
@@ -62,7 +62,7 @@ pub fn entries_from(alloc: Global, first: u64, bytes: &[u8]) -> Result<Vec<Entry
         if rest.is_empty() {
             return Ok(entries);
         }
-        let Some(line) = after_number(rest, first + u64::from(number)) else {
+        let Some(line) = after_number(rest, first + number) else {
             return Err(EntriesFault::Gap(number + 1));
         };
         let Some((entry, behind)) = entry_of(line) else {

@@ -30,7 +30,7 @@ fn push_line(number: u64, entry: &Entry, out: &mut Vec<u8>) -> Result<(), AllocE
 
 /// Appends entries after their numbers, of which the first is `first`.
 fn push_lines(first: u64, entries: &[Entry], out: &mut Vec<u8>) -> Result<(), AllocError>
-    requires first { first ≤ 2 ^ 32 }
+    requires first { first ≤ 2 ^ 48 }
     requires few { length entries.now ≤ max_inputs }
     ensures { OnOk result (out.new.items ≡ out.old.items ++ spec.lines_from first entries.now) }
 {
@@ -60,7 +60,7 @@ fn push_append(
     entries: &[Entry],
     out: &mut Vec<u8>,
 ) -> Result<(), AllocError>
-    requires { first ≤ 2 ^ 32 }
+    requires { first ≤ 2 ^ 48 }
     ensures { OnOk result (out.new.items
         ≡ out.old.items ++ spec.append_text mark.now first entries.now) }
 {
@@ -82,7 +82,7 @@ pub fn append_bytes(
     first: u64,
     entries: &[Entry],
 ) -> Result<Vec<u8>, AllocError>
-    requires { first ≤ 2 ^ 32 }
+    requires { first ≤ 2 ^ 48 }
     ensures { IfOk result (λ v. v.items ≡ spec.append_text mark.now first entries.now) }
 {
     let mut out = Vec::new(alloc);

@@ -127,8 +127,8 @@ pub fn open_file(
 }
 
 impl LogFile {
-    /// Returns the number of entries, at most 2^20.
-    pub fn count(&self) -> u32
+    /// Returns the number of entries, at most 2^48 - 1.
+    pub fn count(&self) -> u64
         ensures { result ≡ length self.now.log.entries.items }
     {
         self.log.count()

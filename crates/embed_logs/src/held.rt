@@ -15,7 +15,7 @@ use share_store::{AppendFault, Log};
 use std::alloc::{AllocError, Global};
 use x3d_values::MAX_INPUTS;
 
-/// A log that is open, with its head and its entries: at most 2^20, those of a world.
+/// A log that is open, with its head and its entries: at most 2^48 - 1, those of a world.
 #[derive(Drop)]
 pub struct EmbeddedLog<L: Log> {
     log: L,
@@ -48,10 +48,10 @@ impl<L: Log> EmbeddedLog<L> {
     }
 
     /// Returns the number of entries.
-    pub fn count(&self) -> u32
+    pub fn count(&self) -> u64
         ensures { result ≡ length self.now.entries.items }
     {
-        self.entries.len() as u32
+        self.entries.len() as u64
     }
 
     /// Returns the number of viewers, 1 to 64.
@@ -137,7 +137,7 @@ impl<L: Log> EmbeddedLog<L> {
     ///
     /// Fails with `InDoubt` if the log is in doubt: then it has the first of the entries, none or
     /// all of them, and takes no append. Fails with `NotEntries`, `LogFull` if there would be over
-    /// 2^20 entries, or `Memory`; nothing changes then.
+    /// 2^48 - 1 entries, or `Memory`; nothing changes then.
     pub fn append(&mut self, alloc: Global, bytes: &[u8]) -> Result<(), LogFileFault>
         ensures head { self.new.head ≡ self.old.head }
         ensures stored { OnOk result (IsAppended self.old.head.mark self.old.entries.items bytes.now

@@ -14,7 +14,7 @@ use std::alloc::Global;
 
 /// Reads entries after their numbers, at least one, of which the first has this number.
 fn some_entries(alloc: Global, first: u64, lines: &[u8]) -> Result<Vec<Entry>, LogFileFault>
-    requires { first ≤ 2 ^ 32 }
+    requires { first ≤ 2 ^ 48 }
     ensures read { IfOk result (λ v. lines.now ≡ lines_from first v.items) }
     ensures some { IfOk result (λ v. v.items ≢ []) }
     ensures refused { IfErr result (λ fault. (fault ≡ Memory)
@@ -39,7 +39,7 @@ pub(crate) fn entries_in(
     first: u64,
     bytes: &[u8],
 ) -> Result<Vec<Entry>, LogFileFault>
-    requires { first ≤ 2 ^ 32 }
+    requires { first ≤ 2 ^ 48 }
     ensures read { IfOk result (λ v. bytes.now ≡ append_text mark.now first v.items) }
     ensures refused { IfErr result (λ fault. (fault ≡ Memory)
         ⊎ ((fault ≡ NotEntries) × IsOtherAt mark.now first bytes.now)) }

@@ -1,2 +1,3 @@
 mod Held
 mod AheadLaws
+mod AllLines

@@ -1,7 +1,8 @@
 -- What the calls on an embedded world answer, and the world that they leave.
-use Rattle.std.specs.Prelude.{◌≡◌, ◌⊎◌, ℕ, ℤ, List, [], Option, None, Result, Err, IfErr, IfNone, IfOk, IfSome, IsSomeAnd, OnErr, OnOk, slice_get}
+use Rattle.std.specs.Prelude.{◌≡◌, ◌⊎◌, ℕ, ℤ, List, [], Option, None, Result, Ok, Err, IfErr, IfNone, IfOk, IfSome, IsSomeAnd, OnErr, OnOk, slice_get}
 use Rattle.sha2.specs.Sha256.{sha256}
-use Rattle.cascade_core.specs.Held.{IfSpoiled, StageView, after, refusal_of, settled_by, spoiled, trace_of}
+use Rattle.cascade_core.specs.Forgetting.{forget_refusal, forgotten}
+use Rattle.cascade_core.specs.Held.{IfSpoiled, StageView, after, holding, refusal_of, settled_by, spoiled, trace_of}
 use Rattle.cascade_core.specs.Installing.{RefusesBox}
 use Rattle.cascade_core.specs.Scripts.{kinds_in, scripts_in}
 use Rattle.cascade_core.specs.Work.{IsWork}
@@ -15,6 +16,7 @@ use Rattle.app_jobs.specs.declared.fault.JobFault.{JobFault}
 use Rattle.app_jobs.specs.declared.fault.JobFault.TheVariants.{Memory}
 use Rattle.cascade_core.specs.declared.fault.ApplyFault.{ApplyFault}
 use Rattle.cascade_core.specs.declared.fault.ApplyFault.TheVariants as apply
+use Rattle.cascade_core.specs.declared.fault.ForgetFault.{ForgetFault}
 use Rattle.cascade_core.specs.declared.fault.PlaceFault.{PlaceFault}
 use Rattle.cascade_core.specs.declared.fault.PlaceFault.TheVariants as place
 use Rattle.cascade_core.specs.declared.work.Work.{Work}
@@ -104,6 +106,15 @@ Loads old boot bytes result new =
     ⊎ ((result ≡ Err snap.Memory) × (new.stage ≡ spoiled old.stage)
     × (fault_before old.mark bytes ≡ None)))
     × (new ≡ with_stage old new.stage)
+
+-- the lines of the trace of inputs below a number were forgotten, and nothing else; or the number
+-- is refused and nothing changes
+abbrev pub Forgets : EmbeddedWorld → (below : ℕ) → Result (Unit {0}) ForgetFault → EmbeddedWorld
+    → Type 0
+Forgets old below result new =
+    IfNone (forget_refusal below old.stage.held) ((result ≡ Ok tt)
+    × (new ≡ with_stage old (holding old.stage (forgotten below old.stage.held))))
+    × IfSome (forget_refusal below old.stage.held) (λ fault. (result ≡ Err fault) × (new ≡ old))
 
 -- a box of this kind replaced script k, or was refused, and the world is unchanged
 abbrev pub Replaces : EmbeddedWorld → (k : ℕ) → Kind → Result (Unit {0}) PlaceFault → EmbeddedWorld

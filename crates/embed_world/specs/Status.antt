@@ -6,6 +6,8 @@ use Rattle.snapshot_core.specs.declared.fault.SnapFault.{SnapFault}
 use Rattle.snapshot_core.specs.declared.fault.SnapFault.TheVariants as snap
 use Rattle.cascade_core.specs.declared.fault.ApplyFault.{ApplyFault}
 use Rattle.cascade_core.specs.declared.fault.ApplyFault.TheVariants as apply
+use Rattle.cascade_core.specs.declared.fault.ForgetFault.{ForgetFault}
+use Rattle.cascade_core.specs.declared.fault.ForgetFault.TheVariants as forget
 use Rattle.cascade_core.specs.declared.fault.PlaceFault.{PlaceFault}
 use Rattle.cascade_core.specs.declared.fault.PlaceFault.TheVariants as place
 use Rattle.embed_world.specs.declared.fault.LookFault.{LookFault}
@@ -57,6 +59,11 @@ status_of_place (Err place.Spoiled) = 20
 status_of_place (Err place.NoSuchScript) = 26
 status_of_place (Err place.KindDiffers) = 27
 status_of_place (Err place.Memory) = 5
+
+abbrev pub status_of_forget : Result (Unit {0}) ForgetFault → ℕ
+status_of_forget (Ok _) = 0
+status_of_forget (Err forget.Spoiled) = 20
+status_of_forget (Err forget.Ahead) = 11
 
 abbrev pub status_of_save : Result (Unit {0}) SaveFault → ℕ
 status_of_save (Ok _) = 0

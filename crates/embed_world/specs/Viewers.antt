@@ -1,13 +1,15 @@
 -- What the calls on an embedded viewer answer, and the viewer that they leave.
-use Rattle.std.specs.Prelude.{◌≡◌, ◌⊎◌, ℕ, ℤ, List, [], Option, None, Result, IfErr, IfOk, IsSomeAnd, OnErr, OnOk, slice_get, unwrap_or}
+use Rattle.std.specs.Prelude.{◌≡◌, ◌⊎◌, ℕ, ℤ, List, [], Option, None, Result, Ok, Err, IfErr, IfNone, IfOk, IfSome, IsSomeAnd, OnErr, OnOk, slice_get, unwrap_or}
 use Rattle.std.specs.Option.{option_map}
 use Rattle.std.specs.Result.{result_map_both}
 use Rattle.sha2.specs.Sha256.{sha256}
 use Rattle.cascade_core.specs.Apply.{opening}
 use Rattle.cascade_core.specs.Course.{Scripted}
+use Rattle.cascade_core.specs.Forgetting.{forget, forget_refusal}
 use Rattle.cascade_core.specs.Held.{StageView}
 use Rattle.cascade_core.specs.Installing.{RefusesBox}
 use Rattle.cascade_core.specs.Scripts.{kinds_in, scripts_in}
+use Rattle.cascade_core.specs.declared.fault.ForgetFault.{ForgetFault}
 use Rattle.cascade_core.specs.declared.fault.PlaceFault.{PlaceFault}
 use Rattle.cascade_core.specs.declared.fault.PlaceFault.TheVariants as place
 use Rattle.x3d_values.specs.declared.script.Kind.{Kind}
@@ -20,7 +22,7 @@ use Rattle.share_wire.specs.Decoding.{decoded}
 use Rattle.share_wire.specs.declared.message.Body.{Body}
 use Rattle.share_law.specs.Calls.{IsGatherOf, IsTakeOf}
 use Rattle.share_law.specs.Pieces.{Gathering, whole_of}
-use Rattle.share_law.specs.Viewer.{ViewerState, begun, viewer_ask, viewer_offer, viewer_resend}
+use Rattle.share_law.specs.Viewer.{ViewerState, ViewerWorld, Running, Spoiled, begun, with_view, viewer_ask, viewer_offer, viewer_resend}
 use Rattle.share_law.specs.declared.fault.GatherFault.{GatherFault}
 use Rattle.share_law.specs.declared.fault.JoinFault.{JoinFault}
 use Rattle.share_law.specs.declared.fault.OfferFault.{OfferFault}
@@ -106,6 +108,22 @@ Joins old boot result new =
     IsJoined old.viewer (whole_of old.viewer.gathering) boot result new.viewer.state
     new.viewer.gathering
     × (new ≡ gathering (in_state old new.viewer.state) new.viewer.gathering)
+
+-- the world of a viewer without the lines of its trace of inputs below a number
+abbrev pub forgot_below : (below : ℕ) → ViewerWorld Scripted → ViewerWorld Scripted
+forgot_below below (Running w window) = Running (forget below w) window
+forgot_below below (Spoiled count) = Spoiled count
+
+-- the lines of the trace of inputs below a number were forgotten, and nothing else; or the number
+-- is refused, as for a world, and nothing changes
+abbrev pub Forgets : EmbeddedViewer → (below : ℕ) → Result (Unit {0}) ForgetFault → EmbeddedViewer
+    → Type 0
+Forgets old below result new =
+    IfNone (forget_refusal below (held_in old.viewer.state.view)) ((result ≡ Ok tt)
+    × (new ≡ in_state old
+    (with_view old.viewer.state (forgot_below below old.viewer.state.view))))
+    × IfSome (forget_refusal below (held_in old.viewer.state.view)) (λ fault.
+    (result ≡ Err fault) × (new ≡ old))
 
 -- ---- datagrams
 

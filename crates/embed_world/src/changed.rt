@@ -16,7 +16,7 @@ use script_boxes::StockScript;
 /// values. Both lists are empty on an error.
 pub fn write_changed(
     stage: &Stage<StockScript>,
-    since: u32,
+    since: u64,
     changed: &mut ChangeList,
     numbers: &mut Vec<i64>,
 ) -> Result<(), LookFault>
@@ -42,7 +42,7 @@ impl EmbeddedWorld {
     /// Lists the fields that inputs after number `since` set, each once, and the numbers of their
     /// current values, as `ChangeList::list` of embed_changes does. Fails with `Spoiled` or
     /// `Memory`.
-    pub fn list_changed(&mut self, since: u32) -> Result<(), LookFault>
+    pub fn list_changed(&mut self, since: u64) -> Result<(), LookFault>
         ensures { ListsChanged (spec.changed_in self.old.stage since) self.old result self.new }
     {
         write_changed(&self.stage, since, &mut self.changed, &mut self.numbers)
@@ -56,7 +56,7 @@ impl EmbeddedViewer {
 
     /// Lists the fields that inputs after number `since` set, like those of a world. Fails with
     /// `Spoiled` or `Memory`.
-    pub fn list_changed(&mut self, since: u32) -> Result<(), LookFault>
+    pub fn list_changed(&mut self, since: u64) -> Result<(), LookFault>
         ensures { ListsChanged (spec.changed_in (stage_in self.old.viewer) since) self.old result
             self.new }
     {

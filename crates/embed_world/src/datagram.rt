@@ -23,7 +23,7 @@ pub struct DatagramAs {
     pub who: u8,
     pub point: u8,
     pub boot: u32,
-    pub number: u32,
+    pub number: u64,
     pub time: i64,
     pub aim: Aim,
 }
@@ -52,7 +52,7 @@ fn point_number(down: bool) -> u8
 }
 
 /// Returns a datagram without a pointer.
-fn plain(tag: u8, who: u8, boot: u32, number: u32, time: i64) -> DatagramAs
+fn plain(tag: u8, who: u8, boot: u32, number: u64, time: i64) -> DatagramAs
     ensures { result ≡ spec.plain tag who boot number time }
 {
     DatagramAs {
@@ -74,7 +74,7 @@ fn plain(tag: u8, who: u8, boot: u32, number: u32, time: i64) -> DatagramAs
 }
 
 /// Returns a datagram with a pointer.
-fn pointed(tag: u8, boot: u32, number: u32, time: i64, pointer: Pointer) -> DatagramAs
+fn pointed(tag: u8, boot: u32, number: u64, time: i64, pointer: Pointer) -> DatagramAs
     ensures { result ≡ spec.pointed tag boot number time pointer }
 {
     DatagramAs {
@@ -89,7 +89,7 @@ fn pointed(tag: u8, boot: u32, number: u32, time: i64, pointer: Pointer) -> Data
 }
 
 /// Returns the datagram of an input.
-fn input_as(number: u32, time: i64, cause: Cause) -> DatagramAs
+fn input_as(number: u64, time: i64, cause: Cause) -> DatagramAs
     ensures { result ≡ spec.input_as number time cause }
 {
     match cause {
@@ -103,9 +103,15 @@ fn datagram_as(body: Body) -> DatagramAs
 {
     match body {
         Body::Input(input) => input_as(input.number(), input.time(), input.cause()),
-        Body::Offer(offer) => pointed(2, offer.boot(), offer.number(), 0, offer.pointer()),
+        Body::Offer(offer) => pointed(
+            2,
+            offer.boot(),
+            u64::from(offer.number()),
+            0,
+            offer.pointer(),
+        ),
         Body::Ask(ask) => plain(3, ask.who(), 0, ask.next(), 0),
-        Body::Ack(ack) => plain(4, ack.who(), ack.boot(), ack.count(), 0),
+        Body::Ack(ack) => plain(4, ack.who(), ack.boot(), u64::from(ack.count()), 0),
         Body::Floor(floor) => plain(5, NO_VIEWER, 0, floor.number(), 0),
         Body::Piece(piece) => plain(6, NO_VIEWER, piece.boot(), piece.applied(), 0),
     }

@@ -82,7 +82,7 @@ impl EmbeddedHost {
 
     /// Numbers a clock at a time in microseconds and returns its number, as `Host::clock` of
     /// share_core does.
-    pub fn clock(&mut self, time: i64) -> Result<u32, NumberFault>
+    pub fn clock(&mut self, time: i64) -> Result<u64, NumberFault>
         ensures { Clocks self.old time result self.new }
     {
         clock_by(&mut self.host, &mut self.lasting, time)
@@ -123,7 +123,7 @@ impl EmbeddedHost {
 
     /// Returns the datagram of the input with this number, if there is one, as `Host::packet` of
     /// share_core does. A host that was resumed has one only if it is stored.
-    pub fn packet(&self, number: u32) -> Option<Packet>
+    pub fn packet(&self, number: u64) -> Option<Packet>
         ensures { option_map (λ p. p.items) result ≡ spec.input_bytes self.now number }
     {
         packet_by(&self.host, &self.lasting, number)
@@ -139,7 +139,7 @@ impl EmbeddedHost {
     }
 
     /// Returns the floor: inputs below it have no datagrams.
-    pub fn floor(&self) -> u32
+    pub fn floor(&self) -> u64
         ensures { result ≡ self.now.host.part.floor }
     {
         self.host.floor()
@@ -154,7 +154,7 @@ impl EmbeddedHost {
 
     /// Drops the inputs below `floor` and returns the floor, as `Host::drop_below` of share_core
     /// does; of a host that was resumed, stored inputs alone (`FloorAhead`).
-    pub fn drop_below(&mut self, floor: u32) -> Result<u32, FloorFault>
+    pub fn drop_below(&mut self, floor: u64) -> Result<u64, FloorFault>
         ensures { Drops self.old floor result self.new }
     {
         drop_by(&mut self.host, &self.lasting, floor)
@@ -162,7 +162,7 @@ impl EmbeddedHost {
 
     /// Returns the highest number that viewer `who` has asked from, or 0 if it hasn't asked: it has
     /// all inputs below that. `None` if there is no such viewer.
-    pub fn heard(&self, who: u8) -> Option<u32>
+    pub fn heard(&self, who: u8) -> Option<u64>
         ensures { result ≡ spec.heard_of self.now who }
     {
         let viewers = self.host.viewers();
@@ -174,14 +174,14 @@ impl EmbeddedHost {
 
     /// Drops the inputs that every viewer that asked has, except the last `count` of them. Drops
     /// nothing if none has asked. A host that was resumed keeps what isn't stored.
-    pub fn keep(&mut self, count: u32)
+    pub fn keep(&mut self, count: u64)
         ensures { self.new ≡ spec.keeping self.old count }
     {
         keep_by(&mut self.host, &self.lasting, &self.heard, count);
     }
 
     /// Returns the number of inputs that are numbered.
-    pub fn count(&self) -> u32
+    pub fn count(&self) -> u64
         ensures { result ≡ self.now.host.part.count }
     {
         self.host.len()

@@ -23,9 +23,9 @@ pub fn pointer_of(who: u8, down: bool, origin: Vec3, dir: Vec3) -> Option<Pointe
     Some(Pointer::new(who, down, ray))
 }
 
-/// Returns the input with this number, at this time. `None` unless the number is 1 to 2^20 and the
-/// time is 1 to 10^18 microseconds.
-pub fn stamped(number: u32, time: i64, cause: Cause) -> Option<Stamped>
+/// Returns the input with this number, at this time. `None` unless the number is 1 to 2^48 - 1 and
+/// the time is 1 to 10^18 microseconds.
+pub fn stamped(number: u64, time: i64, cause: Cause) -> Option<Stamped>
     ensures { result ≡ spec.stamped number time cause }
 {
     if !is_input_number(number) {

@@ -45,7 +45,7 @@ pub(crate) fn clock_by(
     host: &mut Host,
     lasting: &mut Option<Lasting>,
     time: i64,
-) -> Result<u32, NumberFault>
+) -> Result<u64, NumberFault>
     ensures mark { host.new.mark ≡ host.old.mark }
     ensures step { spec.IsClockedBy lasting.old host.old.part time result host.new.part
         lasting.new }
@@ -73,7 +73,7 @@ pub(crate) fn take_by(
 }
 
 /// Returns the datagram of an input, if there is one, and it is stored if the host has a log.
-pub(crate) fn packet_by(host: &Host, lasting: &Option<Lasting>, number: u32) -> Option<Packet>
+pub(crate) fn packet_by(host: &Host, lasting: &Option<Lasting>, number: u64) -> Option<Packet>
     ensures { option_map (λ p. p.items) result
         ≡ spec.packet_by host.now.mark lasting.now host.now.part number }
 {
@@ -109,8 +109,8 @@ pub(crate) fn ack_by(host: &Host, lasting: &Option<Lasting>, who: u8) -> Option<
 pub(crate) fn drop_by(
     host: &mut Host,
     lasting: &Option<Lasting>,
-    floor: u32,
-) -> Result<u32, FloorFault>
+    floor: u64,
+) -> Result<u64, FloorFault>
     ensures mark { host.new.mark ≡ host.old.mark }
     ensures step { spec.drop_by lasting.now host.old.part floor ≡ (result, host.new.part) }
 {
@@ -122,7 +122,7 @@ pub(crate) fn drop_by(
 
 /// Drops the inputs that every viewer that asked has, except the last `count` of them, but none
 /// that isn't stored.
-pub(crate) fn keep_by(host: &mut Host, lasting: &Option<Lasting>, heard: &Heard, count: u32)
+pub(crate) fn keep_by(host: &mut Host, lasting: &Option<Lasting>, heard: &Heard, count: u64)
     ensures mark { host.new.mark ≡ host.old.mark }
     ensures part { host.new.part ≡ spec.keeping_by lasting.now count heard.now host.old.part }
 {
@@ -140,7 +140,7 @@ fn begin(alloc: Global, host: &Host, waiting: &mut Lasting) -> Result<Append, Ap
     ensures memory { IfErr result (λ fault. fault ≡ append.Memory) }
 {
     waiting.begin_append(host);
-    let first = u64::from(waiting.stored()) + 1;
+    let first = waiting.stored() + 1;
     match append_bytes(alloc, &host.mark(), first, waiting.appending()) {
         Ok(bytes) => Ok(Append {
             token: waiting.token(),

@@ -3,6 +3,7 @@
 //! | Modules | Content |
 //! |---|---|
 //! | `world`, `opening`, `input`, `scripts`, `shots` | a world: made, moved on, saved, loaded |
+//! | `forgetting` | a world and a viewer without old lines of their traces |
 //! | `host`, `viewer`, `pieces`, `datagram` | a host and a viewer, and what they send |
 //! | `lasting`, `logs`, `log_fault`, `log_status` | a host whose program has its log |
 //! | `law` | what such a host keeps |
@@ -19,6 +20,7 @@ mod buffers;
 mod changed;
 mod datagram;
 mod fault;
+mod forgetting;
 mod found;
 mod host;
 mod input;
@@ -53,6 +55,7 @@ pub use datagram::{DatagramAs, read_datagram};
 pub use embed_changes::Change;
 pub use embed_scene::FieldAs;
 pub use fault::LookFault;
+pub use forgetting::status_of_forget;
 pub use host::EmbeddedHost;
 pub use input::{pointer_of, stamped};
 pub use lasting::{Append, AppendFault};

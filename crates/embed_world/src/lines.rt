@@ -88,7 +88,7 @@ fn push_change(head: LineHead, value: &Value, out: &mut Vec<u8>) -> Result<(), A
 #[derive(Drop)]
 struct LinesFrom<'a> {
     scene: &'a Scene,
-    first: u32,
+    first: u64,
 }
 
 impl<'a> WritesLines for LinesFrom<'a> {
@@ -110,7 +110,7 @@ impl<'a> WritesLines for LinesFrom<'a> {
 /// Writes lines with the numbers of nodes and fields.
 #[derive(Drop)]
 struct ChangesFrom {
-    first: u32,
+    first: u64,
 }
 
 impl WritesLines for ChangesFrom {
@@ -135,7 +135,7 @@ impl WritesLines for ChangesFrom {
 pub fn push_lines(
     scene: &Scene,
     trace: &Trace,
-    first: u32,
+    first: u64,
     out: &mut Vec<u8>,
 ) -> Result<(), AllocError>
     ensures ok { OnOk result (out.new.items
@@ -148,7 +148,7 @@ pub fn push_lines(
 
 /// Appends the lines of inputs from the number `first` on, by numbers: `<input> <seconds> <node>
 /// <field> <value>`. Fails only if memory runs out; the buffer is then unchanged.
-pub fn push_changes(trace: &Trace, first: u32, out: &mut Vec<u8>) -> Result<(), AllocError>
+pub fn push_changes(trace: &Trace, first: u64, out: &mut Vec<u8>) -> Result<(), AllocError>
     ensures ok { OnOk result (out.new.items
         ≡ out.old.items ++ flat_map (from_on change_text first) trace.now) }
     ensures err { OnErr result (out.new.items ≡ out.old.items) }

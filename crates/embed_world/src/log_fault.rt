@@ -20,10 +20,10 @@ pub enum LogFault {
     WrongScene,
     /// Where this entry should be is another number.
     #[error("entry {0} is missing")]
-    Gap(u32),
+    Gap(u64),
     /// No host of this world wrote the entry with this number there.
     #[error("entry {0} is not one that a host wrote there")]
-    NotALog(u32),
+    NotALog(u64),
     #[error("memory was refused")]
     Memory,
 }
@@ -42,7 +42,7 @@ pub fn status_of_log(fault: LogFault) -> u8
 }
 
 /// Writes the number of the first wrong entry, if the fault has one.
-pub fn tell_entry(fault: LogFault, entry: &mut u32)
+pub fn tell_entry(fault: LogFault, entry: &mut u64)
     ensures { entry.new ≡ spec.entry_of_log entry.old fault }
 {
     match fault {

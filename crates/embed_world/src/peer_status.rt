@@ -87,7 +87,7 @@ pub fn status_of_host(fault: HostFault) -> u8
 }
 
 /// The number for whether inputs were dropped, or why not.
-pub fn status_of_floor(answer: Result<u32, FloorFault>) -> u8
+pub fn status_of_floor(answer: Result<u64, FloorFault>) -> u8
     ensures { result ≡ spec.status_of_floor answer }
 {
     match answer {

@@ -23,9 +23,9 @@ use snapshot_core::SnapFault;
 #[derive(Clone, Copy)]
 #[repr(C)]
 pub struct ReplyAs {
+    pub number: u64,
+    pub count: u64,
     pub kind: u32,
-    pub number: u32,
-    pub count: u32,
 }
 
 /// What a viewer did with a datagram: the input is old (kind 0), beyond the window (1) or kept (2),
@@ -34,18 +34,18 @@ pub struct ReplyAs {
 #[derive(Clone, Copy)]
 #[repr(C)]
 pub struct TakenAs {
+    pub count: u64,
     pub kind: u32,
-    pub count: u32,
 }
 
 /// Returns a reply with this kind and these numbers.
-fn plain_reply(kind: u32, number: u32, count: u32) -> ReplyAs
+fn plain_reply(kind: u32, number: u64, count: u64) -> ReplyAs
     ensures { result ≡ record { kind = kind; number = number; count = count } }
 {
     ReplyAs {
-        kind,
         number,
         count,
+        kind,
     }
 }
 
@@ -63,10 +63,10 @@ fn reply_as(reply: HostReply) -> ReplyAs
     }
 }
 
-fn plain_taken(kind: u32, count: u32) -> TakenAs
+fn plain_taken(kind: u32, count: u64) -> TakenAs
     ensures { result ≡ record { kind = kind; count = count } }
 {
-    TakenAs { kind, count }
+    TakenAs { count, kind }
 }
 
 fn taken_as(taken: Taken) -> TakenAs
@@ -136,7 +136,7 @@ pub fn tell_gathered(answer: Result<Gathered, GatherFault>, told: &mut u32) -> u
 }
 
 /// Writes the number of an input to `told`, and returns the status.
-pub fn tell_number(answer: Result<u32, NumberFault>, told: &mut u32) -> u8
+pub fn tell_number(answer: Result<u64, NumberFault>, told: &mut u64) -> u8
     ensures status { result ≡ spec.status_by spec.status_of_number answer }
     ensures told { told.new ≡ spec.number_by told.old answer }
 {
@@ -172,14 +172,14 @@ pub fn tell_field(found: Option<u16>, told: &mut u16) -> u8
 
 /// Writes the number that a viewer asked from, if there is such a viewer, to `told`, and returns
 /// the status.
-pub fn tell_heard(found: Option<u32>, told: &mut u32) -> u8
+pub fn tell_heard(found: Option<u64>, told: &mut u64) -> u8
     ensures { IsHeard found told.old result told.new }
 {
     write_found(found, RANGE, told)
 }
 
 /// Writes how many inputs the world of a snapshot has had to `told`, and returns the status.
-pub fn tell_rewound(answer: Result<u32, SnapFault>, told: &mut u32) -> u8
+pub fn tell_rewound(answer: Result<u64, SnapFault>, told: &mut u64) -> u8
     ensures status { result ≡ spec.status_by answers.status_of_snap answer }
     ensures told { told.new ≡ spec.number_by told.old answer }
 {
@@ -194,7 +194,7 @@ pub fn tell_rewound(answer: Result<u32, SnapFault>, told: &mut u32) -> u8
 
 /// Writes how many inputs the world of the gathered snapshot has had to `told`, and returns the
 /// status.
-pub fn tell_joined(answer: Result<u32, JoinFault>, told: &mut u32) -> u8
+pub fn tell_joined(answer: Result<u64, JoinFault>, told: &mut u64) -> u8
     ensures status { result ≡ spec.status_by spec.status_of_join answer }
     ensures told { told.new ≡ spec.number_by told.old answer }
 {

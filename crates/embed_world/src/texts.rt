@@ -18,7 +18,7 @@ use x3d_values::show_value;
 /// Writes the lines of the trace of inputs from a number on to an empty text.
 pub fn write_trace(
     stage: &Stage<StockScript>,
-    first: u32,
+    first: u64,
     out: &mut Vec<u8>,
 ) -> Result<(), LookFault>
     requires empty { out.old.items ≡ [] }
@@ -35,7 +35,7 @@ pub fn write_trace(
 /// Writes the same lines with numbers to an empty text.
 pub fn write_changes(
     stage: &Stage<StockScript>,
-    first: u32,
+    first: u64,
     out: &mut Vec<u8>,
 ) -> Result<(), LookFault>
     requires empty { out.old.items ≡ [] }
@@ -128,7 +128,7 @@ impl EmbeddedWorld {
 
     /// Makes the lines of the trace of inputs from the number `first` on: `<input> <seconds>
     /// <label>.<field> <value>`. From 0 on it is the whole trace. Fails with `Spoiled` or `Memory`.
-    pub fn make_trace(&mut self, first: u32) -> Result<(), LookFault>
+    pub fn make_trace(&mut self, first: u64) -> Result<(), LookFault>
         ensures { Makes (spec.trace_from self.old.stage first) self.old result self.new }
     {
         self.text.clear();
@@ -137,7 +137,7 @@ impl EmbeddedWorld {
 
     /// Makes the same lines with numbers: `<input> <seconds> <node> <field> <value>`. Fails with
     /// `Spoiled` or `Memory`.
-    pub fn make_changes(&mut self, first: u32) -> Result<(), LookFault>
+    pub fn make_changes(&mut self, first: u64) -> Result<(), LookFault>
         ensures { Makes (spec.changes_from self.old.stage first) self.old result self.new }
     {
         self.text.clear();

@@ -57,7 +57,7 @@ impl EmbeddedViewer {
     }
 
     /// Returns the number of inputs that were applied, or that had been when memory ran out.
-    pub fn applied(&self) -> u32
+    pub fn applied(&self) -> u64
         ensures { result ≡ applied_in (machine_of self.now.viewer) self.now.viewer.state.view }
     {
         self.viewer.applied()
@@ -109,7 +109,7 @@ impl EmbeddedViewer {
 
     /// Begins again in the world of a snapshot, as another boot, as `Viewer::rewind` of share_core
     /// does.
-    pub fn rewind(&mut self, boot: u32, bytes: &[u8]) -> Result<u32, SnapFault>
+    pub fn rewind(&mut self, boot: u32, bytes: &[u8]) -> Result<u64, SnapFault>
         ensures { Rewinds self.old boot bytes.now result self.new }
     {
         self.viewer.rewind(bytes, boot)
@@ -125,7 +125,7 @@ impl EmbeddedViewer {
 
     /// Begins again in the world of the snapshot that was gathered, as another boot, as
     /// `Viewer::join` of share_core does.
-    pub fn join(&mut self, boot: u32) -> Result<u32, JoinFault>
+    pub fn join(&mut self, boot: u32) -> Result<u64, JoinFault>
         ensures { Joins self.old boot result self.new }
     {
         self.viewer.join(boot)

@@ -15,7 +15,7 @@ impl EmbeddedViewer {
 
     /// Makes the lines of the trace of inputs from the number `first` on: `<input> <seconds>
     /// <label>.<field> <value>`. From 0 on it is the whole trace. Fails with `Spoiled` or `Memory`.
-    pub fn make_trace(&mut self, first: u32) -> Result<(), LookFault>
+    pub fn make_trace(&mut self, first: u64) -> Result<(), LookFault>
         ensures { Makes (look.trace_from (stage_in self.old.viewer) first) self.old result
             self.new }
     {
@@ -25,7 +25,7 @@ impl EmbeddedViewer {
 
     /// Makes the same lines with numbers: `<input> <seconds> <node> <field> <value>`. Fails with
     /// `Spoiled` or `Memory`.
-    pub fn make_changes(&mut self, first: u32) -> Result<(), LookFault>
+    pub fn make_changes(&mut self, first: u64) -> Result<(), LookFault>
         ensures { Makes (look.changes_from (stage_in self.old.viewer) first) self.old result
             self.new }
     {

@@ -23,7 +23,7 @@ impl EmbeddedWorld {
     ghost use Rattle.embed_world.specs.Names.{number_named};
 
     /// Returns the number of inputs that were applied, or that had been when memory ran out.
-    pub fn applied(&self) -> u32
+    pub fn applied(&self) -> u64
         ensures { result ≡ applied_of self.now.stage.held }
     {
         self.stage.applied()

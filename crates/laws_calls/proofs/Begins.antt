@@ -40,6 +40,7 @@ begins ps boots new = record {
   viewers = λ who. new.viewers who ∙ sym (twice (slice_get boots who) (seated (machine_for ps)) (viewer_at ps who))
       ∙ ap (option_map (viewer_at ps who)) (sym (slice_get-map (seated (machine_for ps)) boots who));
   boots = λ s shot at. absurd (none-some shot at);
+  lines = λ s shot at. absurd (none-some shot at);
 }
 
 -- ---- packets and snapshots stay

@@ -51,6 +51,7 @@ module _ (law : Law) (ps : Peers) (net : Network Scripted) (are : AreIn ps net) 
       host = ap (λ (k : List ℕ). let v : HostView = record { mark = k; part = new.part } in v) own ∙ ap (λ (p : HostPart). let v : HostView = record { mark = ps.mark; part = p } in v) (sym part);
       viewers = are.viewers;
       boots = are.boots;
+      lines = are.lines;
     };
   }
 
@@ -75,6 +76,7 @@ module _ (law : Law) (ps : Peers) (net : Network Scripted) (are : AreIn ps net) 
         host = are.host;
         viewers = are.viewers;
         boots = are.boots;
+        lines = are.lines;
       };
     };
     packet = (body, last_there net.sent body, read);

@@ -1,5 +1,5 @@
 -- Snapshots that a viewer takes, and the pieces that are sent of them.
-use Rattle.std.proofs.Common.{◌≡◌, ℕ, ◌<◌, ◌^◌, inl, inr, List, [], ◌∷◌, ◌++◌, length, refl, ap, sym, ◌∙◌, subst}
+use Rattle.std.proofs.Common.{◌≡◌, ℕ, ◌<◌, ◌^◌, inl, inr, List, [], ◌∷◌, ◌++◌, length, refl, ap, sym, ◌∙◌, subst, arith, length-append}
 use Rattle.std.specs.Prelude.{slice_get, Option, Some, Result, Ok, Err, OnOk, OnErr}
 use Rattle.std.proofs.lemmas.Option.{none-some, same_Some}
 use Rattle.std.specs.Option.{option_map}
@@ -20,6 +20,7 @@ use Rattle.share_law.specs.Viewer.{ViewerWorld, Running, Spoiled, Shot}
 use Rattle.share_law.proofs.Elements.{slice_get_push}
 use Rattle.share_core.specs.Pieces.{piece_of, piece_with}
 use Rattle.share_core.specs.Viewer.{IfRunning, IfSpoiled, ViewerView}
+use Rattle.laws_worlds.proofs.LongTraces.{few-lines}
 use Rattle.laws_worlds.proofs.NetworksWorlds.{saved_have}
 use Rattle.laws_calls.specs.Peers.{Peers, AreIn, machine_for, viewer_at}
 use Rattle.laws_calls.specs.Leads.{SavesAny}
@@ -80,12 +81,24 @@ module _ (law : Law) (ps : Peers) (net : Network Scripted) (are : AreIn ps net) 
     | inr last ↦ subst (λ (z : Shot Scripted). z.boot < 2 ^ 32) last.1 few
   ]
 
-  saves : (result : Result (Unit {0}) SaveFault) (old new : List ℕ) → x.node.boot < 2 ^ 32 → IsSave (machine_for ps) x.node.boot x.node.view result old new → Saves (machine_for ps) net who result old new → SavesAny net who result old new ps
-  saves (Err fault) old new few call is = (
+  lines : (taken : Shot Scripted) → length taken.state.world.trace < 2 ^ 64 → (s : ℕ) (other : Shot Scripted) → slice_get (with_shot net taken).shots s ≡ Some other → length other.state.world.trace < 2 ^ 64
+  lines taken few s other there = elim (slice_get_push net.shots taken s other there) [
+    | inl before ↦ are.lines s other before
+    | inr last ↦ subst (λ (z : Shot Scripted). length z.state.world.trace < 2 ^ 64) last.1 few
+  ]
+
+  -- the bytes of a snapshot are fewer than those that were appended to, and so are its lines
+  few-in : (taken : Shot Scripted) (old new : List ℕ) → length new < 2 ^ 64 → new ≡ old ++ shot ps.mark taken.boot ps.scene taken.state → length taken.state.world.trace < 2 ^ 64
+  few-in taken old new held bytes =
+      few-lines ps.mark taken.boot ps.scene taken.state
+      (omega (arith, held, ap length bytes, length-append old (shot ps.mark taken.boot ps.scene taken.state)))
+
+  saves : (result : Result (Unit {0}) SaveFault) (old new : List ℕ) → x.node.boot < 2 ^ 32 → length new < 2 ^ 64 → IsSave (machine_for ps) x.node.boot x.node.view result old new → Saves (machine_for ps) net who result old new → SavesAny net who result old new ps
+  saves (Err fault) old new few held call is = (
     left (machine_for ps) x.node.boot x.node.view fault old new call,
     record { next = net; is = is; are = are },
   )
-  saves (Ok done) old new few call (taken, by, bytes, is) = record {
+  saves (Ok done) old new few held call (taken, by, bytes, is) = record {
     leads = record {
       next = with_shot net taken;
       is = is;
@@ -96,6 +109,7 @@ module _ (law : Law) (ps : Peers) (net : Network Scripted) (are : AreIn ps net) 
         host = are.host;
         viewers = are.viewers;
         boots = boots taken (subst (λ (n : ℕ). n < 2 ^ 32) (sym (boot-in (machine_for ps) net who x x.node.view taken at refl is)) few);
+        lines = lines taken (few-in taken old new held bytes);
       };
     };
     shot = taken;
@@ -106,28 +120,28 @@ module _ (law : Law) (ps : Peers) (net : Network Scripted) (are : AreIn ps net) 
   abbrev v : ViewerView
   v = viewer_at ps who x
 
-  save-at : (result : Result (Unit {0}) SaveFault) (old new : List ℕ) → v.state.boot < 2 ^ 32
+  save-at : (result : Result (Unit {0}) SaveFault) (old new : List ℕ) → v.state.boot < 2 ^ 32 → length new < 2 ^ 64
       → IfSpoiled v.state.view ((result ≡ Err save_fault.Spoiled) × (new ≡ old))
       → IfRunning v.state.view (λ w. OnOk result (new ≡ old ++ shot v.mark v.state.boot v.scene w))
       → IfRunning v.state.view (λ w. OnErr result ((result ≡ Err save_fault.Memory) × (new ≡ old)))
       → SavesAny net who result old new ps
-  save-at result old new few spoiled ok err =
+  save-at result old new few held spoiled ok err =
       let call = is-save (machine_for ps) x.node.boot x.node.view result old new spoiled ok err in
-      saves result old new few call ((calls law ps net are).snapshot who x result old new at call)
+      saves result old new few held call ((calls law ps net are).snapshot who x result old new at call)
 
-pub save : Law → (viewer : ViewerView) (result : Result (Unit {0}) SaveFault) (old new : List ℕ) → viewer.state.boot < 2 ^ 32
+pub save : Law → (viewer : ViewerView) (result : Result (Unit {0}) SaveFault) (old new : List ℕ) → viewer.state.boot < 2 ^ 32 → length new < 2 ^ 64
     → IfSpoiled viewer.state.view ((result ≡ Err save_fault.Spoiled) × (new ≡ old))
     → IfRunning viewer.state.view (λ w. OnOk result (new ≡ old ++ shot viewer.mark viewer.state.boot viewer.scene w))
     → IfRunning viewer.state.view (λ w. OnErr result ((result ≡ Err save_fault.Memory) × (new ≡ old)))
     → ViewerSaves viewer result old new
-save law viewer result old new few spoiled ok err ps net has =
+save law viewer result old new few held spoiled ok err ps net has =
     let s = seat_of ps net viewer has in
     subst (λ (v : ViewerView). v.state.boot < 2 ^ 32
     → IfSpoiled v.state.view ((result ≡ Err save_fault.Spoiled) × (new ≡ old))
     → IfRunning v.state.view (λ w. OnOk result (new ≡ old ++ shot v.mark v.state.boot v.scene w))
     → IfRunning v.state.view (λ w. OnErr result ((result ≡ Err save_fault.Memory) × (new ≡ old)))
     → SavesAny net v.who result old new ps) s.2
-    (save-at law ps net has.are viewer.who s.0 s.1 result old new) few spoiled ok err
+    (λ small. save-at law ps net has.are viewer.who s.0 s.1 result old new small held) few spoiled ok err
 
 -- ---- its pieces
 
@@ -135,7 +149,7 @@ pub piece : Law → (mark bytes : List ℕ) (i : ℕ) (sent : Option (List ℕ))
     → option_map decoded sent ≡ option_map (packet_of mark) (piece_of bytes i) → PieceSends mark bytes (λ s. PiecePacket s i) sent
 piece law mark bytes i sent long call ps net are own s from there =
     let few = are.boots s from there.0 in
-    let has = saved_have ps.text ps.flat ps.scene ps.routes ps.mark net are.opened are.attached are.reached s from there.0 in
+    let has = saved_have ps.text ps.flat ps.scene ps.routes ps.mark net are.opened are.attached are.reached s from there.0 (are.lines s from there.0) in
     let head : piece_of (shot ps.mark from.boot ps.scene from.state) i ≡ piece_packet from.boot from.state.world.applied (shot ps.mark from.boot ps.scene from.state) i =
     ap (λ (h : Option ShotHead). piece_with h (shot ps.mark from.boot ps.scene from.state) i) (head_of_shot ps.mark from.boot ps.scene from.state (ap length own ∙ long) few has) in
     let same : piece_of bytes i ≡ piece_packet from.boot from.state.world.applied bytes i =

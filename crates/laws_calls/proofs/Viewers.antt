@@ -56,6 +56,7 @@ module _ (law : Law) (ps : Peers) (net : Network Scripted) (are : AreIn ps net) 
           viewers = λ u. subst (λ (v : ViewerView). slice_get (slice_set ps.viewers v.who v) u ≡ option_map (viewer_at ps u) (slice_get (slice_set net.viewers who seat) u)) (sym same)
               (set_both (viewer_at ps) net.viewers ps.viewers who seat u are.viewers);
           boots = are.boots;
+          lines = are.lines;
         };
       }
 
@@ -85,7 +86,7 @@ module _ (law : Law) (ps : Peers) (net : Network Scripted) (are : AreIn ps net) 
 
     -- each snapshot of the run can be loaded
     loads : (s : ℕ) (from : Shot Scripted) → slice_get net.shots s ≡ Some from → HasSnapshot ps.scene from.state
-    loads s from taken = saved_have ps.text ps.flat ps.scene ps.routes ps.mark net are.opened are.attached are.reached s from taken
+    loads s from taken = saved_have ps.text ps.flat ps.scene ps.routes ps.mark net are.opened are.attached are.reached s from taken (are.lines s from taken)
 
     rewind-at : (new : ViewerView) (bytes : List ℕ) (boot : ℕ) (result : Result ℕ SnapFault) → new ≡ with_state v new.state
         → ((from : Shot Scripted) → from.boot < 2 ^ 32 → HasSnapshot v.scene from.state → bytes ≡ shot v.mark from.boot v.scene from.state → IsRewind (machine_of v) v.state from boot result new.state)

@@ -1,5 +1,5 @@
 -- The real host and the real viewers of a shared world, and a network of share_law that has them.
-use Rattle.std.specs.Prelude.{◌≡◌, ℕ, ◌<◌, ◌^◌, List, slice_get, slice_set, Some}
+use Rattle.std.specs.Prelude.{◌≡◌, ℕ, ◌<◌, ◌^◌, List, length, slice_get, slice_set, Some}
 use Rattle.std.specs.Option.{option_map}
 use Rattle.proto_flat.specs.declared.flat.Flat.{Flat}
 use Rattle.scene_core.specs.declared.scene.Route.{Route}
@@ -53,7 +53,7 @@ viewer_at ps who seat =
 
 -- The network was reached, and its host and viewers are these. All of them loaded the text, and
 -- boxes were attached to its scripts: each script runs. The boots of snapshots are those of real
--- viewers, which have 32 bits.
+-- viewers, which have 32 bits, and their bytes are in a real list, which has fewer than 2^64.
 pub record AreIn (ps : Peers) (net : Network Scripted) : Type 0 where
   pub opened : IsOpened ps.text ps.flat ps.scene ps.routes
   pub attached : RunsAll ps.scene
@@ -63,3 +63,5 @@ pub record AreIn (ps : Peers) (net : Network Scripted) : Type 0 where
       ≡ option_map (viewer_at ps who) (slice_get net.viewers who)
   pub boots : (s : ℕ) (shot : Shot Scripted) → slice_get net.shots s ≡ Some shot
       → shot.boot < 2 ^ 32
+  pub lines : (s : ℕ) (shot : Shot Scripted) → slice_get net.shots s ≡ Some shot
+      → length shot.state.world.trace < 2 ^ 64

@@ -26,7 +26,7 @@ pub fn new_host(alloc: Global, mark: [u8; 32], viewers: u8) -> Host
 }
 
 /// Numbers a clock input, like `Host::clock`.
-pub fn host_clock(host: &mut Host, time: i64) -> Result<u32, NumberFault>
+pub fn host_clock(host: &mut Host, time: i64) -> Result<u64, NumberFault>
     ensures { HostMoves host.old host.new (HostClock time) (Clocked result) }
 {
     steps_law();
@@ -51,7 +51,7 @@ pub fn host_take_message(host: &mut Host, message: Message) -> Result<HostReply,
 }
 
 /// Drops the inputs below a number, like `Host::drop_below`.
-pub fn host_drop_below(host: &mut Host, floor: u32) -> Result<u32, FloorFault>
+pub fn host_drop_below(host: &mut Host, floor: u64) -> Result<u64, FloorFault>
     ensures { HostMoves host.old host.new (HostDropBelow floor) (Dropped result) }
 {
     steps_law();
@@ -59,7 +59,7 @@ pub fn host_drop_below(host: &mut Host, floor: u32) -> Result<u32, FloorFault>
 }
 
 /// Returns the packet of an input, like `Host::packet`.
-pub fn host_packet(host: &Host, number: u32) -> Option<Packet>
+pub fn host_packet(host: &Host, number: u64) -> Option<Packet>
     ensures { HostSends host.now (HostPacket number) (option_map (λ p. p.items) result) }
 {
     steps_law();

@@ -75,7 +75,9 @@ pub fn viewer_snapshot<B: Behaviour>(viewer: &Viewer<B>, out: &mut Vec<u8>) -> R
 {
     steps_law();
     let _boot = viewer.boot();
-    viewer.snapshot(out)
+    let saved = viewer.snapshot(out);
+    let _len = out.len();
+    saved
 }
 
 /// Restarts from the bytes of a snapshot, like `Viewer::rewind`.
@@ -83,7 +85,7 @@ pub fn viewer_rewind<B: Behaviour>(
     viewer: &mut Viewer<B>,
     bytes: &[u8],
     boot: u32,
-) -> Result<u32, SnapFault>
+) -> Result<u64, SnapFault>
     ensures { ViewerMovesTo viewer.old viewer.new bytes.now
         (λ s. ViewerRewind viewer.old.who s boot) (Rewound result) }
 {
@@ -104,7 +106,7 @@ pub fn viewer_gather<B: Behaviour>(
 }
 
 /// Restarts from what was gathered, like `Viewer::join`.
-pub fn viewer_join<B: Behaviour>(viewer: &mut Viewer<B>, boot: u32) -> Result<u32, JoinFault>
+pub fn viewer_join<B: Behaviour>(viewer: &mut Viewer<B>, boot: u32) -> Result<u64, JoinFault>
     ensures { ViewerMoves viewer.old viewer.new (ViewerJoin viewer.old.who boot) (Joined result) }
 {
     steps_law();

@@ -14,7 +14,8 @@ use Rattle.scene_core.specs.declared.scene.Route.{Route}
 use Rattle.scene_core.specs.Scene.{SceneView, shapes_of}
 use Rattle.scene_core.specs.Shape.{Shape}
 use Rattle.snapshot_codec.specs.declared.trace.TraceEntry.{TraceEntry}
-use Rattle.snapshot_codec.specs.Head.{applied_codec, front, sealed}
+use Rattle.snapshot_codec.specs.Head.{front, sealed}
+use Rattle.snapshot_codec.specs.Inputs.{applied_codec, input_codec}
 use Rattle.snapshot_codec.specs.Parts.{states_codec}
 use Rattle.snapshot_codec.specs.Trace.{entry_codec, moment_codec, sent_at_codec}
 use Rattle.cascade_trace.specs.declared.trace.TraceLine.{TraceLine}
@@ -23,7 +24,7 @@ use Rattle.cascade_core.specs.Course.{Scripted}
 use Rattle.cascade_core.specs.Forgetting.{forget}
 use Rattle.cascade_core.specs.Scripts.{kinds_in}
 use Rattle.snapshot_core.specs.Nodes.{nodes_codec}
-use Rattle.snapshot_core.specs.Opening.{newest, version_number}
+use Rattle.snapshot_core.specs.Opening.{newest, numbers_of, version_number}
 use Rattle.snapshot_core.specs.Shot.{shot}
 use Rattle.snapshot_core.specs.WorldCodec.{buttons_codec, entry_of, lines_codec, lists_in, output_type, parts_codec, world_codec}
 use Rattle.share_law.specs.Cascade.{cascade}
@@ -38,13 +39,13 @@ use Rattle.laws_forget.proofs.Agreement.{forgetful_shots, same_but_old}
 module _ (shapes : List Shape) where
   -- the bytes of an event
   abbrev bytes_of : TraceLine → List ℕ
-  bytes_of line = (entry_codec (output_type shapes)).write (entry_of line)
+  bytes_of line = (entry_codec (numbers_of newest) (output_type shapes)).write (entry_of line)
 
   abbrev lines_text : List TraceLine → List ℕ
-  lines_text lines = flat_map ((entry_codec (output_type shapes)).write) (map entry_of lines)
+  lines_text lines = flat_map ((entry_codec (numbers_of newest) (output_type shapes)).write) (map entry_of lines)
 
   some-bytes : (l : TraceLine) → 1 ≤ length (bytes_of l)
-  unfolding entry_codec sent_at_codec number_text
+  unfolding entry_codec sent_at_codec input_codec number_text
   some-bytes l = omega arith
 
   -- lines in front of others, as many bytes: there are none
@@ -52,8 +53,8 @@ module _ (shapes : List Shape) where
   no-more [] lines e = refl
   no-more (l ∷ front) lines e =
       let all : lines_text (l ∷ front ++ lines) ≡ bytes_of l ++ (lines_text front ++ lines_text lines) =
-      ap (λ (bs : List ℕ). bytes_of l ++ bs) (ap (flat_map ((entry_codec (output_type shapes)).write)) (map-append entry_of front lines)
-      ∙ flat_map-append ((entry_codec (output_type shapes)).write) (map entry_of front) (map entry_of lines)) in
+      ap (λ (bs : List ℕ). bytes_of l ++ bs) (ap (flat_map ((entry_codec (numbers_of newest) (output_type shapes)).write)) (map-append entry_of front lines)
+      ∙ flat_map-append ((entry_codec (numbers_of newest) (output_type shapes)).write) (map entry_of front) (map entry_of lines)) in
       absurd (omega (
         arith,
         ap length all,
@@ -109,7 +110,7 @@ module _ (mark : List ℕ) (boot : ℕ) (scene : SceneView) where
   -- a snapshot of a world of these states
   abbrev with_lines : Scripted → List ℕ → List ℕ
   with_lines w lines =
-      around (front (version_number newest) mark) (number_text w32 boot) (applied_codec.write w.world.applied) (moment_codec.write w.world.last_time)
+      around (front (version_number newest) mark) (number_text w32 boot) ((applied_codec (numbers_of newest)).write w.world.applied) (moment_codec.write w.world.last_time)
       ((nodes_codec newest scene).write (lists_in w.world)) ((buttons_codec newest).write w.world.buttons)
       ((states_codec (length (kinds_in scene))).write w.states) lines
 
@@ -120,10 +121,10 @@ module _ (mark : List ℕ) (boot : ℕ) (scene : SceneView) where
   long-shot : (w : Scripted) (lines : List TraceLine) → length (with_lines w (counted_text lines)) ≡ length (with_lines w []) + 8 + length (lines_text (shapes_of scene) lines)
   long-shot w lines = omega (
     arith,
-    long-around (front (version_number newest) mark) (number_text w32 boot) (applied_codec.write w.world.applied) (moment_codec.write w.world.last_time)
+    long-around (front (version_number newest) mark) (number_text w32 boot) ((applied_codec (numbers_of newest)).write w.world.applied) (moment_codec.write w.world.last_time)
         ((nodes_codec newest scene).write (lists_in w.world)) ((buttons_codec newest).write w.world.buttons)
         ((states_codec (length (kinds_in scene))).write w.states) (counted_text lines),
-    long-around (front (version_number newest) mark) (number_text w32 boot) (applied_codec.write w.world.applied) (moment_codec.write w.world.last_time)
+    long-around (front (version_number newest) mark) (number_text w32 boot) ((applied_codec (numbers_of newest)).write w.world.applied) (moment_codec.write w.world.last_time)
         ((nodes_codec newest scene).write (lists_in w.world)) ((buttons_codec newest).write w.world.buttons)
         ((states_codec (length (kinds_in scene))).write w.states) [],
     length-append (number_text w64 (length (map entry_of lines))) (lines_text (shapes_of scene) lines),

@@ -61,6 +61,7 @@ module _ (law : Law) (ps : Peers) (net : Network Scripted) (are : AreIn ps net) 
             host = are.host;
             viewers = are.viewers;
             boots = are.boots;
+            lines = are.lines;
           };
         };
         body = other;

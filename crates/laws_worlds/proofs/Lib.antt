@@ -31,6 +31,7 @@ mod Typed
 pub mod DocumentWorlds
 pub mod Values
 pub mod Scenes
+pub mod LongTraces
 pub mod NetworksCounted
 mod NetworksOutputs
 pub mod Sent

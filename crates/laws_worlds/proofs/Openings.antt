@@ -1,5 +1,5 @@
 -- The opening world of a document's scene fits.
-use Rattle.std.proofs.Common.{◌≡◌, ℕ, zero, suc, ◌^◌, ◌≤◌, Bool, true, false, List, [], ◌∷◌, ◌++◌, length, map, take, zip, Option, Some, None, Result, Ok, slice_get, refl, sym, ap, subst, ◌∙◌, arith}
+use Rattle.std.proofs.Common.{◌≡◌, ℕ, zero, suc, ◌≤◌, Bool, true, false, List, [], ◌∷◌, ◌++◌, length, map, take, zip, Option, Some, None, Result, Ok, slice_get, refl, sym, ap, subst, ◌∙◌, arith}
 use Rattle.std.specs.Prelude.{All, replicate}
 use Rattle.std.specs.List.{list_all}
 use Rattle.std.proofs.lemmas.List.{length-map, length-replicate}
@@ -34,6 +34,7 @@ use Rattle.laws_worlds.proofs.Routes.{ok_is}
 use Rattle.laws_worlds.proofs.Kept.{bind_is, AreValues, are_values, AreDeclared, are_declared, all_kept_fit, no_position}
 use Rattle.laws_worlds.proofs.Ranged.{all_ranged, ranged_if}
 use Rattle.laws_worlds.proofs.Starts.{IsRanged, starts_fit}
+use Rattle.x3d_values.specs.Ranges.{max_inputs}
 
 -- ---- a node
 
@@ -182,7 +183,7 @@ all_begin (n ∷ ns) (x ∷ cs) k p b c =
     (and_true _ _ (subst (λ (o : Option ℕ). time_fits n.node_type o ≡ true) (sym cycle) (no_cycle n.node_type)) (states_fit n.node_type)))
     (all_begin ns cs (one_less (length cs) (length ns) k) (All-tail (λ (o : Option ℕ). o ≡ None) x cs p) (All-tail Begins n ns b) d.1)
 
-none_yet : 0 ≤ 2 ^ 20
+none_yet : 0 ≤ max_inputs
 none_yet = omega arith
 
 pub all_openings_fit : UntoldWorldsFit

@@ -13,6 +13,7 @@ use Rattle.x3d_values.specs.Tables.{FieldRowView}
 use Rattle.sensor_plane.specs.declared.pointing.PointingState.{PointingState}
 use Rattle.sensor_plane.specs.Pointing.{pointing_fits}
 use Rattle.snapshot_codec.specs.Fields.{kept_codec}
+use Rattle.snapshot_codec.specs.Inputs.{input_codec}
 use Rattle.snapshot_codec.specs.Parts.{cycle_codec, position_codec}
 use Rattle.snapshot_codec.specs.Trace.{typed_fits, is_moment, sent_at_codec, entry_codec}
 use Rattle.scene_core.specs.Scene.{SceneView, shapes_of}
@@ -22,6 +23,7 @@ use Rattle.cascade_trace.specs.declared.trace.TraceLine.{TraceLine}
 use Rattle.cascade_core.specs.Course.{Scripted}
 use Rattle.cascade_core.specs.Installing.{StatesFit}
 use Rattle.snapshot_core.specs.Loading.{newest}
+use Rattle.snapshot_core.specs.Opening.{numbers_of}
 use Rattle.snapshot_core.proofs.NodeLaws.{pointing_has}
 use Rattle.snapshot_core.proofs.StateSizes.{states_have}
 use Rattle.snapshot_core.proofs.WorldLaws.{newest_set}
@@ -30,6 +32,7 @@ use Rattle.snapshot_core.specs.WorldCodec.{output_type, entry_of, lines_codec, b
 use Rattle.laws_worlds.specs.Ranges.{values_fit, position_fits, fields_fit}
 use Rattle.laws_worlds.specs.Fits.{time_fits, node_fits, nodes_fit, line_fits, WorldFits}
 use Rattle.laws_worlds.specs.Snapshots.{FittingHaveSnapshots}
+use Rattle.x3d_values.specs.Ranges.{max_inputs}
 
 -- ---- a node
 
@@ -78,17 +81,17 @@ nodes_have (s ∷ shapes) (x ∷ fs) (c ∷ cs) (u ∷ us) f =
 
 -- ---- the trace
 
-line_has : (shapes : List Shape) (line : TraceLine) → line_fits shapes line ≡ true → (entry_codec (output_type shapes)).fits (entry_of line) ≡ true
-unfolding entry_codec sent_at_codec
+line_has : (shapes : List Shape) (line : TraceLine) → line_fits shapes line ≡ true → (entry_codec (numbers_of newest) (output_type shapes)).fits (entry_of line) ≡ true
+unfolding entry_codec sent_at_codec input_codec
 line_has shapes line f =
-    let a = both (nat_le line.input (2 ^ 20)) _ f in
+    let a = both (nat_le line.input max_inputs) _ f in
     let b = both (is_moment line.time) _ a.1 in
     let c = both (nat_lt line.source.node (2 ^ 32) && nat_lt line.source.field (2 ^ 16)) (typed_fits (output_type shapes line.source.node line.source.field) line.value) b.1 in
-    let most : line.input ≤ 2 ^ 20 = leb-true line.input (2 ^ 20) a.0 in
-    let few : line.input < 2 ^ 32 = omega (arith, most) in
-    and_true _ _ (and_true _ _ (lt-ltb line.input (2 ^ 32) few) (and_true _ _ b.0 c.0)) c.1
+    let most : line.input ≤ max_inputs = leb-true line.input max_inputs a.0 in
+    let few : line.input < 2 ^ 64 = omega (arith, most) in
+    and_true _ _ (and_true _ _ (lt-ltb line.input (2 ^ 64) few) (and_true _ _ b.0 c.0)) c.1
 
-lines_have : (shapes : List Shape) (lines : List TraceLine) → list_all (line_fits shapes) lines ≡ true → all_fit (entry_codec (output_type shapes)) (map entry_of lines) ≡ true
+lines_have : (shapes : List Shape) (lines : List TraceLine) → list_all (line_fits shapes) lines ≡ true → all_fit (entry_codec (numbers_of newest) (output_type shapes)) (map entry_of lines) ≡ true
 lines_have shapes [] f = refl
 lines_have shapes (line ∷ lines) f =
     let b = both (line_fits shapes line) (list_all (line_fits shapes) lines) f in
@@ -97,12 +100,12 @@ lines_have shapes (line ∷ lines) f =
 -- ---- a world
 
 world_has : (scene : SceneView) (w : Scripted) → length w.world.trace < 2 ^ 64 → WorldFits (shapes_of scene) w.world → all_lead scene 0 w.world.pointing ≡ true → StatesFit scene w.states → (world_codec newest scene).fits w ≡ true
-unfolding world_codec parts_codec nodes_codec lists_codec buttons_codec lines_codec
+unfolding world_codec parts_codec nodes_codec lists_codec buttons_codec lines_codec input_codec
 world_has scene w few f paths states =
     let n = nodes_have (shapes_of scene) w.world.fields w.world.sensors w.world.pointing f.nodes in
     let short : length (map entry_of w.world.trace) < 2 ^ 64 = subst (λ (k : ℕ). k < 2 ^ 64) (sym (length-map w.world.trace entry_of)) few in
     let nodes : lists_fit newest (shapes_of scene) (lists_in w.world) ≡ true = and_true _ _ (and_true _ _ (eq-eqb _ _ n.0) (eq-eqb _ _ n.1)) n.2 in
-    and_true _ _ (le-leb w.world.applied (2 ^ 20) f.count)
+    and_true _ _ (le-leb w.world.applied max_inputs f.count)
     (and_true _ _ f.last
     (and_true _ _ (and_true _ _ paths nodes)
     (and_true _ _ (newest_set w.world.buttons f.buttons)

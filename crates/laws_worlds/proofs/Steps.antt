@@ -9,7 +9,7 @@ use Rattle.x3d_values.specs.declared.node_type.NodeType.TheVariants.{Group, Time
 use Rattle.x3d_values.specs.declared.stamped.Cause.{Cause}
 use Rattle.x3d_values.specs.declared.stamped.Cause.TheVariants.{Clock, Pointer}
 use Rattle.x3d_values.specs.Pointing.{PointerView}
-use Rattle.x3d_values.specs.Ranges.{coordinates_fit, is_viewer, is_input_time}
+use Rattle.x3d_values.specs.Ranges.{coordinates_fit, is_input_time, is_viewer, max_inputs}
 use Rattle.x3d_values.specs.Tables.{FieldRowView, rows}
 use Rattle.x3d_values.specs.declared.vector.Vec3.{Vec3}
 use Rattle.react_core.specs.Reaction.{is_time_sensor}
@@ -150,8 +150,8 @@ moment_of t e = let b = both (int_le (pos 1) t) (int_le t (pos (10 ^ 18))) e in 
 pub all_steps_fit : StepsFit
 unfolding apply
 all_steps_fit scene routes w input staged is f =
-    let n = both (nat_le 1 input.number) (nat_le input.number (2 ^ 20)) is.number in
-    let most = leb-true input.number (2 ^ 20) n.1 in
+    let n = both (nat_le 1 input.number) (nat_le input.number max_inputs) is.number in
+    let most = leb-true input.number max_inputs n.1 in
     let number = is.next in
     let m = moment_of input.time is.time in
     let old : WorldFits (shapes_of scene) w.world = f.world in

@@ -1,6 +1,6 @@
 -- The worlds of a scene that was read from a text. The only condition on the text is that all
--- scripts of the scene run.
-use Rattle.std.specs.Prelude.{◌≡◌, ℕ, List, Option, Some, slice_get}
+-- scripts of the scene run. A snapshot counts the events that were sent in 64 bits.
+use Rattle.std.specs.Prelude.{◌≡◌, ℕ, ◌<◌, ◌^◌, List, length, Option, Some, slice_get}
 use Rattle.x3d_values.specs.Stamp.{StampedView}
 use Rattle.proto_flat.specs.declared.flat.Flat.{Flat}
 use Rattle.scene_core.specs.declared.scene.Route.{Route}
@@ -29,6 +29,7 @@ abbrev pub WorldsOfTextsHaveSnapshots : Type 0
 WorldsOfTextsHaveSnapshots =
     (text : List ℕ) (f : Flat) (scene : SceneView) (routes : List Route) (inputs : List StampedView)
     → IsOpened text f scene routes → RunsAll scene → AreInputs inputs
+    → length (world scene routes inputs).world.trace < 2 ^ 64
     → HasSnapshot scene (world scene routes inputs)
 
 -- so does each world that a viewer saved, whatever 1 to max_viewers viewers, their host and their
@@ -39,7 +40,7 @@ SavedOfTextsHaveSnapshots =
     (mark : List ℕ) (net : Network Scripted)
     → IsOpened text f scene routes → RunsAll scene → Reached (cascade mark scene routes) net
     → (s : ℕ) (shot : Shot Scripted) → slice_get net.shots s ≡ Some shot
-    → HasSnapshot scene shot.state
+    → length shot.state.world.trace < 2 ^ 64 → HasSnapshot scene shot.state
 
 -- so does each world that a viewer runs with
 abbrev pub RunningOfTextsHaveSnapshots : Type 0
@@ -48,4 +49,5 @@ RunningOfTextsHaveSnapshots =
     (mark : List ℕ) (net : Network Scripted)
     → IsOpened text f scene routes → RunsAll scene → Reached (cascade mark scene routes) net
     → (viewer : ℕ) (held : Scripted) (window : List (Option StampedView))
-    → IsRunning net viewer held window → HasSnapshot scene held
+    → IsRunning net viewer held window
+    → length held.world.trace < 2 ^ 64 → HasSnapshot scene held

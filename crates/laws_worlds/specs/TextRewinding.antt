@@ -22,13 +22,14 @@ use Rattle.laws_worlds.specs.Opened.{IsOpened}
 -- whatever 1 to max_viewers viewers, their host and their network did, if all scripts run:
 -- rewinding a viewer of the scene to the bytes of a snapshot that was taken is the network's step
 -- for that snapshot, so only its boot or memory can refuse it. The snapshot counts its boot in 32
--- bits.
+-- bits and the events that were sent in 64.
 abbrev pub TakenSnapshotsOfTextsRewind : Type 0
 TakenSnapshotsOfTextsRewind =
     (text : List ℕ) (f : Flat) (scene : SceneView) (routes : List Route)
     (mark : List ℕ) (net : Network Scripted)
     → IsOpened text f scene routes → RunsAll scene → Reached (cascade mark scene routes) net
-    → (s : ℕ) (from : Shot Scripted) → slice_get net.shots s ≡ Some from → from.boot < 2 ^ 32
+    → (s : ℕ) (from : Shot Scripted) → slice_get net.shots s ≡ Some from
+    → length from.state.world.trace < 2 ^ 64 → from.boot < 2 ^ 32
     → (v : ViewerView) → v.scene ≡ scene → length v.mark ≡ 32
     → (boot : ℕ) (result : Result ℕ SnapFault) (new : ViewerState Scripted)
     → IsRewound v boot (shot v.mark from.boot scene from.state) result new
@@ -41,7 +42,8 @@ TakenSnapshotsOfTextsJoin =
     (text : List ℕ) (f : Flat) (scene : SceneView) (routes : List Route)
     (mark : List ℕ) (net : Network Scripted)
     → IsOpened text f scene routes → RunsAll scene → Reached (cascade mark scene routes) net
-    → (s : ℕ) (from : Shot Scripted) → slice_get net.shots s ≡ Some from → from.boot < 2 ^ 32
+    → (s : ℕ) (from : Shot Scripted) → slice_get net.shots s ≡ Some from
+    → length from.state.world.trace < 2 ^ 64 → from.boot < 2 ^ 32
     → (v : ViewerView) → v.scene ≡ scene → length v.mark ≡ 32
     → (g : Gathering) → whole_of v.gathering ≡ Some g
     → joined g.places ≡ shot v.mark from.boot scene from.state

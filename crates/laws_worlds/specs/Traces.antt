@@ -1,7 +1,6 @@
 -- How many lines a trace has: no output sends twice at one timestamp (ISO/IEC 19775-1, event
 -- model).
 use Rattle.std.specs.Prelude.{◌+◌, ◌^◌, ◌≤◌, ◌<◌, List, length}
-use Rattle.x3d_values.specs.Ranges.{max_inputs}
 use Rattle.x3d_values.specs.Stamp.{StampedView}
 use Rattle.scene_core.specs.declared.scene.Route.{Route}
 use Rattle.scene_core.specs.Scene.{SceneView, shapes_of}
@@ -25,10 +24,9 @@ OpeningsSendFew =
     → RunsAll scene
     → length (opening scene routes).world.trace ≤ outputs_of (shapes_of scene)
 
--- the lines in the trace of a scene of at most 65,536 nodes, after as many inputs as a world may
--- have
+-- the lines in the trace of a scene of at most 65,536 nodes, after fewer than 2^32 - 1 inputs
 abbrev pub TracesAreCounted : Type 0
 TracesAreCounted =
     (scene : SceneView) (routes : List Route) (inputs : List StampedView)
-    → RunsAll scene → length scene.nodes ≤ 2 ^ 16 → length inputs ≤ max_inputs
+    → RunsAll scene → length scene.nodes ≤ 2 ^ 16 → length inputs + 1 < 2 ^ 32
     → length (world scene routes inputs).world.trace < 2 ^ 64

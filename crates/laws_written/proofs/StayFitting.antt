@@ -15,6 +15,7 @@ use Rattle.cascade_world.specs.declared.world.WorldData.{WorldData}
 use Rattle.laws_worlds.specs.Ranges.{fields_fit}
 use Rattle.laws_worlds.specs.Fits.{WorldFits, node_fits, nodes_fit, time_fits}
 use Rattle.laws_written.specs.Fitting.{state_fits}
+use Rattle.x3d_values.specs.Ranges.{max_inputs}
 
 -- ---- a world with that state, in which nothing has happened
 
@@ -47,7 +48,7 @@ nodes_stand (s ∷ shapes) (f ∷ fs) h =
     let b = both (fields_fit s.node_type s.declared f) (state_fits shapes fs) h in
     and_true _ _ (and_true _ _ b.0 (and_true _ _ (no_cycle s.node_type) (starts_fit s.node_type))) (nodes_stand shapes fs b.1)
 
-none_yet : 0 ≤ 2 ^ 20
+none_yet : 0 ≤ max_inputs
 none_yet = omega arith
 
 pub standing_fits : (shapes : List Shape) (state : List Fields) → state_fits shapes state ≡ true → WorldFits shapes (standing shapes state)

@@ -6,6 +6,7 @@ use Rattle.std.proofs.lemmas.List.{take_all, length-drop}
 use Rattle.share_wire.specs.Messages.{is_ordinal, is_piece, piece_size}
 use Rattle.share_wire.specs.declared.message.Body.{Body}
 use Rattle.share_law.specs.Pieces.{piece_bytes, piece_packet}
+use Rattle.x3d_values.specs.Ranges.{max_inputs}
 
 -- the last piece has what is left
 pub cut_bytes : (text : List ℕ) (i : ℕ) → take (piece_size (length text) i) (drop (192 * i) text) ≡ piece_bytes text i
@@ -29,8 +30,8 @@ and_false true true c = refl
 -- more bytes than a snapshot may have
 pub too_long : (boot applied size i : ℕ) → nat_le size (2 ^ 26) ≡ false → is_piece boot applied size i ≡ false
 too_long boot applied size i long =
-    ap (λ (b : Bool). (is_ordinal boot && nat_le applied (2 ^ 20)) && ((nat_le 85 size && b) && nat_lt (192 * i) size)) long
-    ∙ and_false (is_ordinal boot && nat_le applied (2 ^ 20)) (nat_le 85 size) (nat_lt (192 * i) size)
+    ap (λ (b : Bool). (is_ordinal boot && nat_le applied max_inputs) && ((nat_le 85 size && b) && nat_lt (192 * i) size)) long
+    ∙ and_false (is_ordinal boot && nat_le applied max_inputs) (nat_le 85 size) (nat_lt (192 * i) size)
 
 pub no_packet : (boot applied : ℕ) (text : List ℕ) (i : ℕ) → nat_le (length text) (2 ^ 26) ≡ false → None ≡ piece_packet boot applied text i
 no_packet boot applied text i long =

@@ -15,6 +15,7 @@ use Rattle.cascade_core.specs.Held.{Held, StageView, Running, Spoiled, after, af
 use Rattle.cascade_core.proofs.Turns.{apply-at}
 use Rattle.share_core.specs.Ahead.{InPlace}
 use Rattle.share_core.proofs.Places.{InPlace-advance, InPlace-drop, InPlace-front}
+use Rattle.x3d_values.specs.Ranges.{max_inputs}
 
 -- the world of a stage that isn't spoiled
 abbrev pub world_in : SceneView → Held → Scripted
@@ -32,7 +33,7 @@ applied-after scene routes (Spoiled n) x e = absurd (false≢true (sym e))
 module _ (old new : StageView) (window rest : List (Option StampedView)) (x : StampedView)
     (place : InPlace (applied_of old.held + 1) window) (front : slice_get window 0 ≡ Some (Some x)) where
   -- it was applied
-  pub advanced : is_spoiled old.held ≡ false → new ≡ after old x → rest ≡ drop 1 window ++ None ∷ [] → (applied_of new.held ≤ 2 ^ 20) × InPlace (applied_of new.held + 1) rest
+  pub advanced : is_spoiled old.held ≡ false → new ≡ after old x → rest ≡ drop 1 window ++ None ∷ [] → (applied_of new.held ≤ max_inputs) × InPlace (applied_of new.held + 1) rest
   advanced runs is moved =
       let more : applied_of new.held ≡ applied_of old.held + 1 = ap (λ (v : StageView). applied_of v.held) is ∙ applied-after old.scene old.routes old.held x runs in
       let next = InPlace-front window (applied_of old.held + 1) x front place in

@@ -5,17 +5,17 @@ use Rattle.std.proofs.lemmas.Bool.{le-leb, lt-ltb, le-ltb, cond-true, cond-false
 use Rattle.std.proofs.lemmas.Bool.Decides.{nat_tests}
 use Rattle.std.proofs.lemmas.Int.{ints}
 use Rattle.std.proofs.lemmas.List.{drop-drop}
-use Rattle.x3d_values.specs.Ranges.{is_input_number, is_input_time}
+use Rattle.x3d_values.specs.Ranges.{is_input_number, is_input_time, max_inputs}
 use Rattle.x3d_values.specs.Stamp.{StampedView}
 use Rattle.share_law.specs.Parts.{fault_behind}
 use Rattle.share_core.specs.Host.{HostInputsView, entry}
 
-pub fault_behind_none : (count : ℕ) (last t : ℤ) → fault_behind count last t ≡ None → (count < 2 ^ 20) × (last <ℤ t) × (t ≤ℤ pos (10 ^ 18))
+pub fault_behind_none : (count : ℕ) (last t : ℤ) → fault_behind count last t ≡ None → (count < max_inputs) × (last <ℤ t) × (t ≤ℤ pos (10 ^ 18))
 unfolding fault_behind
 fault_behind_none count last t h = (grind (arith, nat_tests, ints), grind (arith, nat_tests, ints), grind (arith, nat_tests, ints))
 
 pub number_ok : (count : ℕ) (last t : ℤ) → fault_behind count last t ≡ None → is_input_number (count + 1) ≡ true
-number_ok count last t free = let facts = fault_behind_none count last t free in rw (le-leb 1 (count + 1) (omega arith)) (rw (le-leb (count + 1) (2 ^ 20) (omega (arith, facts.0))) refl)
+number_ok count last t free = let facts = fault_behind_none count last t free in rw (le-leb 1 (count + 1) (omega arith)) (rw (le-leb (count + 1) max_inputs (omega (arith, facts.0))) refl)
 
 pub time_ok : (count : ℕ) (last t : ℤ) → pos 0 ≤ℤ last → fault_behind count last t ≡ None → is_input_time t ≡ true
 time_ok count last t from free =

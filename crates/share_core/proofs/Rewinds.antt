@@ -19,29 +19,30 @@ use Rattle.share_law.specs.Cascade.{world_fits}
 use Rattle.share_law.specs.Viewer.{Shot, ViewerState, begun}
 use Rattle.share_core.specs.Rewinds.{IsRewound, rewound_to}
 use Rattle.share_core.specs.Viewer.{ViewerView, machine_of}
+use Rattle.x3d_values.specs.Ranges.{max_inputs}
 
 -- a world that has a snapshot has had 2^20 inputs at most, and fits for the law
-fits-both : (scene : SceneView) (w : Scripted) → (world_codec newest scene).fits w ≡ true → (w.world.applied ≤ 2 ^ 20) × (world_fits w ≡ true)
+fits-both : (scene : SceneView) (w : Scripted) → (world_codec newest scene).fits w ≡ true → (w.world.applied ≤ max_inputs) × (world_fits w ≡ true)
 unfolding world_codec
 fits-both scene w fits =
-    let parts = and_parts (nat_le w.world.applied (2 ^ 20)) (is_moment w.world.last_time && (parts_codec newest scene).fits (parts_in w)) fits in
+    let parts = and_parts (nat_le w.world.applied max_inputs) (is_moment w.world.last_time && (parts_codec newest scene).fits (parts_in w)) fits in
     let rest = and_parts (is_moment w.world.last_time) ((parts_codec newest scene).fits (parts_in w)) parts.1 in
-    (leb-true w.world.applied (2 ^ 20) parts.0, and_from (nat_le w.world.applied (2 ^ 20)) (is_moment w.world.last_time) parts.0 rest.0)
+    (leb-true w.world.applied max_inputs parts.0, and_from (nat_le w.world.applied max_inputs) (is_moment w.world.last_time) parts.0 rest.0)
 
 -- ---- what was loaded
 
 abbrev Outcome : Type 0
 Outcome = Result Saved SnapFault × StageView
 
-outcome-most : (old new : StageView) (l : Result (ℕ × Scripted) SnapFault) (saved : Saved) → ((x : ℕ × Scripted) → l ≡ Ok x → x.1.world.applied ≤ 2 ^ 20)
-    → (let left : Outcome = (Ok saved, new) in load_outcome old l ≡ left) → applied_of new.held ≤ 2 ^ 20
+outcome-most : (old new : StageView) (l : Result (ℕ × Scripted) SnapFault) (saved : Saved) → ((x : ℕ × Scripted) → l ≡ Ok x → x.1.world.applied ≤ max_inputs)
+    → (let left : Outcome = (Ok saved, new) in load_outcome old l ≡ left) → applied_of new.held ≤ max_inputs
 outcome-most old new (Ok x) saved most e =
     let held : holding old (Running x.1) ≡ new = ap (λ (o : Outcome). o.1) e in
-    subst (λ (v : StageView). applied_of v.held ≤ 2 ^ 20) held (most x refl)
+    subst (λ (v : StageView). applied_of v.held ≤ max_inputs) held (most x refl)
 outcome-most old new (Err fault) saved most e = absurd (let no : (let r : Result Saved SnapFault = Err fault in r) ≡ Ok saved = ap (λ (o : Outcome). o.0) e in cc)
 
 pub load-most : (old new : StageView) (mark : List ℕ) (boot : ℕ) (bytes : List ℕ) (saved : Saved) (Memory : Type 0) → IsBytes bytes
-    → (let left : Outcome = (Ok saved, new) in (load_outcome old (loaded mark old.scene boot bytes) ≡ left) ⊎ Memory) → (Memory → ⊥) → applied_of new.held ≤ 2 ^ 20
+    → (let left : Outcome = (Ok saved, new) in (load_outcome old (loaded mark old.scene boot bytes) ≡ left) ⊎ Memory) → (Memory → ⊥) → applied_of new.held ≤ max_inputs
 load-most old new mark boot bytes saved Memory is (inl e) never =
     outcome-most old new (loaded mark old.scene boot bytes) saved (λ x l. (fits-both old.scene x.1 (found mark old.scene boot bytes x is l).1.fits).0) e
 load-most old new mark boot bytes saved Memory is (inr m) never = absurd (never m)

@@ -62,7 +62,7 @@ abbrev pub IfSpoiled : ViewerWorld Scripted → Type 0 → Type 0
 IfSpoiled (Running w window) P = Unit {0}
 IfSpoiled (Spoiled count) P = P
 
--- a viewer that has forgotten the lines of its trace of all inputs but the last so many
+-- a viewer that has forgotten the lines of its trace of all inputs but the last n
 abbrev pub forgot_in : (last : ℕ) → ViewerWorld Scripted → ViewerWorld Scripted
 forgot_in last (Running w window) = Running (forget (w.world.applied + 1 - last) w) window
 forgot_in last (Spoiled count) = Spoiled count

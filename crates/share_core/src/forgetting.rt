@@ -7,7 +7,7 @@ use crate::viewer::Viewer;
 use script_host::Behaviour;
 
 /// Returns the number of the first of the last `last` inputs of `applied`.
-fn first_of_last(applied: u32, last: u32) -> u32
+fn first_of_last(applied: u64, last: u64) -> u64
     requires { applied ≤ max_inputs }
     ensures { result ≡ applied + 1 - last }
 {
@@ -21,7 +21,7 @@ impl<B: Behaviour> Viewer<B> {
     /// Forgets the lines of the trace of all inputs but the last `last`. Otherwise the viewer stays
     /// as it is, and goes on like one that has all lines. A spoiled viewer has no trace and stays
     /// as it is. Takes no memory.
-    pub fn forget_all_but(&mut self, last: u32)
+    pub fn forget_all_but(&mut self, last: u64)
         ensures { self.new ≡ with_state self.old (forgot_but last self.old.state) }
     {
         let below = first_of_last(self.stage.applied(), last);

@@ -18,7 +18,7 @@ use std::marker::Model;
 #[derive(Drop)]
 pub struct Pieces {
     boot: u32,
-    applied: u32,
+    applied: u64,
     size: u32,
     bytes: Vec<u8>,
     there: Vec<bool>,
@@ -48,7 +48,7 @@ impl Model for Pieces {
 impl Pieces {
     /// Begins a snapshot of `size` bytes, of which no piece has arrived. Fails if memory is
     /// refused.
-    pub fn begin(alloc: Global, boot: u32, applied: u32, size: u32) -> Result<Pieces, AllocError>
+    pub fn begin(alloc: Global, boot: u32, applied: u64, size: u32) -> Result<Pieces, AllocError>
         requires { size ≤ 2 ^ 26 }
         ensures { IfOk result (λ g. g ≡ record {
           boot = boot;

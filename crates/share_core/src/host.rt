@@ -126,10 +126,10 @@ impl Host {
 
     /// Numbers a clock input at a time in microseconds. Returns its number.
     ///
-    /// Fails, in this order, with `WorldFull` if 2^20 inputs are numbered, `TimeNotLater` if the
-    /// time isn't above that of the last input and above 0, `TimeRange` if it is above 10^18, or
-    /// `Memory`. A failure changes nothing.
-    pub fn clock(&mut self, time: i64) -> Result<u32, NumberFault>
+    /// Fails, in this order, with `WorldFull` if 2^48 - 1 inputs are numbered, `TimeNotLater` if
+    /// the time isn't above that of the last input and above 0, `TimeRange` if it is above 10^18,
+    /// or `Memory`. A failure changes nothing.
+    pub fn clock(&mut self, time: i64) -> Result<u64, NumberFault>
         ensures mark { self.new.mark ≡ self.old.mark }
         ensures step { IsPartClocked self.old.part time result self.new.part }
     {
@@ -138,7 +138,7 @@ impl Host {
 
     /// Returns the packet of the input with this number. Returns `None` if there is no such input
     /// or it is below the floor. Takes no memory.
-    pub fn packet(&self, number: u32) -> Option<Packet>
+    pub fn packet(&self, number: u64) -> Option<Packet>
         ensures bytes { option_map (λ p. p.items) result
             ≡ option_map (λ body. datagram (record { mark = self.now.mark; body = body }))
             (part_packet self.now.part number) }
@@ -152,7 +152,7 @@ impl Host {
 
     /// Returns the floor, the number from which on there are packets of inputs. It is 1 at first,
     /// and at most the number of the next input.
-    pub fn floor(&self) -> u32
+    pub fn floor(&self) -> u64
         ensures value { result ≡ self.now.part.floor }
         // Of every host: some host of the law, with its whole list, has its part.
         ensures part { IsSomePart self.now.part }
@@ -165,7 +165,7 @@ impl Host {
     ///
     /// Fails, in this order, with `FloorBack` if the number is below the floor, or `FloorAhead` if
     /// it is above that of the next input. A failure changes nothing.
-    pub fn drop_below(&mut self, floor: u32) -> Result<u32, FloorFault>
+    pub fn drop_below(&mut self, floor: u64) -> Result<u64, FloorFault>
         ensures mark { self.new.mark ≡ self.old.mark }
         ensures step { part_drop_below self.old.part floor ≡ (result, self.new.part) }
     {
@@ -194,8 +194,8 @@ impl Host {
         })
     }
 
-    /// Returns the number of numbered inputs: at most 2^20.
-    pub fn len(&self) -> u32
+    /// Returns the number of numbered inputs: at most 2^48 - 1.
+    pub fn len(&self) -> u64
         ensures value { result ≡ self.now.part.count }
         ensures most { result ≤ max_inputs }
     {

@@ -17,8 +17,8 @@ use x3d_values::{Cause, MAX_INPUTS, MAX_TIME, Stamped};
 #[derive(Drop)]
 pub(crate) struct HostInputs {
     rest: VecDeque<Stamped>,
-    floor: u32,
-    count: u32,
+    floor: u64,
+    count: u64,
     last: i64,
 }
 
@@ -73,7 +73,7 @@ impl HostInputs {
     }
 
     /// Returns the number of all inputs, including those below the floor.
-    pub(crate) fn len(&self) -> u32
+    pub(crate) fn len(&self) -> u64
         ensures value { result ≡ self.now.count }
         ensures fits { self.now.count ≤ max_inputs }
     {
@@ -89,7 +89,7 @@ impl HostInputs {
     }
 
     /// Returns the number of the first input that is there, or else of the next input.
-    pub(crate) fn floor(&self) -> u32
+    pub(crate) fn floor(&self) -> u64
         ensures value { result ≡ self.now.floor }
         ensures from { 1 ≤ self.now.floor }
         ensures to { self.now.floor ≤ self.now.count + 1 }
@@ -98,7 +98,7 @@ impl HostInputs {
     }
 
     /// Returns the input with this number, if it is there.
-    pub(crate) fn get(&self, number: u32) -> Option<Stamped>
+    pub(crate) fn get(&self, number: u64) -> Option<Stamped>
         ensures { result ≡ entry self.now number }
     {
         if number < self.floor {
@@ -124,7 +124,7 @@ impl HostInputs {
     }
 
     /// Numbers an input at this time, in microseconds. Returns its number.
-    pub(crate) fn add(&mut self, time: i64, cause: Cause) -> Result<u32, NumberFault>
+    pub(crate) fn add(&mut self, time: i64, cause: Cause) -> Result<u64, NumberFault>
         ensures { IsListed self.old time cause result self.new }
     {
         if let Some(fault) = self.fault_at(time) {
@@ -142,7 +142,7 @@ impl HostInputs {
     }
 
     /// Numbers an input 1 microsecond after the last one. Returns its number.
-    pub(crate) fn add_next(&mut self, cause: Cause) -> Result<u32, NumberFault>
+    pub(crate) fn add_next(&mut self, cause: Cause) -> Result<u64, NumberFault>
         ensures { IsListed self.old (self.old.last +ℤ pos 1) cause result self.new }
     {
         let time = self.last + 1;
@@ -150,7 +150,7 @@ impl HostInputs {
     }
 
     /// Drops the inputs below number `floor`. Takes no memory.
-    pub(crate) fn drop_below(&mut self, floor: u32)
+    pub(crate) fn drop_below(&mut self, floor: u64)
         requires from { self.old.floor ≤ floor }
         requires to { floor ≤ self.old.count + 1 }
         ensures { self.new ≡ dropped self.old floor }
@@ -161,7 +161,7 @@ impl HostInputs {
 }
 
 /// Returns the input at a place, counted from 0, if there is one.
-fn at(list: &VecDeque<Stamped>, place: u32) -> Option<Stamped>
+fn at(list: &VecDeque<Stamped>, place: u64) -> Option<Stamped>
     ensures { result ≡ slice_get list.now.items place }
 {
     list.get(place as usize).copied()

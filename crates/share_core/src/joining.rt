@@ -25,7 +25,7 @@ fn unless(joined: bool, pieces: Pieces) -> Option<Pieces>
 }
 
 /// Returns the answer of a join, given that of its rewind.
-fn joined(rewound: Result<u32, SnapFault>) -> Result<u32, JoinFault>
+fn joined(rewound: Result<u64, SnapFault>) -> Result<u64, JoinFault>
     ensures { result ≡ join_result rewound }
 {
     match rewound {
@@ -67,7 +67,7 @@ impl<B: Behaviour> Viewer<B> {
     /// Fails with `BootNotNew` if `boot` isn't above the viewer's own, and then like `load_into`,
     /// which also fails with `BootNotNew` if `boot` isn't above the snapshot's. A failure changes
     /// nothing, except `Memory`: it spoils the viewer, with the inputs that it had applied.
-    pub fn rewind(&mut self, bytes: &[u8], boot: u32) -> Result<u32, SnapFault>
+    pub fn rewind(&mut self, bytes: &[u8], boot: u32) -> Result<u64, SnapFault>
         ensures others { self.new ≡ with_state self.old self.new.state }
         ensures step { IsRewound self.old boot bytes.now result self.new.state }
         // With the snapshot of a world that has one, this is the law's step.
@@ -79,7 +79,7 @@ impl<B: Behaviour> Viewer<B> {
         self.begin_again(bytes, boot)
     }
 
-    fn begin_again(&mut self, bytes: &[u8], boot: u32) -> Result<u32, SnapFault>
+    fn begin_again(&mut self, bytes: &[u8], boot: u32) -> Result<u64, SnapFault>
         ensures others { self.new ≡ with_state self.old self.new.state }
         ensures step { IsRewound self.old boot bytes.now result self.new.state }
         ensures mark { length self.old.mark ≡ 32 }
@@ -121,7 +121,7 @@ impl<B: Behaviour> Viewer<B> {
     ///
     /// Fails with `NotWhole` if a piece is missing, and then like `rewind`. A failure keeps what
     /// was gathered.
-    pub fn join(&mut self, boot: u32) -> Result<u32, JoinFault>
+    pub fn join(&mut self, boot: u32) -> Result<u64, JoinFault>
         ensures others { self.new
             ≡ with_gathering (with_state self.old self.new.state) self.new.gathering }
         ensures step { IsJoined self.old (whole_of self.old.gathering) boot result self.new.state
@@ -138,7 +138,7 @@ impl<B: Behaviour> Viewer<B> {
     }
 
     /// Restarts from the bytes of these pieces, if none is missing.
-    fn begin_from(&mut self, pieces: &Pieces, boot: u32) -> Result<u32, JoinFault>
+    fn begin_from(&mut self, pieces: &Pieces, boot: u32) -> Result<u64, JoinFault>
         ensures others { self.new ≡ with_state self.old self.new.state }
         ensures step { IsBegunFrom self.old (whole_of (Some pieces.now)) boot result
             self.new.state }

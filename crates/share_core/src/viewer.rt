@@ -49,7 +49,7 @@ impl<B: Behaviour> Model for Viewer<B> {
 }
 
 /// Returns the answer to a floor of a viewer that has applied `applied` inputs.
-fn behind(applied: u32, floor: Floor) -> Taken
+fn behind(applied: u64, floor: Floor) -> Taken
     requires { applied ≤ max_inputs }
     ensures { result ≡ if nat_lt (applied + 1) floor then Taken.Behind else Taken.Noted }
 {
@@ -107,7 +107,7 @@ impl<B: Behaviour> Viewer<B> {
 
     /// Returns the number of applied inputs. For a spoiled viewer, counts those before memory was
     /// refused.
-    pub fn applied(&self) -> u32
+    pub fn applied(&self) -> u64
         ensures { result ≡ applied_in (machine_of self.now) self.now.state.view }
     {
         self.stage.applied()

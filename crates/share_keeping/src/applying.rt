@@ -19,7 +19,7 @@ fn cause_of(source: Source) -> Cause
 }
 
 /// Returns the input that a host shows for an entry after `applied` others, if there is one.
-fn shown(applied: u32, entry: &Entry) -> Option<Stamped>
+fn shown(applied: u64, entry: &Entry) -> Option<Stamped>
     ensures { result ≡ spec.shown_next applied entry.now }
 {
     if applied >= MAX_INPUTS {

@@ -45,4 +45,15 @@ impl<B: Behaviour, P: Learns> Learns for KeepingPort<B, P> {
         forget_if_due(&mut self.stage, &mut self.forgetting);
         Ok(())
     }
+
+    fn drop_below(&mut self, floor: u64)
+        ensures told { spec.no_record ≡ spec.no_record }
+        ensures failures { self.new.failed ≡ self.old.failed }
+        ensures time { P.rested self.new.port ≡ P.rested self.old.port }
+        ensures below { P.told self.new.port ≡ P.told self.old.port }
+        // Nothing else changes.
+        ensures others { self.new ≡ record self.old { port = self.new.port } }
+    {
+        self.port.drop_below(floor);
+    }
 }

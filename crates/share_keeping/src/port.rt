@@ -52,7 +52,7 @@ impl<B: Behaviour, P: Drop> KeepingPort<B, P> {
         stage: Stage<B>,
         mark: [u8; 32],
         entries: &[Entry],
-        forget: Option<u32>,
+        forget: Option<u64>,
     ) -> Result<KeepingPort<B, P>, ApplyFault>
         ensures port { IfOk result (λ p. p.port ≡ port) }
         ensures stage { IfOk result (λ p. p.stage

@@ -14,7 +14,7 @@ pub(crate) enum Said {
     /// A seat asks for a later input.
     GoesOn(u8),
     /// The host has inputs from this number on.
-    HasFrom(u32),
+    HasFrom(u64),
     Nothing,
 }
 

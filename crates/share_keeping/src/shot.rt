@@ -22,7 +22,7 @@ const BOOT: u32 = 1;
 pub(crate) struct Shot {
     bytes: Vec<u8>,
     /// How many inputs its world has.
-    inputs: u32,
+    inputs: u64,
     /// How many pieces it has: none if it has more than 2^26 bytes.
     count: u32,
 }
@@ -51,7 +51,7 @@ impl Shot {
     ghost use Rattle.std.specs.Prelude.{◌≡◌};
     ghost use Rattle.share_keeping.specs.Shots as spec;
 
-    fn of(bytes: Vec<u8>, inputs: u32) -> Shot
+    fn of(bytes: Vec<u8>, inputs: u64) -> Shot
         ensures { result ≡ record { bytes = bytes.items; inputs = inputs } }
     {
         let count = pieces_in(&bytes);
@@ -69,7 +69,7 @@ impl Shot {
     }
 
     /// Returns how many inputs its world has.
-    pub(crate) fn inputs(&self) -> u32
+    pub(crate) fn inputs(&self) -> u64
         ensures { result ≡ self.now.inputs }
     {
         self.inputs
@@ -97,11 +97,11 @@ pub(crate) fn taken<B: Behaviour>(stage: &Stage<B>, mark: &[u8; 32]) -> Option<S
 }
 
 /// Reports whether a snapshot is too old for a viewer whose host has inputs from `floor` on.
-pub(crate) fn is_too_old(shot: &Option<Shot>, floor: u32) -> bool
+pub(crate) fn is_too_old(shot: &Option<Shot>, floor: u64) -> bool
     ensures { result ≡ spec.is_too_old shot.now floor }
 {
     match shot {
-        Some(shot) => u64::from(floor) > u64::from(shot.inputs()) + 1,
+        Some(shot) => floor > shot.inputs().saturating_add(1),
         None => false,
     }
 }
@@ -123,7 +123,7 @@ pub(crate) fn renew<B: Behaviour>(
 }
 
 /// Notes that a floor is sent: it ends a snapshot that is too old for a viewer that joins.
-fn note_floor(to: u16, floor: u32, joiners: &Joiners, shot: &mut Option<Shot>)
+fn note_floor(to: u16, floor: u64, joiners: &Joiners, shot: &mut Option<Shot>)
     ensures { shot.new ≡ shot_after (Said.HasFrom floor) to joiners.now shot.old }
 {
     if joiners.is_joined(to) && is_too_old(shot, floor) {

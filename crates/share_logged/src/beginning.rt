@@ -23,7 +23,7 @@ use share_wire::{Body, Message, Offer};
 use std::alloc::Global;
 
 /// Goes on if the clock of an entry was numbered.
-fn after_clock(answer: Result<u32, NumberFault>, number: u32) -> Result<(), ResumeFault>
+fn after_clock(answer: Result<u64, NumberFault>, number: u64) -> Result<(), ResumeFault>
     ensures { result ≡ after_clock number answer }
 {
     match answer {
@@ -34,7 +34,7 @@ fn after_clock(answer: Result<u32, NumberFault>, number: u32) -> Result<(), Resu
 }
 
 /// Goes on if the offer of an entry was numbered.
-fn after_offer(answer: Result<HostReply, HostFault>, number: u32) -> Result<(), ResumeFault>
+fn after_offer(answer: Result<HostReply, HostFault>, number: u64) -> Result<(), ResumeFault>
     ensures { result ≡ after_offer number answer }
 {
     match answer {
@@ -44,7 +44,7 @@ fn after_offer(answer: Result<HostReply, HostFault>, number: u32) -> Result<(), 
     }
 }
 
-fn make_clock(host: &mut Host, time: i64, number: u32) -> Result<(), ResumeFault>
+fn make_clock(host: &mut Host, time: i64, number: u64) -> Result<(), ResumeFault>
     ensures mark { host.new.mark ≡ host.old.mark }
     ensures made { OnOk result (PartMakesOf host.old.part time Clock host.new.part) }
     ensures refused { IfErr result (λ fault. IsMadeNot host.old.part time Clock number fault) }
@@ -57,7 +57,7 @@ fn make_offer(
     last: i64,
     time: i64,
     offer: Offer,
-    number: u32,
+    number: u64,
 ) -> Result<(), ResumeFault>
     requires last { last ≡ host.old.part.last }
     requires from { pos 0 ≤ℤ last }
@@ -81,7 +81,7 @@ pub(crate) fn make(
     host: &mut Host,
     last: i64,
     entry: &Entry,
-    number: u32,
+    number: u64,
 ) -> Result<(), ResumeFault>
     requires last { last ≡ host.old.part.last }
     requires from { pos 0 ≤ℤ last }

@@ -12,7 +12,7 @@ use thiserror::Error;
 pub enum ResumeFault {
     /// No host of this world wrote the entry with this number there.
     #[error("entry {0} is not one that a host wrote there")]
-    NotALog(u32),
+    NotALog(u64),
     #[error("memory was refused")]
     Memory,
 }

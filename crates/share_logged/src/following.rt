@@ -11,8 +11,8 @@ use crate::hosting::LoggedHost;
 use share_core::Host;
 use share_entries::Entry;
 
-/// Numbers the inputs of entries, after one at time `last`. Returns the time of the last of them, or
-/// `last` if there is none.
+/// Numbers the inputs of entries, after one at time `last`. Returns the time of the last of them,
+/// or `last` if there is none.
 fn make_all(host: &mut Host, last: i64, entries: &[Entry]) -> Result<i64, ResumeFault>
     requires last { last ≡ host.old.part.last }
     requires from { pos 0 ≤ℤ last }

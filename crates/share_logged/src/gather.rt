@@ -17,7 +17,7 @@ use share_turns::{Heard, MOST, Port, RECEIVED, TurnFault, after_clock, hear, sen
 use share_wire::{Body, Message, WireFault, decode};
 
 /// Returns the entry of a clock at a time in microseconds, if a host numbered it.
-pub fn clock_entry(time: i64, answer: Result<u32, NumberFault>) -> Option<Entry>
+pub fn clock_entry(time: i64, answer: Result<u64, NumberFault>) -> Option<Entry>
     requires fits { AllFit (clock_entries time answer) }
     ensures { listed result ≡ clock_entries time answer }
 {

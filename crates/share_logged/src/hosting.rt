@@ -58,8 +58,8 @@ impl LoggedHost {
         self.host.mark()
     }
 
-    /// Returns the number of entries, which are the inputs of the world: at most 2^20.
-    pub fn len(&self) -> u32
+    /// Returns the number of entries, which are the inputs of the world: at most 2^48 - 1.
+    pub fn len(&self) -> u64
         ensures { result ≡ self.now.part.count }
     {
         self.host.len()

@@ -18,6 +18,14 @@ pub trait Learns: Port {
     {
         Ok(())
     }
+
+    /// Drops what the port learned of entries below `floor`, the number of the first input that the
+    /// host still has. Nothing is sent or received. The default drops nothing.
+    fn drop_below(&mut self, _floor: u64)
+        ensures told { Self.told self.new ≡ Self.told self.old }
+        ensures failures { Self.failure_count self.new ≡ Self.failure_count self.old }
+        ensures time { Self.rested self.new ≡ Self.rested self.old }
+    {}
 }
 
 impl Learns for FakePort {}

@@ -142,13 +142,13 @@ fn turn<L: Log, P: Learns>(
     answer(host, &pending, port)
 }
 
-/// Notes which viewers asked in a turn, drops the inputs that the host doesn't keep, and lets the
-/// port rest. Returns the milliseconds that passed, as the port counts them.
-fn settle<P: Port>(
+/// Notes which viewers asked in a turn, drops the inputs that the host doesn't keep, as does the
+/// port, and lets the port rest. Returns the milliseconds that passed, as the port counts them.
+fn settle<P: Learns>(
     host: &mut Host,
     attendance: &mut Attendance,
     came: &Heard,
-    keep: Option<u32>,
+    keep: Option<u64>,
     is_new: bool,
     port: &mut P,
 ) -> u64
@@ -163,6 +163,7 @@ fn settle<P: Port>(
 {
     attendance.note(came);
     drop_counted(host, attendance, keep);
+    port.drop_below(host.floor());
     let millis = port.rest(is_new);
     attendance.pass(millis);
     millis
@@ -184,7 +185,7 @@ fn settle<P: Port>(
 pub fn logged_turn<L: Log, P: Learns>(
     hosting: LoggedHost,
     clock: Option<i64>,
-    keep: Option<u32>,
+    keep: Option<u64>,
     log: &mut L,
     port: &mut P,
 ) -> Result<LoggedHost, LoggedFault>

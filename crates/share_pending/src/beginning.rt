@@ -24,7 +24,7 @@ pub struct Resumed {
 }
 
 /// Returns what waits after these entries: nothing.
-fn waiting_after(alloc: Global, viewers: u8, entries: &[Entry], count: u32) -> Waiting
+fn waiting_after(alloc: Global, viewers: u8, entries: &[Entry], count: u64) -> Waiting
     requires viewers { viewers ≤ max_viewers }
     requires count { count ≤ max_inputs }
     ensures { result ≡ waiting_after viewers entries.now count }

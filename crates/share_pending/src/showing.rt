@@ -15,7 +15,7 @@ use share_law::{FloorFault, HostFault, HostReply, SeatCount};
 use share_turns::{Heard, floor_for};
 use share_wire::{Ack, Body, Message, Packet, encode};
 
-fn shown_run(stored: u32, first: u32, count: u32) -> HostReply
+fn shown_run(stored: u64, first: u64, count: u64) -> HostReply
     ensures { result ≡ shown_run stored first count }
 {
     if stored < first {
@@ -30,7 +30,7 @@ fn shown_run(stored: u32, first: u32, count: u32) -> HostReply
     }
 }
 
-fn shown_reply(reply: HostReply, stored: u32) -> HostReply
+fn shown_reply(reply: HostReply, stored: u64) -> HostReply
     ensures { result ≡ shown_reply stored reply }
 {
     match reply {
@@ -42,7 +42,7 @@ fn shown_reply(reply: HostReply, stored: u32) -> HostReply
 /// Returns what is answered to a datagram: to an ask at most the stored inputs.
 pub(crate) fn shown_answer(
     answer: Result<HostReply, HostFault>,
-    stored: u32,
+    stored: u64,
 ) -> Result<HostReply, HostFault>
     ensures { result ≡ shown_answer stored answer }
 {
@@ -53,7 +53,7 @@ pub(crate) fn shown_answer(
 }
 
 /// Returns the datagram of an input, if it is one of the `stored` first.
-fn packet_of(host: &Host, stored: u32, number: u32) -> Option<Packet>
+fn packet_of(host: &Host, stored: u64, number: u64) -> Option<Packet>
     ensures { option_map (λ p. p.items) result
         ≡ packet_bytes host.now.mark stored host.now.part number }
 {
@@ -100,7 +100,7 @@ fn ack_for(mark: [u8; 32], kept: &Kept, who: u8) -> Option<Packet>
 }
 
 /// Drops the inputs below a number, if all of them are of the `stored` first.
-fn drop_stored(host: &mut Host, stored: u32, floor: u32) -> Result<u32, FloorFault>
+fn drop_stored(host: &mut Host, stored: u64, floor: u64) -> Result<u64, FloorFault>
     ensures mark { host.new.mark ≡ host.old.mark }
     ensures step { stored_drop stored host.old.part floor ≡ (result, host.new.part) }
 {
@@ -111,7 +111,7 @@ fn drop_stored(host: &mut Host, stored: u32, floor: u32) -> Result<u32, FloorFau
 }
 
 /// Drops inputs of the `stored` first, by what viewers have asked from.
-fn drop_heard(host: &mut Host, stored: u32, keep: u32, heard: &Heard)
+fn drop_heard(host: &mut Host, stored: u64, keep: u64, heard: &Heard)
     requires { stored ≤ max_inputs }
     ensures mark { host.new.mark ≡ host.old.mark }
     ensures part { host.new.part ≡ stored_keeping stored keep heard.now host.old.part }
@@ -134,7 +134,7 @@ impl Waiting {
 
     /// Returns the datagram of the input with this number, like `Host::packet` of share_core.
     /// Returns `None` also if the input isn't stored.
-    pub fn packet(&self, host: &Host, number: u32) -> Option<Packet>
+    pub fn packet(&self, host: &Host, number: u64) -> Option<Packet>
         ensures bytes { option_map (λ p. p.items) result
             ≡ packet_bytes host.now.mark self.now.stored host.now.part number }
         ensures shown { ShowsStored host.now.mark host.now.part self.now
@@ -166,7 +166,7 @@ impl Waiting {
 
     /// Drops the inputs below this number, like `Host::drop_below` of share_core. Fails with
     /// `FloorAhead` also if the number is above that of the first input that isn't stored.
-    pub fn drop_below(&self, host: &mut Host, floor: u32) -> Result<u32, FloorFault>
+    pub fn drop_below(&self, host: &mut Host, floor: u64) -> Result<u64, FloorFault>
         ensures mark { host.new.mark ≡ host.old.mark }
         ensures step { stored_drop self.now.stored host.old.part floor
             ≡ (result, host.new.part) }
@@ -177,7 +177,7 @@ impl Waiting {
 
     /// Drops the stored inputs that every viewer that asked has, except the last `keep` of them.
     /// Drops nothing if none has asked.
-    pub fn drop_passed(&self, host: &mut Host, heard: &Heard, keep: u32)
+    pub fn drop_passed(&self, host: &mut Host, heard: &Heard, keep: u64)
         ensures mark { host.new.mark ≡ host.old.mark }
         ensures part { host.new.part
             ≡ stored_keeping self.now.stored keep heard.now host.old.part }

@@ -38,7 +38,8 @@ fn keep_stored(kept: &mut Kept, appending: &mut Vec<Entry>)
 }
 
 impl Waiting {
-    ghost use Rattle.std.specs.Prelude.{◌≡◌};
+    ghost use Rattle.std.specs.Prelude.{◌≡◌, ◌≤◌};
+    ghost use Rattle.x3d_values.specs.Ranges.{max_inputs};
     ghost use Rattle.share_pending.specs.Waiting.{begun, is_awaited, stored_by};
     ghost use Rattle.share_pending.specs.Written.{GrowsByStored, StaysAhead};
 
@@ -67,9 +68,10 @@ impl Waiting {
         self.token
     }
 
-    /// Returns the number of stored entries.
-    pub fn stored(&self) -> u32
-        ensures { result ≡ self.now.stored }
+    /// Returns the number of stored entries: at most 2^48 - 1.
+    pub fn stored(&self) -> u64
+        ensures value { result ≡ self.now.stored }
+        ensures most { result ≤ max_inputs }
     {
         self.stored
     }

@@ -23,13 +23,13 @@ use std::marker::Model;
 #[derive(Drop)]
 pub struct Waiting {
     /// The number of stored entries.
-    pub(crate) stored: u32,
+    pub(crate) stored: u64,
     /// What is kept of each viewer after the stored entries.
     pub(crate) kept: Kept,
     /// The entries that are being appended.
     pub(crate) appending: Vec<Entry>,
     /// The number of entries with those that are being appended.
-    pub(crate) reached: u32,
+    pub(crate) reached: u64,
     /// The token of the last append that began, or 0.
     pub(crate) token: u32,
     /// The entries that were numbered since that append began.
@@ -84,7 +84,7 @@ fn is_offer(read: &Result<Message, WireFault>) -> bool
 }
 
 /// Numbers a clock, and adds its entry to a list that has room for it.
-fn add_clock(host: &mut Host, time: i64, list: &mut Vec<Entry>) -> Result<u32, NumberFault>
+fn add_clock(host: &mut Host, time: i64, list: &mut Vec<Entry>) -> Result<u64, NumberFault>
     requires { vec_len list.old < vec_capacity list.old }
     ensures mark { host.new.mark ≡ host.old.mark }
     ensures step { IsPartClocked host.old.part time result host.new.part }
@@ -116,7 +116,7 @@ fn add_read(
 }
 
 /// Numbers a clock, and adds its entry to a list.
-fn clock_to(host: &mut Host, time: i64, list: &mut Vec<Entry>) -> Result<u32, NumberFault>
+fn clock_to(host: &mut Host, time: i64, list: &mut Vec<Entry>) -> Result<u64, NumberFault>
     ensures mark { host.new.mark ≡ host.old.mark }
     ensures step { IsClockAdded host.old.part list.old.items time result host.new.part
         list.new.items }
@@ -132,7 +132,7 @@ fn clock_to(host: &mut Host, time: i64, list: &mut Vec<Entry>) -> Result<u32, Nu
 fn offer_to(
     host: &mut Host,
     read: &Result<Message, WireFault>,
-    stored: u32,
+    stored: u64,
     list: &mut Vec<Entry>,
 ) -> Result<HostReply, HostFault>
     requires { is_offer read.now ≡ true }
@@ -151,7 +151,7 @@ fn offer_to(
 fn other_to(
     host: &mut Host,
     read: &Result<Message, WireFault>,
-    stored: u32,
+    stored: u64,
 ) -> Result<HostReply, HostFault>
     requires { is_offer read.now ≡ false }
     ensures mark { host.new.mark ≡ host.old.mark }
@@ -165,7 +165,7 @@ fn other_to(
 fn take_to(
     host: &mut Host,
     read: &Result<Message, WireFault>,
-    stored: u32,
+    stored: u64,
     list: &mut Vec<Entry>,
 ) -> Result<HostReply, HostFault>
     ensures mark { host.new.mark ≡ host.old.mark }
@@ -188,7 +188,7 @@ impl Waiting {
     ///
     /// Fails like `Host::clock` of share_core, and with `Memory` also if there is no memory for the
     /// entry, whatever the time is. A failure changes nothing.
-    pub fn clock(&mut self, host: &mut Host, time: i64) -> Result<u32, NumberFault>
+    pub fn clock(&mut self, host: &mut Host, time: i64) -> Result<u64, NumberFault>
         ensures mark { host.new.mark ≡ host.old.mark }
         ensures step { IsClockWaiting host.old.part self.old time result host.new.part self.new }
         ensures log { StaysAhead host.old.part self.old host.new.part self.new }

@@ -36,6 +36,7 @@ use Rattle.share_law.proofs.Calls.{save-step, save-refused-step, save-spoiled-st
 use Rattle.share_law.proofs.CallSteps.{each_call_is_a_step}
 use Rattle.share_law.proofs.Elements.{slice_get_push}
 use Rattle.share_law.proofs.Machines.{cascade-is}
+use Rattle.laws_worlds.proofs.LongTraces.{few-lines}
 use Rattle.share_core.specs.Host.{HostView}
 use Rattle.share_core.specs.Pieces.{piece_of, piece_with}
 use Rattle.share_core.specs.Rewinds.{IsJoined}
@@ -47,11 +48,11 @@ use Rattle.share_rehearsal.specs.Calls.{Seen, with_host, with_viewer, with_packe
 use Rattle.share_rehearsal.specs.Stands.{law_answer, viewer_at, shot_at, StandFor}
 use Rattle.share_rehearsal.proofs.Places.{set-both}
 
--- each snapshot of the run can be loaded, whatever happened before
+-- each snapshot of the run with fewer than 2^64 lines can be loaded, whatever happened before
 abbrev pub ShotsLoad : (mark : List ℕ) → SceneView → List Route → Type 0
 ShotsLoad mark scene routes =
     (net : Network Scripted) → Reached (cascade mark scene routes) net
-    → (s : ℕ) (taken : LawShot Scripted) → slice_get net.shots s ≡ Some taken → HasSnapshot scene taken.state
+    → (s : ℕ) (taken : LawShot Scripted) → slice_get net.shots s ≡ Some taken → length taken.state.world.trace < 2 ^ 64 → HasSnapshot scene taken.state
 
 -- ---- a step, with what stands after it
 
@@ -59,11 +60,13 @@ module _ (mark : List ℕ) (scene : SceneView) (routes : List Route) (loads : Sh
   abbrev pub m : Machine Scripted
   m = cascade mark scene routes
 
-  -- the network was reached, and the real nodes match it; snapshots have the boots of real viewers
+  -- the network was reached, and the real nodes match it; snapshots have the boots of real viewers, and
+  -- bytes that are in a real list
   pub record IsAt (net : Network Scripted) (now : Seen) : Type 0 where
     pub reached : Reached m net
     pub stand : StandFor mark scene routes now net
     pub boots : (s : ℕ) (taken : LawShot Scripted) → slice_get net.shots s ≡ Some taken → taken.boot < 2 ^ 32
+    pub lines : (s : ℕ) (taken : LawShot Scripted) → slice_get net.shots s ≡ Some taken → length taken.state.world.trace < 2 ^ 64
 
   pub record Goes (net : Network Scripted) (s : Step) (a : Answer) (new : Seen) : Type 0 where
     pub next : Network Scripted
@@ -81,6 +84,7 @@ module _ (mark : List ℕ) (scene : SceneView) (routes : List Route) (loads : Sh
       reached = (calls net now.reached).goes_on s (law_answer b) next is;
       stand = subst (λ (x : Seen). StandFor mark scene routes x next) (sym leaves) stand;
       boots = subst (λ (all : List (LawShot Scripted)). (n : ℕ) (taken : LawShot Scripted) → slice_get all n ≡ Some taken → taken.boot < 2 ^ 32) (sym shots) now.boots;
+      lines = subst (λ (all : List (LawShot Scripted)). (n : ℕ) (taken : LawShot Scripted) → slice_get all n ≡ Some taken → length taken.state.world.trace < 2 ^ 64) (sym shots) now.lines;
     };
   }
 
@@ -218,9 +222,9 @@ module _ (mark : List ℕ) (scene : SceneView) (routes : List Route) (loads : Sh
   shot-count net old stand = ap length stand.shots ∙ length-map net.shots (shot_at mark scene)
 
   -- a step that takes a snapshot
-  keeps : (net : Network Scripted) (v : ℕ) (old : Seen) (a : Answer) (new : Seen) (taken : LawShot Scripted) → IsAt net old → taken.boot < 2 ^ 32 → a ≡ Saved (Ok (length old.shots)) → new ≡ with_shots old (old.shots ++ shot_at mark scene taken ∷ [])
+  keeps : (net : Network Scripted) (v : ℕ) (old : Seen) (a : Answer) (new : Seen) (taken : LawShot Scripted) → IsAt net old → taken.boot < 2 ^ 32 → length (shot mark taken.boot scene taken.state) < 2 ^ 64 → a ≡ Saved (Ok (length old.shots)) → new ≡ with_shots old (old.shots ++ shot_at mark scene taken ∷ [])
       → IsStep m net (ViewerSave v) (law.Saved (Ok (length net.shots))) (with_shot net taken) → Goes net (ViewerSave v) a new
-  keeps net v old a new taken now few answers leaves is =
+  keeps net v old a new taken now few held answers leaves is =
       let count : Saved (Ok (length old.shots)) ≡ Saved (Ok (length net.shots)) = ap (λ (n : ℕ). Saved (Ok n)) (shot-count net old now.stand) in
       let stand : StandFor mark scene routes (with_shots old (old.shots ++ shot_at mark scene taken ∷ [])) (with_shot net taken) = record {
         host = now.stand.host;
@@ -238,6 +242,10 @@ module _ (mark : List ℕ) (scene : SceneView) (routes : List Route) (loads : Sh
             | inl before ↦ now.boots n other before
             | inr last ↦ subst (λ (z : LawShot Scripted). z.boot < 2 ^ 32) last.1 few
           ];
+          lines = λ n other at. elim (slice_get_push net.shots taken n other at) [
+            | inl before ↦ now.lines n other before
+            | inr last ↦ subst (λ (z : LawShot Scripted). length z.state.world.trace < 2 ^ 64) last.1 (few-lines mark taken.boot scene taken.state held)
+          ];
         };
       }
 
@@ -247,7 +255,7 @@ module _ (mark : List ℕ) (scene : SceneView) (routes : List Route) (loads : Sh
       goes net net (ViewerSave v) a (Saved (Err save_fault.Spoiled)) old new old now call.0 (leaves ∙ ap (with_shots old) call.1) (save-spoiled-step m net v x count at view) now.stand refl
   saved-in net v old a new x (Running w window) now at view leaves (inl call) =
       let taken : LawShot Scripted = record { viewer = v; boot = x.node.boot; state = w } in
-      keeps net v old a new taken now call.2 call.0 (leaves ∙ ap (with_shots old) call.1) (save-step m net v x w window at view)
+      keeps net v old a new taken now call.2 call.3 call.0 (leaves ∙ ap (with_shots old) call.1) (save-step m net v x w window at view)
   saved-in net v old a new x (Running w window) now at view leaves (inr call) =
       goes net net (ViewerSave v) a (Saved (Err save_fault.Memory)) old new old now call.0 (leaves ∙ ap (with_shots old) call.1) (save-refused-step m net v x w window at view) now.stand refl
 
@@ -262,7 +270,7 @@ module _ (mark : List ℕ) (scene : SceneView) (routes : List Route) (loads : Sh
       unknown net (ViewerRewind v n boot) old a new now (ap (λ (o : Option (Seat Scripted)). viewer_step m net (ViewerRewind v n boot) v o) at ∙ ap (λ (o : Option (LawShot Scripted)). viewer_rewinds m net v x boot o) shots) call
   rewinds net v n boot old a new (Some x) (Some k) now at shots call =
       seat-leads net (ViewerRewind v n boot) old a (Rewound call.0) new v x _ call.1 x.gathering now call.2 call.3
-      ((calls net now.reached).rewind v n boot x k (shot mark k.boot scene k.state) call.0 call.1 at (shots, refl) (λ same. call.5 k (now.boots n k shots) (loads net now.reached n k shots) same))
+      ((calls net now.reached).rewind v n boot x k (shot mark k.boot scene k.state) call.0 call.1 at (shots, refl) (λ same. call.5 k (now.boots n k shots) (loads net now.reached n k shots (now.lines n k shots)) same))
 
   -- ---- pieces
 
@@ -275,7 +283,7 @@ module _ (mark : List ℕ) (scene : SceneView) (routes : List Route) (loads : Sh
   cut net n i old a new (Some k) now shots call =
       let own = own-mark net old now in
       let bytes = shot mark k.boot scene k.state in
-      let head = head_of_shot mark k.boot scene k.state (ap length (sym own) ∙ call.0) (now.boots n k shots) (loads net now.reached n k shots) in
+      let head = head_of_shot mark k.boot scene k.state (ap length (sym own) ∙ call.0) (now.boots n k shots) (loads net now.reached n k shots (now.lines n k shots)) in
       let same : piece_of bytes i ≡ shot_piece m k i = ap (λ (h : Option ShotHead). piece_with h bytes i) head in
       made net (PiecePacket n i) old old.host.mark a new (shot_piece m k i) now own ((calls net now.reached).piece_packet n i k bytes (option_map (packet_of mark) (shot_piece m k i)) (shots, refl) refl)
       (subst (λ (b : Option Body). IsMade old old.host.mark b a new) same call.1)
@@ -293,7 +301,7 @@ module _ (mark : List ℕ) (scene : SceneView) (routes : List Route) (loads : Sh
       seat-leads net (ViewerJoin v boot) old a (Joined call.0) new v x _ call.1 call.2 now call.3 call.4
       ((calls net now.reached).join v boot x call.0 call.1 call.2 at
       (λ none. subst (λ (o : Option Gathering). IsJoined (viewer_at mark scene routes v x) o boot call.0 call.1 call.2) none call.5)
-      (λ g whole s from there. call.6 g whole from (now.boots s from there.0) (loads net now.reached s from there.0) there.1))
+      (λ g whole s from there. call.6 g whole from (now.boots s from there.0) (loads net now.reached s from there.0 (now.lines s from there.0)) there.1))
 
   forgets : (net : Network Scripted) (v : ℕ) (old : Seen) (a : Answer) (new : Seen) (seat : Option (Seat Scripted)) → IsAt net old → slice_get net.viewers v ≡ seat → IsForgotten old v (seated v seat) a new → Goes net (ViewerForget v) a new
   forgets net v old a new None now at call = no-viewer net (ViewerForget v) v old a new now refl at call

@@ -25,7 +25,7 @@ use Rattle.share_rehearsal.proofs.Ties.{IsAt, ShotsLoad, tied}
 
 -- each snapshot of a run can be loaded where all loaded one text
 loads : (text mark : List ℕ) (scene : SceneView) (routes : List Route) (stages : List StageView) → AreLoaded text scene routes stages → ShotsLoad mark scene routes
-loads text mark scene routes stages loaded net reached s taken at = saved_have text loaded.flat scene routes mark net loaded.is_scene loaded.attached reached s taken at
+loads text mark scene routes stages loaded net reached s taken at few = saved_have text loaded.flat scene routes mark net loaded.is_scene loaded.attached reached s taken at few
 
 is-rehearsal : (mark : List ℕ) (stages : List StageView) (steps : List Step) (answers : List Answer) (new : Seen) → 1 ≤ length stages → length stages ≤ max_viewers → AreCalls (begun_with mark stages) steps answers new
     → (text : List ℕ) (scene : SceneView) (routes : List Route) → AreLoaded text scene routes stages → IsRehearsal mark scene routes (length stages) steps answers new
@@ -37,6 +37,7 @@ is-rehearsal mark stages steps answers new some most calls text scene routes loa
       reached = Run-reached m (length stages) [] [] first some most refl;
       stand = stand-begun mark scene routes stages loaded.one_scene;
       boots = λ n taken at. absurd (none-some taken at);
+      lines = λ n taken at. absurd (none-some taken at);
     } in
     let t = tied mark scene routes can first (begun_with mark stages) now steps answers new calls in
     record {

@@ -152,7 +152,7 @@ IsSaving number x old (Spoiled count) a new = (a ≡ Saved (Err save_fault.Spoil
 IsSaving number x old (Running w window) a new =
     ((a ≡ Saved (Ok (length old)))
     × (new ≡ old ++ record { viewer = number; bytes = shot x.mark x.state.boot x.scene w } ∷ [])
-    × (x.state.boot < 2 ^ 32))
+    × (x.state.boot < 2 ^ 32) × (length (shot x.mark x.state.boot x.scene w) < 2 ^ 64))
     ⊎ ((a ≡ Saved (Err save_fault.Memory)) × (new ≡ old))
 
 abbrev pub IsSaved : Seen → (v : ℕ) → Option ViewerView → Answer → Seen → Type 0

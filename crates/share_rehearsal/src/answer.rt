@@ -9,7 +9,7 @@ use share_law::{
 #[derive(Clone, Copy)]
 pub enum Answer {
     /// The result of numbering a clock: its number.
-    Clocked(Result<u32, NumberFault>),
+    Clocked(Result<u64, NumberFault>),
     /// The result of the host taking a packet.
     HostTook(Result<HostReply, HostFault>),
     /// The result of a viewer taking a packet.
@@ -22,14 +22,14 @@ pub enum Answer {
     Saved(Result<usize, SaveFault>),
     /// The result of rewinding a viewer to a snapshot: the number of inputs that its world has
     /// applied.
-    Rewound(Result<u32, SnapFault>),
+    Rewound(Result<u64, SnapFault>),
     /// The result of dropping the host's inputs below a floor: the floor.
-    Dropped(Result<u32, FloorFault>),
+    Dropped(Result<u64, FloorFault>),
     /// The result of a viewer gathering a piece of a snapshot.
     Collected(Result<Gathered, GatherFault>),
     /// The result of a viewer joining with the snapshot that it gathered: the number of inputs that
     /// its world has applied.
-    Joined(Result<u32, JoinFault>),
+    Joined(Result<u64, JoinFault>),
     /// The viewer dropped what it had gathered.
     Forgot,
     /// There is no packet, viewer or snapshot with the step's number.

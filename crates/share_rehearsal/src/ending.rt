@@ -29,7 +29,7 @@ fn push_spoiled(number: usize, out: &mut Vec<u8>) -> Result<(), AllocError>
     push_word(" spoiled\n", out)
 }
 
-fn push_place(number: usize, applied: u32, out: &mut Vec<u8>) -> Result<(), AllocError>
+fn push_place(number: usize, applied: u64, out: &mut Vec<u8>) -> Result<(), AllocError>
     ensures { OnOk result (out.new.items
         ≡ out.old.items ++ codes "viewer " ++ decimal number ++ codes " at " ++ decimal applied) }
 {

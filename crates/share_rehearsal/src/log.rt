@@ -30,7 +30,7 @@ pub(crate) fn push_number(word: &str, number: usize, out: &mut Vec<u8>) -> Resul
 }
 
 /// Appends the range of inputs that was asked for. On an error, part of it may be appended.
-fn push_asked(first: u32, count: u32, out: &mut Vec<u8>) -> Result<(), AllocError>
+fn push_asked(first: u64, count: u64, out: &mut Vec<u8>) -> Result<(), AllocError>
     ensures { OnOk result (out.new.items
         ≡ out.old.items ++ codes "Asked " ++ decimal first ++ 32 ∷ decimal count) }
 {

@@ -84,7 +84,9 @@ fn save<B: Behaviour>(
 {
     let _boot = viewer.boot();
     let mut bytes = Vec::new(alloc);
-    match viewer.snapshot(&mut bytes) {
+    let saved = viewer.snapshot(&mut bytes);
+    let _len = bytes.len();
+    match saved {
         Ok(()) => keep(number, bytes, shots),
         Err(fault) => Ok(Answer::Saved(Err(fault))),
     }
@@ -97,7 +99,7 @@ impl<B: Behaviour> Nodes<B> {
         Answer::Clocked(self.host.clock(time))
     }
 
-    fn packet(&mut self, input: u32) -> Result<Answer, AllocError>
+    fn packet(&mut self, input: u64) -> Result<Answer, AllocError>
         ensures { IfOk result (λ a. IsCall (seen self.old) (HostPacket input) a (seen self.new)) }
     {
         send_any(self.host.packet(input), &mut self.packets)
@@ -183,7 +185,7 @@ impl<B: Behaviour> Nodes<B> {
         }
     }
 
-    fn drop_below(&mut self, floor: u32) -> Answer
+    fn drop_below(&mut self, floor: u64) -> Answer
         ensures { IsCall (seen self.old) (HostDropBelow floor) result (seen self.new) }
     {
         Answer::Dropped(self.host.drop_below(floor))

@@ -140,7 +140,7 @@ hands_on_text step.Drop old new from m bytes t = none_handed bytes t.0
 hands_on_text step.OtherRun old new from m bytes t = none_handed bytes t.0
 hands_on_text step.OtherList old new from m bytes t = none_handed bytes t.0
 
--- of another session, or beyond the ranges of version 1, nothing is handed on
+-- of another session, or beyond a world's limits, nothing is handed on
 said_told : (old new : ViewerRun) (from : ℕ) (session : List ℕ) (i : Input2) (bytes : List ℕ) (o : Option Body)
     → IsTaken (said_step old.known (body.Input i) o) old from (Said session (body.Input i)) (Some bytes) new
     → IsOf new.known.from new.known.chains.items i

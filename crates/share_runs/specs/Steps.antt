@@ -44,7 +44,7 @@ body_step k (Ask a) = step.HandOn
 body_step k (Ack a) = step.HandOn
 body_step k (Floor n) = step.HandOn
 
--- a body beyond the ranges of version 1 is dropped
+-- a body beyond a world's limits is dropped
 abbrev pub said_step : KnownList → Body2 → Option Body → RunStep
 said_step k b None = step.Drop
 said_step k b (Some heard) = body_step k b

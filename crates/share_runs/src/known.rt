@@ -186,7 +186,7 @@ impl KnownList {
         ensures noted { IsAsked self.old body.now self.new }
     {
         if let Body::Ask(ask) = body {
-            let _begun = self.begin(u64::from(ask.next() - 1));
+            let _begun = self.begin(ask.next() - 1);
         }
     }
 }

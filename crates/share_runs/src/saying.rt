@@ -23,7 +23,7 @@ fn with_chain(piece: &Piece, chain: &Chain) -> Piece2
     let head = PieceHead {
         chain,
         boot: piece.boot(),
-        applied: u64::from(piece.applied()),
+        applied: piece.applied(),
         size: piece.size(),
         index: piece.index(),
     };
@@ -34,7 +34,7 @@ fn piece_of(known: &KnownList, piece: &Piece) -> Option<Body2>
     ensures value { result ≡ spec.raised known.now (body.Piece piece.now) }
     ensures again { IfSome result (λ made. as_body made ≡ Some (body.Piece piece.now)) }
 {
-    let Some(chain) = known.chain_in(u64::from(piece.applied())) else {
+    let Some(chain) = known.chain_in(piece.applied()) else {
         return None;
     };
     Some(Body2::Piece(with_chain(piece, &chain)))

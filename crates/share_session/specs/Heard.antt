@@ -1,4 +1,4 @@
--- What a world of version 1's limits hears of a message of version 2.
+-- What a world hears of a message of version 2.
 use Rattle.std.specs.Prelude.{ℕ, Bool, false, List, Option, None, Some, nat_le, nat_eq, if◌then◌else◌}
 use Rattle.std.specs.Option.{option_map}
 use Rattle.std.specs.Cmp.Lexicographic.{pointwise}
@@ -20,7 +20,7 @@ abbrev pub cause_of : Source → Cause
 cause_of source.Clock = cause.Clock
 cause_of (source.Offer o) = cause.Pointer o.pointer
 
--- the body of version 1, if its numbers are in the ranges of version 1
+-- the body as in version 1, if its numbers are within a world's limits
 abbrev pub as_body : Body2 → Option Body
 as_body (Input i) =
     if is_input_number i.number
@@ -58,7 +58,7 @@ lifted (body.Piece p) = None
 abbrev pub marked : List ℕ → Body → Message
 marked mark body = record { mark = mark; body = body }
 
--- the message of version 1; a Hello or a Welcome is not one
+-- the message as in version 1; a Hello or a Welcome is not one
 abbrev pub as_message : List ℕ → Message2 → Option Message
 as_message mark (Said session body) = option_map (marked mark) (as_body body)
 as_message mark (Hello h) = None

@@ -1,4 +1,4 @@
-//! What a world of version 1's limits hears of a message of version 2.
+//! What a world hears of a message of version 2.
 
 ghost use Rattle.std.specs.Prelude.{◌≡◌, None, Some, IfSome, IsTrue, if◌then◌else◌};
 ghost use Rattle.x3d_values.specs.Ranges.{is_input_number};
@@ -23,26 +23,26 @@ fn cause_of(source: Source) -> Cause
     }
 }
 
-/// Returns the number as version 1 has it, if an input may have it there.
-fn input_number(number: Number) -> Option<u32>
+/// Returns the number, if an input of a world may have it.
+fn input_number(number: Number) -> Option<u64>
     ensures { result ≡ (if is_input_number number then Some number else None) }
 {
     let number = number.get();
-    if number > u64::from(MAX_INPUTS) {
+    if number > MAX_INPUTS {
         return None;
     }
-    Some(number as u32)
+    Some(number)
 }
 
-/// Returns the number as version 1 has it, if a viewer may ask from it there.
-fn next_number(number: Number) -> Option<u32>
+/// Returns the number, if a viewer of a world may ask from it.
+fn next_number(number: Number) -> Option<u64>
     ensures { result ≡ (if is_next_number number then Some number else None) }
 {
     let number = number.get();
-    if number > u64::from(MAX_INPUTS) + 1 {
+    if number > MAX_INPUTS + 1 {
         return None;
     }
-    Some(number as u32)
+    Some(number)
 }
 
 fn input_of(input: &Input2) -> Option<Body>
@@ -77,20 +77,25 @@ fn piece_of(piece: &Piece2) -> Option<Body>
     ensures { result ≡ spec.as_body (body2.Piece piece.now) }
 {
     let head = piece.head();
-    if head.applied > u64::from(MAX_INPUTS) {
+    if head.applied > MAX_INPUTS {
         return None;
     }
-    let applied = head.applied as u32;
-    let made = Piece::new(head.boot, applied, head.size, head.index, piece.bytes());
+    let made = Piece::new(
+        head.boot,
+        head.applied,
+        head.size,
+        head.index,
+        piece.bytes(),
+    );
     Some(Body::Piece(made))
 }
 
-/// Makes the number of an input of one of version 1, or of the one after the last.
-fn number_of(next: u32) -> Number
+/// Makes the number of an input of a world, or of the one after the last.
+fn number_of(next: u64) -> Number
     requires { IsTrue (is_next_number next) }
     ensures { result ≡ next }
 {
-    Number::new(u64::from(next))
+    Number::new(next)
 }
 
 /// Returns the body of version 2 of an offer, an ask, an ack or a floor. `None` for an input and a
@@ -113,7 +118,7 @@ pub fn lifted(body: &Body) -> Option<Body2>
 }
 
 impl Body2 {
-    /// Returns the body of version 1, or `None` if a number is beyond version 1's ranges.
+    /// Returns the body as in version 1, or `None` if a number is beyond a world's limits.
     pub fn as_body(&self) -> Option<Body>
         ensures { result ≡ spec.as_body self.now }
     {
@@ -129,8 +134,8 @@ impl Body2 {
 }
 
 impl Message2 {
-    /// Returns the message of version 1, in the scene with this mark. `None` for a Hello, a
-    /// Welcome, and a body with a number beyond version 1's ranges.
+    /// Returns the message as in version 1, in the scene with this mark. `None` for a Hello, a
+    /// Welcome, and a body with a number beyond a world's limits.
     pub fn as_message(&self, mark: &[u8; 32]) -> Option<Message>
         ensures { result ≡ spec.as_message mark.now self.now }
     {
@@ -155,7 +160,7 @@ impl Message2 {
 }
 
 /// Returns what a peer of this session, in the scene with this mark, hears of a message: the
-/// message of version 1, or `None` if it is of another session or beyond version 1's ranges.
+/// message as in version 1, or `None` if it is of another session or beyond a world's limits.
 pub fn heard(session: &Session, mark: &[u8; 32], message: &Message2) -> Option<Message>
     ensures { result ≡ spec.heard session.now mark.now message.now }
 {

@@ -3,8 +3,8 @@
 //! A run is 16 bytes that name one list of inputs. A session is 16 bytes that name a run of one
 //! scene; each datagram but a Hello and a Welcome begins with it. `encode` returns the datagram of
 //! a message, and `decode` the message of a datagram, or the first fault. Neither takes memory.
-//! `heard` is what a world of version 1's limits hears of a message, and `taken` is the test by
-//! which a viewer never applies an input of another list.
+//! `heard` is what a world hears of a message, and `taken` is the test by which a viewer never
+//! applies an input of another list.
 #![tactic(auto)]
 
 mod decoding;

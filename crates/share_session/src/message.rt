@@ -22,9 +22,8 @@ pub struct Ask2 {
     pub next: Number,
 }
 
-/// The body of a message in a session: as in version 1, except that numbers of inputs are larger,
-/// and that inputs and pieces have chains. A floor is the number of the first input that the host
-/// still has.
+/// The body of a message in a session: as in version 1, except that inputs and pieces have chains. A
+/// floor is the number of the first input that the host still has.
 #[derive(Clone, Copy, PartialEq, Eq)]
 pub enum Body2 {
     Input(Input2),

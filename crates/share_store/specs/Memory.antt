@@ -32,7 +32,7 @@ is_open_by log number = stands_open (slice_get log.handles number)
 abbrev pub knowns_of : MemoryView → List (List EntryView)
 knowns_of log = map (λ s. take s.known log.entries) log.handles
 
--- an append by a handle that knows all entries, or is behind
+-- an append by a handle that knows all entries, or not all
 pub record IsAppend (number : ℕ) (entries : List EntryView) (answer : Result
     (Unit {0}) AppendFault) (old new : MemoryView) : Type 0 where
   pub stored : OnOk answer (known_by new number ≡ known_by old number ++ entries)

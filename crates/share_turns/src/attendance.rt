@@ -28,7 +28,7 @@ pub struct Attendance {
 }
 
 /// Returns the number of a viewer that was last heard at `last`, or 0 if it is given up at `now`.
-fn counted_number(now: u64, last: u64, next: u32) -> u32
+fn counted_number(now: u64, last: u64, next: u64) -> u64
     ensures { result ≡ counted_number now last next }
 {
     if now.saturating_sub(last) < SILENT_MILLIS {
@@ -39,7 +39,7 @@ fn counted_number(now: u64, last: u64, next: u32) -> u32
 }
 
 /// Returns the lowest number of the viewers that are counted at `now`.
-fn lowest_counted(now: u64, lasts: &[u64], nexts: &[u32]) -> Option<u32>
+fn lowest_counted(now: u64, lasts: &[u64], nexts: &[u64]) -> Option<u64>
     ensures { result ≡ lowest (counted_numbers now lasts.now nexts.now) }
 {
     match lasts {
@@ -55,14 +55,14 @@ fn lowest_counted(now: u64, lasts: &[u64], nexts: &[u32]) -> Option<u32>
 }
 
 /// Returns when a viewer was last heard, after a turn in which `next` was heard of it.
-fn last_heard(now: u64, next: u32, last: u64) -> u64
+fn last_heard(now: u64, next: u64, last: u64) -> u64
     ensures { result ≡ last_heard now next last }
 {
     if next == 0 { last } else { now }
 }
 
 /// Notes at `now` when each viewer was last heard, after a turn in which these numbers were heard.
-fn note_times(now: u64, nexts: &[u32; PLACES], lasts: &mut [u64; PLACES])
+fn note_times(now: u64, nexts: &[u64; PLACES], lasts: &mut [u64; PLACES])
     ensures { (who : ℕ) → who < max_viewers
         → get_or lasts.new who 0
         ≡ last_heard now (get_or nexts.now who 0) (get_or lasts.old who 0) }
@@ -112,7 +112,7 @@ impl Attendance {
     /// Returns the lowest number that a viewer asked from, among those that are counted: heard of,
     /// and less than `SILENT_MILLIS` ago. All of these have asked past the inputs below it. Returns
     /// `None` if no viewer is counted.
-    pub fn lowest(&self) -> Option<u32>
+    pub fn lowest(&self) -> Option<u64>
         ensures { result ≡ lowest_counted self.now }
     {
         lowest_counted(self.time, &self.lasts, self.heard.numbers())
@@ -127,7 +127,7 @@ impl Attendance {
     }
 
     /// Returns what `lowest` does, once inputs may be dropped; `None` before.
-    pub(crate) fn lowest_dropped(&self, viewers: u8) -> Option<u32>
+    pub(crate) fn lowest_dropped(&self, viewers: u8) -> Option<u64>
         ensures { result ≡ lowest_dropped viewers self.now }
     {
         if self.is_open(viewers) {

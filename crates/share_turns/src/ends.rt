@@ -6,8 +6,8 @@ ghost use Rattle.share_turns.specs.Ends.{floor_for, is_done, lacks};
 /// Returns the floor of a host that keeps the last `keep` of the inputs below `lowest`: those that
 /// every viewer it heard of has asked past. The floor is never below `floor`, the previous one. It
 /// is at most the number of the next input, if `floor` is.
-pub fn floor_for(keep: u32, lowest: u32, floor: u32, count: u32) -> u32
-    requires { count + 1 < 2 ^ 32 }
+pub fn floor_for(keep: u64, lowest: u64, floor: u64, count: u64) -> u64
+    requires { count + 1 < 2 ^ 64 }
     ensures { result ≡ floor_for keep lowest floor count }
 {
     lowest.min(count + 1).saturating_sub(keep).max(floor)
@@ -15,7 +15,7 @@ pub fn floor_for(keep: u32, lowest: u32, floor: u32, count: u32) -> u32
 
 /// Reports whether a viewer that the host counts lacks input `until`. `lowest` is the lowest number
 /// that one of these asked from, if the host counts any.
-fn lacks(until: u32, lowest: Option<u32>) -> bool
+fn lacks(until: u64, lowest: Option<u64>) -> bool
     ensures { result ≡ lacks until lowest }
 {
     match lowest {
@@ -28,7 +28,7 @@ fn lacks(until: u32, lowest: Option<u32>) -> bool
 /// it has heard of a viewer, `until` inputs are numbered, and no viewer that it counts lacks one of
 /// them. `lowest` is the lowest number that one of these asked from, if it counts any. Without
 /// `until` it is never done.
-pub fn is_done(until: Option<u32>, is_any: bool, lowest: Option<u32>, count: u32) -> bool
+pub fn is_done(until: Option<u64>, is_any: bool, lowest: Option<u64>, count: u64) -> bool
     ensures { result ≡ is_done until is_any lowest count }
 {
     match until {

@@ -9,15 +9,15 @@ use share_core::Viewer;
 
 /// The least number of inputs from one time that lines are forgotten to the next. As many lines are
 /// moved as are kept, so they are forgotten in portions.
-const PORTION: u32 = 64;
+const PORTION: u64 = 64;
 
 /// Forgets the lines of the trace of all inputs but the last `forget`, once `due` inputs are
 /// applied. Returns after how many inputs it is due again.
 pub(crate) fn forget_some<B: Behaviour>(
     viewer: &mut Viewer<B>,
-    forget: Option<u32>,
-    due: u32,
-) -> u32
+    forget: Option<u64>,
+    due: u64,
+) -> u64
     ensures others { viewer.new ≡ with_state viewer.old viewer.new.state }
     ensures forgot { MayForget forget viewer.old.state viewer.new.state }
 {
@@ -33,7 +33,7 @@ pub(crate) fn forget_some<B: Behaviour>(
 }
 
 /// Forgets the lines of the trace of all inputs but the last `forget`, if that is a number.
-pub(crate) fn forget_rest<B: Behaviour>(viewer: &mut Viewer<B>, forget: Option<u32>)
+pub(crate) fn forget_rest<B: Behaviour>(viewer: &mut Viewer<B>, forget: Option<u64>)
     ensures { viewer.new ≡ with_state viewer.old (forgot_as forget viewer.old.state) }
 {
     if let Some(last) = forget {

@@ -59,7 +59,7 @@ fn gather_all<B: Behaviour, P: Port>(viewer: &mut Viewer<B>, port: &mut P) -> Re
 }
 
 /// Returns whether a viewer has started, given the answer of its join: not if pieces are missing.
-fn begun_by(answer: Result<u32, JoinFault>) -> Result<bool, SeriesFault>
+fn begun_by(answer: Result<u64, JoinFault>) -> Result<bool, SeriesFault>
     ensures { result ≡ begun_by answer }
 {
     match answer {

@@ -15,7 +15,7 @@ pub(crate) const PLACES: usize = MAX_VIEWERS as usize;
 /// from, or 0 if viewer v hasn't asked.
 #[derive(Drop)]
 pub struct Heard {
-    nexts: [u32; PLACES],
+    nexts: [u64; PLACES],
 }
 
 impl Model for Heard {
@@ -30,14 +30,14 @@ impl Model for Heard {
 }
 
 /// Returns the number that a place holds, if its viewer has asked.
-fn number_of(next: u32) -> Option<u32>
+fn number_of(next: u64) -> Option<u64>
     ensures { result ≡ number_of next }
 {
     if next == 0 { None } else { Some(next) }
 }
 
 /// Returns the lower of `next` and `others`. A `next` of 0 doesn't count.
-pub(crate) fn lower(next: u32, others: Option<u32>) -> Option<u32>
+pub(crate) fn lower(next: u64, others: Option<u64>) -> Option<u64>
     ensures { result ≡ lower next others }
 {
     if next == 0 {
@@ -49,7 +49,7 @@ pub(crate) fn lower(next: u32, others: Option<u32>) -> Option<u32>
     }
 }
 
-fn lowest(nexts: &[u32]) -> Option<u32>
+fn lowest(nexts: &[u64]) -> Option<u64>
     ensures { result ≡ lowest nexts.now }
 {
     match nexts {
@@ -59,7 +59,7 @@ fn lowest(nexts: &[u32]) -> Option<u32>
 }
 
 /// Raises each number to the other's at its place.
-fn raise(nexts: &mut [u32; PLACES], others: &[u32; PLACES])
+fn raise(nexts: &mut [u64; PLACES], others: &[u64; PLACES])
     ensures { (who : ℕ) → who < max_viewers
         → get_or nexts.new who 0 ≡ max (get_or nexts.old who 0) (get_or others.now who 0) }
 {
@@ -68,7 +68,7 @@ fn raise(nexts: &mut [u32; PLACES], others: &[u32; PLACES])
     }
 }
 
-fn heard_count(nexts: &[u32]) -> usize
+fn heard_count(nexts: &[u64]) -> usize
     ensures { result ≡ heard_count nexts.now }
 {
     nexts.iter().filter(|next| **next > 0).count()
@@ -84,7 +84,7 @@ impl Heard {
 
     /// Notes that viewer `who` asks for the inputs from number `next`, at least 1, on. Ignored if
     /// `who` isn't below `MAX_VIEWERS`.
-    pub fn hear(&mut self, who: u8, next: u32)
+    pub fn hear(&mut self, who: u8, next: u64)
         ensures { self.new ≡ hear self.old who next }
     {
         let place = who as usize;
@@ -95,7 +95,7 @@ impl Heard {
 
     /// Returns the highest number that viewer `who` asked from: it has all inputs below it. Returns
     /// `None` if the viewer wasn't heard of, or if `who` isn't below `MAX_VIEWERS`.
-    pub fn asked(&self, who: u8) -> Option<u32>
+    pub fn asked(&self, who: u8) -> Option<u64>
         ensures { result ≡ asked self.now who }
     {
         let place = who as usize;
@@ -108,7 +108,7 @@ impl Heard {
 
     /// Returns the lowest number that a viewer asked from: all viewers heard of have asked past the
     /// inputs below it. Returns `None` if no viewer was heard of.
-    pub fn lowest(&self) -> Option<u32>
+    pub fn lowest(&self) -> Option<u64>
         ensures { result ≡ lowest self.now }
     {
         lowest(&self.nexts)
@@ -124,7 +124,7 @@ impl Heard {
     }
 
     /// Returns the number of each viewer, or 0 if it wasn't heard of.
-    pub(crate) fn numbers(&self) -> &[u32; PLACES]
+    pub(crate) fn numbers(&self) -> &[u64; PLACES]
         ensures { result.now ≡ self.now }
     {
         &self.nexts

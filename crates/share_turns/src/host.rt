@@ -26,7 +26,7 @@ use share_wire::{Ask, Body, Message, WireFault, decode};
 
 /// Goes on after a clock. A clock that was refused for another cause than memory is dropped. Fails
 /// with `Memory` if memory was refused to it.
-pub fn after_clock(answer: Result<u32, NumberFault>) -> Result<(), TurnFault>
+pub fn after_clock(answer: Result<u64, NumberFault>) -> Result<(), TurnFault>
     ensures refused { is_err result ≡ says_memory (Clocked answer) }
     ensures fault { OnErr result (result ≡ Err Memory) }
 {
@@ -70,7 +70,7 @@ pub fn sender_of(read: &Result<Message, WireFault>) -> Option<u8>
 }
 
 /// Sends the input with this number, if there is one.
-fn send_input<P: Port>(host: &Host, number: u32, to: u16, port: &mut P) -> Result<(), PortFault>
+fn send_input<P: Port>(host: &Host, number: u64, to: u16, port: &mut P) -> Result<(), PortFault>
     ensures sent { AreSent (is_ok result) to (P.told port.old) (P.told port.new)
         (datagrams_of host.now.mark (listed (part_packet host.now.part number))) }
     ensures failures { P.failure_count port.new ≡ counted result (P.failure_count port.old) }

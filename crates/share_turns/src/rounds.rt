@@ -125,7 +125,7 @@ fn seat_turns<B: Behaviour, P: Port>(
 }
 
 /// Reports whether every viewer has applied `count` inputs.
-fn are_at<B: Behaviour>(count: u32, viewers: &[Viewer<B>]) -> bool
+fn are_at<B: Behaviour>(count: u64, viewers: &[Viewer<B>]) -> bool
     ensures { result ≡ are_at count viewers.now }
 {
     match viewers {
@@ -138,6 +138,7 @@ fn are_at<B: Behaviour>(count: u32, viewers: &[Viewer<B>]) -> bool
 fn is_caught_up<B: Behaviour>(host: &Host, viewers: &[Viewer<B>], issued: u32) -> bool
     ensures { result ≡ (host.now.part.count == issued) && are_at issued viewers.now }
 {
+    let issued = u64::from(issued);
     host.len() == issued && are_at(issued, viewers)
 }
 

@@ -21,10 +21,10 @@ use share_core::Host;
 pub struct HostPlan {
     /// How many inputs it keeps of those that every viewer it counts has asked past. Without a
     /// number it keeps all of them.
-    pub keep: Option<u32>,
+    pub keep: Option<u64>,
     /// How many inputs must be numbered, and asked past by every viewer it counts, once it has
     /// heard of one. Without a number the host takes all its turns.
-    pub until: Option<u32>,
+    pub until: Option<u64>,
 }
 
 /// Returns the item at a place, counted from 0, if there is one.
@@ -35,7 +35,7 @@ pub(crate) fn item_at<T: Copy>(items: &[T], place: u32) -> Option<T>
 }
 
 /// Returns the floor that follows from what was heard, if one does.
-fn next_floor(host: &Host, keep: Option<u32>, lowest: Option<u32>) -> Option<u32>
+fn next_floor(host: &Host, keep: Option<u64>, lowest: Option<u64>) -> Option<u64>
     ensures { result ≡ next_floor keep lowest host.now.part }
 {
     let Some(keep) = keep else {
@@ -48,7 +48,7 @@ fn next_floor(host: &Host, keep: Option<u32>, lowest: Option<u32>) -> Option<u32
 }
 
 /// Drops the inputs below the floor that follows from this number, if one does.
-fn drop_to(host: &mut Host, keep: Option<u32>, lowest: Option<u32>)
+fn drop_to(host: &mut Host, keep: Option<u64>, lowest: Option<u64>)
     ensures mark { host.new.mark ≡ host.old.mark }
     ensures part { host.new.part
         ≡ dropped_below (next_floor keep lowest host.old.part) host.old.part }
@@ -61,7 +61,7 @@ fn drop_to(host: &mut Host, keep: Option<u32>, lowest: Option<u32>)
 
 /// Drops the inputs that every viewer the host heard of has asked past, except the last `keep` of
 /// them. Drops nothing without `keep`, or if the host has heard of no viewer.
-pub fn drop_passed(host: &mut Host, heard: &Heard, keep: Option<u32>)
+pub fn drop_passed(host: &mut Host, heard: &Heard, keep: Option<u64>)
     ensures mark { host.new.mark ≡ host.old.mark }
     ensures part { host.new.part ≡ kept_by keep heard.now host.old.part }
 {
@@ -71,7 +71,7 @@ pub fn drop_passed(host: &mut Host, heard: &Heard, keep: Option<u32>)
 /// Drops the inputs that every viewer the host counts has asked past, except the last `keep` of
 /// them. Drops nothing without `keep`, if the host counts no viewer, or before inputs may be
 /// dropped.
-pub fn drop_counted(host: &mut Host, attendance: &Attendance, keep: Option<u32>)
+pub fn drop_counted(host: &mut Host, attendance: &Attendance, keep: Option<u64>)
     ensures mark { host.new.mark ≡ host.old.mark }
     ensures part { host.new.part ≡ kept_for keep attendance.now host.old.part }
 {
@@ -84,7 +84,7 @@ fn kept_turn<P: Port>(
     host: &mut Host,
     clock: Option<i64>,
     attendance: &mut Attendance,
-    keep: Option<u32>,
+    keep: Option<u64>,
     port: &mut P,
 ) -> Result<(), TurnFault>
     ensures mark { host.new.mark ≡ host.old.mark }

@@ -26,9 +26,9 @@ use x3d_values::Point;
 #[derive(Clone, Copy, Debug, PartialEq, Eq)]
 pub struct ViewPlan {
     /// The number of inputs to apply.
-    pub until: u32,
+    pub until: u64,
     /// If the viewer forgets old lines of its trace: of how many of the last inputs it keeps them.
-    pub forget: Option<u32>,
+    pub forget: Option<u64>,
     /// The largest number of turns.
     pub turns: u32,
     /// If the viewer joins: the boot in which it first starts from the snapshot that arrives in
@@ -57,8 +57,8 @@ pub(crate) fn one_more_if(offered: bool, count: u32) -> u32
 pub fn view_until<B: Behaviour, P: Port>(
     viewer: &mut Viewer<B>,
     points: &[Point],
-    until: u32,
-    forget: Option<u32>,
+    until: u64,
+    forget: Option<u64>,
     turns: u32,
     host: u16,
     port: &mut P,

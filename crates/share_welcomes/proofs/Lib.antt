@@ -1,3 +1,4 @@
 mod Links
+mod OfLog
 mod Telling
 mod Unheard

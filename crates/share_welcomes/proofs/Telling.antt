@@ -1,5 +1,5 @@
 -- What the port below records, in version 1.
-use Rattle.std.proofs.Common.{◌≡◌, ℕ, Bool, true, false, cond, List, [], ◌∷◌, ◌++◌, refl, ap, sym, ◌∙◌, subst, inl, inr}
+use Rattle.std.proofs.Common.{◌≡◌, ℕ, true, List, [], ◌∷◌, ◌++◌, refl, ap, sym, ◌∙◌, subst, inl, inr}
 use Rattle.std.specs.Prelude.{Option, Some, None, Result, Ok, Err, OnOk, OnErr, is_err}
 use Rattle.std.specs.List.{flat_map}
 use Rattle.std.specs.Cmp.Lexicographic.{bytes_decides}
@@ -71,7 +71,7 @@ sent_plain r peer bytes h = sent_says r peer bytes bytes (plain_says r bytes (tw
 -- ---- Welcomes
 
 abbrev its_welcome : HostRun → LearnedView → AHello → Message2
-its_welcome r l h = Welcome (welcome_to r h (last_boot h.who l.entries))
+its_welcome r l h = Welcome (welcome_to r h (last_boot h.who l))
 
 pub greeted : (r : HostRun) (l : LearnedView) (peer : ℕ) (h : AHello) (bytes : List ℕ) → two.decoded bytes ≡ Ok (its_welcome r l h)
     → (result : Result (Unit {0}) PortFault) (a b : Option (List Traffic)) → OnOk result (Grows a b (sent_text peer bytes ∷ [])) → OnErr result (Grows a b [])

@@ -1,5 +1,5 @@
 -- Before any datagram came no peer is answered in version 2.
-use Rattle.std.proofs.Common.{◌≡◌, ℕ, zero, suc, Bool, false, List, [], ◌∷◌, replicate, get_or, refl, sym, ap, ◌∙◌}
+use Rattle.std.proofs.Common.{◌≡◌, ℕ, zero, suc, Bool, false, List, replicate, get_or, refl, ap, ◌∙◌}
 
 none_in : (n peer : ℕ) → get_or (replicate n false) peer false ≡ false
 none_in zero zero = refl

@@ -1,5 +1,5 @@
 -- What a host sends for a datagram of version 1.
-use Rattle.std.specs.Prelude.{ℕ, Bool, false, List, Option, None, Some, Result, Ok, Err, is_err, if◌then◌else◌, ⊤}
+use Rattle.std.specs.Prelude.{ℕ, Bool, false, List, Option, None, Some, Result, Ok, Err, is_err, if◌then◌else◌}
 use Rattle.std.specs.Option.{option_map}
 use Rattle.share_wire.specs.Datagram.{datagram}
 use Rattle.share_wire.specs.Decoding as one
@@ -10,16 +10,15 @@ use Rattle.share_wire.specs.declared.message.Message.{Message}
 use Rattle.share_wire.specs.Messages.{PieceView}
 use Rattle.share_session.specs.Datagram as two_bytes
 use Rattle.share_session.specs.Decoding as two
-use Rattle.share_session.specs.Follows.{IsOfLog}
 use Rattle.share_session.specs.Heard.{heard, lifted}
 use Rattle.share_session.specs.Messages.{PieceView2}
 use Rattle.share_session.specs.declared.message.Body2.{Body2}
-use Rattle.share_session.specs.declared.message.Body2.TheVariants.{Input, Offer, Ask, Ack, Floor, Piece}
+use Rattle.share_session.specs.declared.message.Body2.TheVariants.{Input, Piece}
 use Rattle.share_session.specs.declared.message.Message2.{Message2}
-use Rattle.share_session.specs.declared.message.Message2.TheVariants.{Said, Hello, Welcome}
+use Rattle.share_session.specs.declared.message.Message2.TheVariants.{Said}
 use Rattle.share_welcomes.specs.declared.host_run.HostRun.{HostRun}
 use Rattle.share_welcomes.specs.Coming as coming
-use Rattle.share_welcomes.specs.Learned.{IsChainAt, LearnedView, chain_at, input_at}
+use Rattle.share_welcomes.specs.Learned.{LearnedView, chain_at, input_at}
 
 abbrev pub is_same : (bytes other : List ℕ) → Bool
 is_same bytes other = coming.is_same bytes other
@@ -39,12 +38,12 @@ chained p chain =
     }
 
 abbrev pub piece_in_two : LearnedView → PieceView → Option PieceView2
-piece_in_two l p = option_map (chained p) (chain_at l.run l.entries p.applied)
+piece_in_two l p = option_map (chained p) (chain_at l p.applied)
 
--- the body of version 2; an input is that of the log, and a piece has the chain of the log after
--- its snapshot's inputs
+-- the body of version 2; an input is the one that is known, and a piece has the chain that is known
+-- after its snapshot's inputs
 abbrev pub body_in_two : LearnedView → Body → Option Body2
-body_in_two l (body.Input s) = option_map Input (input_at l.run l.entries s.number)
+body_in_two l (body.Input s) = option_map Input (input_at l s.number)
 body_in_two l (body.Offer o) = lifted (body.Offer o)
 body_in_two l (body.Ask a) = lifted (body.Ask a)
 body_in_two l (body.Ack a) = lifted (body.Ack a)
@@ -84,21 +83,3 @@ plain bytes = if is_plain bytes then Some bytes else None
 abbrev pub sent_as : (is_two : Bool) → HostRun → LearnedView → (bytes : List ℕ) → Option (List ℕ)
 sent_as is_two r l bytes =
     if is_two then option_map two_bytes.datagram (in_two r l bytes) else plain bytes
-
--- a piece has the chain of the log after its snapshot's inputs
-abbrev pub IsPieceOfLog : LearnedView → PieceView2 → Type 0
-IsPieceOfLog l p = IsChainAt l.run l.entries p.head.applied p.head.chain
-
--- an input is that of the log, and so is the chain of a piece
-abbrev pub IsOfItsLog : LearnedView → Body2 → Type 0
-IsOfItsLog l (Input i) = IsOfLog l.run l.entries i
-IsOfItsLog l (Offer o) = ⊤
-IsOfItsLog l (Ask a) = ⊤
-IsOfItsLog l (Ack a) = ⊤
-IsOfItsLog l (Floor n) = ⊤
-IsOfItsLog l (Piece p) = IsPieceOfLog l p
-
-abbrev pub IsOfOurLog : LearnedView → Message2 → Type 0
-IsOfOurLog l (Said session body) = IsOfItsLog l body
-IsOfOurLog l (Hello h) = ⊤
-IsOfOurLog l (Welcome w) = ⊤

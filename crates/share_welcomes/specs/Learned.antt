@@ -1,5 +1,5 @@
--- The entries that a port has learned of a log, with their chains.
-use Rattle.std.specs.Prelude.{◌≡◌, ◌≤◌, ℕ, ◌-◌, ◌==◌, List, [], ◌∷◌, length, map, take, replicate, nat_le, slice_get, slice_set, get_or, Option, None, Some, if◌then◌else◌}
+-- The entries of a log that a port has learned and may still send, with their chains.
+use Rattle.std.specs.Prelude.{ℕ, ◌+◌, ◌-◌, ◌++◌, ◌&&◌, Bool, List, [], ◌∷◌, length, map, min, take, drop, replicate, nat_le, nat_lt, slice_get, slice_set, get_or, Option, None, Some, if◌then◌else◌}
 use Rattle.std.specs.List.{fold}
 use Rattle.share_entries.specs.Entry.{EntryView}
 use Rattle.share_entries.specs.declared.entry.Source.{Source}
@@ -8,37 +8,45 @@ use Rattle.share_entries.specs.Chain.{link, chain_after}
 use Rattle.share_session.specs.declared.message.Input2.{Input2}
 use Rattle.share_welcomes.specs.declared.learned.Link.{Link}
 
+-- how many first entries were dropped, the chain after these, the others, and the boots of the
+-- viewers' last offers in all of them
 pub record LearnedView : Type 0 where
   pub run : List ℕ
+  pub dropped : ℕ
+  pub before : List ℕ
   pub entries : List EntryView
+  pub boots : List ℕ
 
 -- ---- inputs
 
--- the input of this number, with the chain before it
-abbrev pub input_of : (run : List ℕ) → List EntryView → (number : ℕ) → Option EntryView
-    → Option Input2
-input_of run entries number None = None
-input_of run entries number (Some e) = Some (record {
-  chain = chain_after run (take (number - 1) entries);
+-- the input of this number, with the chain before it, whose entry is kept at this place
+abbrev pub input_of : LearnedView → (number place : ℕ) → Option EntryView → Option Input2
+input_of l number place None = None
+input_of l number place (Some e) = Some (record {
+  chain = chain_after l.before (take place l.entries);
   number = number;
   entry = e;
 })
 
-abbrev pub input_at : (run : List ℕ) → List EntryView → (number : ℕ) → Option Input2
-input_at run entries number =
-    if number == 0 then None
-    else input_of run entries number (slice_get entries (number - 1))
+abbrev pub input_in : LearnedView → (number place : ℕ) → Option Input2
+input_in l number place = input_of l number place (slice_get l.entries place)
+
+-- the input of this number, if its entry is kept
+abbrev pub input_at : LearnedView → (number : ℕ) → Option Input2
+input_at l number =
+    if nat_le number l.dropped then None else input_in l number (number - 1 - l.dropped)
 
 -- ---- chains
 
--- the chain after the first n entries, if there are that many
-abbrev pub chain_at : (run : List ℕ) → List EntryView → (n : ℕ) → Option (List ℕ)
-chain_at run entries n =
-    if nat_le n (length entries) then Some (chain_after run (take n entries)) else None
+-- the chain after this number of entries that are kept, if there are that many
+abbrev pub chain_in : LearnedView → (place : ℕ) → Option (List ℕ)
+chain_in l place =
+    if nat_le place (length l.entries) then Some (chain_after l.before (take place l.entries))
+    else None
 
-abbrev pub IsChainAt : (run : List ℕ) → List EntryView → (n : ℕ) → (chain : List ℕ) → Type 0
-IsChainAt run entries n chain =
-    (n ≤ length entries) × (chain ≡ chain_after run (take n entries))
+-- the chain after the first n entries, if it is known
+abbrev pub chain_at : LearnedView → (n : ℕ) → Option (List ℕ)
+chain_at l n = if nat_lt n l.dropped then None else chain_in l (n - l.dropped)
 
 -- ---- boots
 
@@ -57,8 +65,42 @@ abbrev pub no_boots : List ℕ
 no_boots = replicate 64 0
 
 -- the boot of a viewer's last offer, or 0
-abbrev pub last_boot : (who : ℕ) → List EntryView → ℕ
-last_boot who entries = get_or (boots_after no_boots entries) who 0
+abbrev pub last_boot : (who : ℕ) → LearnedView → ℕ
+last_boot who l = get_or l.boots who 0
+
+-- ---- learning
+
+-- what is known of a run that has no entries
+abbrev pub none_learned : (run : List ℕ) → LearnedView
+none_learned run =
+    record { run = run; dropped = 0; before = run; entries = []; boots = no_boots }
+
+abbrev pub learned_more : LearnedView → List EntryView → LearnedView
+learned_more l es =
+    record l { entries = l.entries ++ es; boots = boots_after l.boots es }
+
+-- ---- dropping
+
+-- how many entries that are kept are below the floor, the number of an input
+abbrev pub gone_below : (floor : ℕ) → LearnedView → ℕ
+gone_below floor l = min (floor - 1 - l.dropped) (length l.entries)
+
+-- at least 1,024 go, and as many as stay (our choice)
+abbrev pub is_due : (gone kept : ℕ) → Bool
+is_due gone kept = nat_le 1024 gone && nat_le (kept - gone) gone
+
+-- the first entries that are kept go
+abbrev pub without : LearnedView → (gone : ℕ) → LearnedView
+without l gone = record l {
+  dropped = l.dropped + gone;
+  before = chain_after l.before (take gone l.entries);
+  entries = drop gone l.entries;
+}
+
+-- the entries below the floor go, if that is due
+abbrev pub dropped_below : (floor : ℕ) → LearnedView → LearnedView
+dropped_below floor l =
+    if is_due (gone_below floor l) (length l.entries) then without l (gone_below floor l) else l
 
 -- ---- how they are kept
 

@@ -3,3 +3,4 @@ pub mod Versions
 pub mod Coming
 pub mod Answers
 pub mod Passing
+pub mod Laws

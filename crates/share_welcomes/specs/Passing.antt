@@ -11,7 +11,6 @@ use Rattle.share_session.specs.declared.fault.DatagramFault.{DatagramFault}
 use Rattle.share_session.specs.declared.message.Message2.{Message2}
 use Rattle.share_session.specs.declared.message.Message2.TheVariants.{Welcome}
 use Rattle.share_turns.specs.Told.{Grows}
-use Rattle.share_turns.specs.declared.traffic.Datagram.{Datagram}
 use Rattle.share_turns.specs.declared.traffic.Traffic.{Traffic}
 use Rattle.share_turns.specs.declared.traffic.Traffic.TheVariants.{Nothing, Received, Sent}
 use Rattle.share_welcomes.specs.declared.host_run.HostRun.{HostRun}
@@ -59,7 +58,7 @@ abbrev pub Welcomes : HostRun → LearnedView → (peer : ℕ) → Coming → Li
 Welcomes r l peer (Greets h) sent =
     (sent ≡ [])
     ⊎ ((bytes : List ℕ)
-    × (two.decoded bytes ≡ Ok (Welcome (welcome_to r h (last_boot h.who l.entries))))
+    × (two.decoded bytes ≡ Ok (Welcome (welcome_to r h (last_boot h.who l))))
     × (sent ≡ Sent (record { peer = peer; bytes = bytes }) ∷ []))
 Welcomes r l peer Plain sent = sent ≡ []
 Welcomes r l peer (Heard m) sent = sent ≡ []

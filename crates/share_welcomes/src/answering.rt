@@ -25,18 +25,17 @@ fn chained(piece: &Piece, chain: Chain) -> Piece2
     let head = PieceHead {
         chain,
         boot: piece.boot(),
-        applied: u64::from(piece.applied()),
+        applied: piece.applied(),
         size: piece.size(),
         index: piece.index(),
     };
     Piece2::new(head, bytes)
 }
 
-/// Returns the piece of version 2 of a piece of version 1. `None` if its snapshot has more inputs
-/// than are known.
+/// Returns the piece of version 2 of a piece of version 1. `None` if the chain after its snapshot's
+/// inputs isn't known.
 fn piece_in_two(learned: &Learned, piece: &Piece) -> Option<Piece2>
-    ensures value { result ≡ spec.piece_in_two learned.now piece.now }
-    ensures log { IfSome result (spec.IsPieceOfLog learned.now) }
+    ensures { result ≡ spec.piece_in_two learned.now piece.now }
 {
     match learned.chain(piece.applied()) {
         Some(chain) => Some(chained(piece, chain)),
@@ -45,10 +44,9 @@ fn piece_in_two(learned: &Learned, piece: &Piece) -> Option<Piece2>
 }
 
 /// Returns the body of version 2 of a body of version 1. `None` for an input whose entry isn't
-/// known, and for a piece of a snapshot with more inputs than are known.
+/// known, and for a piece if the chain after its snapshot's inputs isn't.
 fn body_in_two(learned: &Learned, body: &Body) -> Option<Body2>
-    ensures value { result ≡ spec.body_in_two learned.now body.now }
-    ensures log { IfSome result (spec.IsOfItsLog learned.now) }
+    ensures { result ≡ spec.body_in_two learned.now body.now }
 {
     match body {
         Body::Input(input) => match learned.input(input.number()) {
@@ -85,7 +83,6 @@ fn message_in_two(run: &HostRun, learned: &Learned, bytes: &[u8]) -> Option<Mess
     ensures value { result ≡ spec.in_two run.now learned.now bytes.now }
     ensures says { IfSome result
         (λ m. heard_in (heard run.now.session run.now.mark m) ≡ bytes.now ∷ []) }
-    ensures log { IfSome result (spec.IsOfOurLog learned.now) }
 {
     let Ok(message) = decode(bytes) else {
         return None;

@@ -1,6 +1,9 @@
-//! The entries of a log that a port has learned, with their chains.
+//! The entries of a log that a port has learned and may still send, with their chains.
 
-ghost use Rattle.std.specs.Prelude.{◌≡◌};
+ghost use Rattle.std.specs.Prelude.{◌≡◌, ◌-◌, ℕ, List, min};
+ghost use Rattle.share_entries.specs.Chain.{chain_after};
+ghost use Rattle.share_entries.specs.Entry.{EntryView};
+ghost use Rattle.share_welcomes.specs.Learned.{linked};
 ghost use Rattle.share_welcomes.specs.Learned as spec;
 
 use share_entries::{Chain, Entry, Source, link};
@@ -11,6 +14,9 @@ use std::marker::Model;
 /// One place for each viewer.
 const PLACES: usize = 64;
 
+/// The fewest entries that are dropped at once.
+const MIN_DROPPED: usize = 1_024;
+
 /// An entry, and the chain before it.
 #[derive(Clone, Copy)]
 pub struct Link {
@@ -18,10 +24,15 @@ pub struct Link {
     pub entry: Entry,
 }
 
-/// The first entries of the log of a run.
+/// The entries of the log of a run, without the first of them.
 #[derive(Drop)]
 pub struct Learned {
     run: Run,
+    /// How many first entries were dropped.
+    dropped: u64,
+    /// The chain after these.
+    before: Chain,
+    /// The others.
     links: Vec<Link>,
     /// The chain after the last entry.
     next: Chain,
@@ -32,16 +43,21 @@ pub struct Learned {
 impl Model for Learned {
     ghost use Rattle.std.specs.Prelude.{◌≡◌};
     ghost use Rattle.share_entries.specs.Chain.{chain_after};
-    ghost use Rattle.share_welcomes.specs.Learned.{LearnedView, boots_after, entries_of};
-    ghost use Rattle.share_welcomes.specs.Learned.{linked, no_boots};
+    ghost use Rattle.share_welcomes.specs.Learned.{LearnedView, entries_of, linked};
 
     ghost Value = { LearnedView };
 
-    ghost view = { λ l. record { run = l.run; entries = entries_of l.links.items } };
+    ghost view = { λ l. record {
+      run = l.run;
+      dropped = l.dropped;
+      before = l.before;
+      entries = entries_of l.links.items;
+      boots = l.boots;
+    } };
 
-    ghost invariant = { λ l. (l.links.items ≡ linked l.run (entries_of l.links.items))
-        × (l.next ≡ chain_after l.run (entries_of l.links.items))
-        × (l.boots ≡ boots_after no_boots (entries_of l.links.items)) };
+    ghost invariant = { λ l.
+        (l.links.items ≡ linked l.before (entries_of l.links.items))
+        × (l.next ≡ chain_after l.before (entries_of l.links.items)) };
 }
 
 /// Notes the boot of an entry, if a viewer offered it.
@@ -55,17 +71,47 @@ fn note_boot(boots: &mut [u32; PLACES], entry: &Entry)
     boots[who as usize] = offer.boot();
 }
 
+/// Returns how many entries are below the number of an input, if `dropped` others were dropped and
+/// `kept` are kept.
+fn gone_below(floor: u64, dropped: u64, kept: usize) -> usize
+    ensures { result ≡ min (floor - 1 - dropped) kept }
+{
+    let below = floor.saturating_sub(1).saturating_sub(dropped);
+    below.min(kept as u64) as usize
+}
+
+/// Reports whether it is due to drop these many entries.
+fn is_due(gone: usize, kept: usize) -> bool
+    ensures { result ≡ spec.is_due gone kept }
+{
+    gone >= MIN_DROPPED && kept.saturating_sub(gone) <= gone
+}
+
+/// Returns the chain before the first of these entries, or `next`, the chain after them, if there
+/// are none.
+fn first_chain(links: &[Link], next: Chain) -> Chain
+    ensures { (chain : List ℕ) (entries : List EntryView) → links.now ≡ linked chain entries
+        → next ≡ chain_after chain entries → result ≡ chain }
+{
+    match links.first() {
+        Some(known) => known.chain,
+        None => next,
+    }
+}
+
 impl Learned {
-    ghost use Rattle.std.specs.Prelude.{◌≡◌, ◌<◌, ◌++◌, ◌∷◌, [], IfSome, OnErr, OnOk, ℕ, length, take};
-    ghost use Rattle.share_session.specs.Follows.{IsOfLog};
+    ghost use Rattle.std.specs.Prelude.{◌≡◌, ◌≤◌, ◌<◌, ◌∷◌, [], OnErr, OnOk, ℕ, length, take};
+    ghost use Rattle.share_session.specs.Ranges.{max_number};
     ghost use Rattle.share_welcomes.specs.Learned as spec;
 
     /// Returns what is known of a run that has no entries.
     pub fn none(alloc: Global, run: Run) -> Learned
-        ensures { result ≡ record { run = run; entries = [] } }
+        ensures { result ≡ spec.none_learned run }
     {
         Learned {
             run,
+            dropped: 0,
+            before: run,
             links: Vec::new(alloc),
             next: run,
             boots: [0; PLACES],
@@ -74,8 +120,7 @@ impl Learned {
 
     /// Learns the next entry. Fails if memory is refused; nothing changes then.
     fn learn_one(&mut self, entry: &Entry) -> Result<(), AllocError>
-        ensures run { self.new.run ≡ self.old.run }
-        ensures ok { OnOk result (self.new.entries ≡ self.old.entries ++ entry.now ∷ []) }
+        ensures ok { OnOk result (self.new ≡ spec.learned_more self.old (entry.now ∷ [])) }
         ensures err { OnErr result (self.new ≡ self.old) }
     {
         let entry = *entry;
@@ -86,20 +131,12 @@ impl Learned {
         Ok(())
     }
 
-    /// Returns the number of entries.
-    pub fn len(&self) -> usize
-        ensures { result ≡ length self.now.entries }
-    {
-        self.links.len()
-    }
-
     /// Learns the next entries. Fails if memory is refused; then it has learned the first of them,
     /// and not all.
     pub fn learn(&mut self, entries: &[Entry]) -> Result<(), AllocError>
-        ensures run { self.new.run ≡ self.old.run }
-        ensures ok { OnOk result (self.new.entries ≡ self.old.entries ++ entries.now) }
+        ensures ok { OnOk result (self.new ≡ spec.learned_more self.old entries.now) }
         ensures err { OnErr result ((count : ℕ) × (count < length entries.now)
-            × (self.new.entries ≡ self.old.entries ++ take count entries.now)) }
+            × (self.new ≡ spec.learned_more self.old (take count entries.now))) }
     {
         for entry in entries {
             self.learn_one(entry)?;
@@ -107,9 +144,27 @@ impl Learned {
         Ok(())
     }
 
+    /// Drops the entries below the number of an input, if at least `MIN_DROPPED` are, and no more
+    /// stay than go. So its time is linear in what was learned. Fails if memory is refused; nothing
+    /// changes then.
+    pub(crate) fn drop_below(&mut self, floor: u64) -> Result<(), AllocError>
+        ensures ok { OnOk result (self.new ≡ spec.dropped_below floor self.old) }
+        ensures err { OnErr result (self.new ≡ self.old) }
+    {
+        let gone = gone_below(floor, self.dropped, self.links.len());
+        if !is_due(gone, self.links.len()) {
+            return Ok(());
+        }
+        let left = self.links.split_off(gone)?;
+        self.before = first_chain(&left, self.next);
+        self.dropped += gone as u64;
+        self.links = left;
+        Ok(())
+    }
+
     /// Returns the boot of a viewer's last offer, or 0.
     pub fn boot(&self, who: u8) -> u32
-        ensures { result ≡ spec.last_boot who self.now.entries }
+        ensures { result ≡ spec.last_boot who self.now }
     {
         match self.boots.get(who as usize) {
             Some(boot) => *boot,
@@ -117,35 +172,40 @@ impl Learned {
         }
     }
 
-    /// Returns the chain after the first `count` entries, if there are that many.
-    pub fn chain(&self, count: u32) -> Option<Chain>
-        ensures value { result ≡ spec.chain_at self.now.run self.now.entries count }
-        ensures log { IfSome result (spec.IsChainAt self.now.run self.now.entries count) }
+    /// Returns the chain after the first `count` entries, if it is known: not if one of the entries
+    /// after it was dropped, nor if there are fewer entries.
+    pub fn chain(&self, count: u64) -> Option<Chain>
+        ensures { result ≡ spec.chain_at self.now count }
     {
-        let count = count as usize;
-        if count > self.len() {
+        if count < self.dropped {
             return None;
         }
-        match self.links.get(count) {
+        let place = (count - self.dropped) as usize;
+        if place > self.links.len() {
+            return None;
+        }
+        match self.links.get(place) {
             Some(known) => Some(known.chain),
             None => Some(self.next),
         }
     }
 
-    /// Returns the input of this number, as the host of the log sends it.
-    pub fn input(&self, number: u32) -> Option<Input2>
-        ensures value { result ≡ spec.input_at self.now.run self.now.entries number }
-        ensures log { IfSome result (IsOfLog self.now.run self.now.entries) }
+    /// Returns the input of this number, at most 2^48, as the host of the log sends it, if its
+    /// entry is kept.
+    pub fn input(&self, number: u64) -> Option<Input2>
+        requires { number ≤ max_number }
+        ensures { result ≡ spec.input_at self.now number }
     {
-        if number == 0 {
+        if number <= self.dropped {
             return None;
         }
-        let Some(known) = self.links.get(number as usize - 1) else {
+        let place = number - 1 - self.dropped;
+        let Some(known) = self.links.get(place as usize) else {
             return None;
         };
         Some(Input2 {
             chain: known.chain,
-            number: Number::new(u64::from(number)),
+            number: Number::new(number),
             entry: known.entry,
         })
     }

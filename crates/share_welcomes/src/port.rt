@@ -2,6 +2,8 @@
 
 ghost use Rattle.std.specs.Prelude.{◌≡◌, ℕ, IfOk, false, length};
 ghost use Rattle.share_turns.specs.Told.{one_more};
+ghost use Rattle.share_welcomes.specs.Laws.{IsLearnedOf};
+ghost use Rattle.share_welcomes.specs.Learned.{learned_more, none_learned};
 ghost use Rattle.share_welcomes.specs.Versions.{is_two};
 
 use crate::answering::{in_two, is_plain};
@@ -10,7 +12,6 @@ use crate::host_run::{Coming, HostRun};
 use crate::learned::Learned;
 use crate::versions::Versions;
 use share_entries::Entry;
-use share_logged::Learns;
 use share_session::{Hello, Message2, encode as encode_two};
 use share_turns::{Port, PortFault, RECEIVED};
 use std::alloc::{AllocError, Global};
@@ -21,13 +22,15 @@ use std::alloc::{AllocError, Global};
 /// as it came, and a host takes none of it.
 ///
 /// A send fails if the port below fails, and also if there is nothing to send: the bytes aren't a
-/// datagram of version 1, or the peer is answered in version 2 and the port hasn't learned the
-/// input's entry, or not all entries of a piece's snapshot.
+/// datagram of version 1, or the peer is answered in version 2 and the port doesn't know the input's
+/// entry, or the chain after the inputs of a piece's snapshot. It knows what it has learned, and not
+/// what it has dropped: the entries of inputs that the host no longer has, and the chains before
+/// them.
 #[derive(Drop)]
 pub struct HostPort<P> {
     port: P,
     run: HostRun,
-    learned: Learned,
+    pub(crate) learned: Learned,
     versions: Versions,
     failed: u64,
 }
@@ -46,7 +49,8 @@ impl<P: Drop> HostPort<P> {
         ensures port { IfOk result (λ p. p.port ≡ port) }
         ensures run { IfOk result (λ p. p.run ≡ run) }
         ensures learned { IfOk result
-            (λ p. p.learned ≡ record { run = run.run; entries = entries.now }) }
+            (λ p. p.learned ≡ learned_more (none_learned run.run) entries.now) }
+        ensures log { IfOk result (λ p. IsLearnedOf entries.now p.learned) }
         ensures versions { IfOk result (λ p. (peer : ℕ) → is_two p.versions peer ≡ false) }
         ensures peers { IfOk result (λ p. length p.versions ≡ peers) }
     {
@@ -76,7 +80,7 @@ impl<P> HostPort<P> {
         &mut self.port
     }
 
-    fn fail(&mut self) -> PortFault
+    pub(crate) fn fail(&mut self) -> PortFault
         ensures { self.new ≡ record self.old { failed = one_more self.old.failed } }
     {
         self.failed = self.failed.saturating_add(1);
@@ -318,32 +322,5 @@ impl<P: Port> Port for HostPort<P> {
 
     fn wait(&mut self, millis: u32) {
         self.port.wait(millis);
-    }
-}
-
-impl<P: Port> Learns for HostPort<P> {
-    ghost use Rattle.std.specs.Prelude.{◌≡◌, ◌<◌, ◌++◌, ℕ, OnErr, OnOk, length, take};
-    ghost use Rattle.share_turns.specs.Told.{counted};
-    ghost use Rattle.share_welcomes.specs.Passing.{told_in_one};
-
-    fn learn(&mut self, entries: &[Entry]) -> Result<(), PortFault>
-        ensures told { told_in_one self.new.run (P.told self.new.port)
-            ≡ told_in_one self.old.run (P.told self.old.port) }
-        ensures failures { self.new.failed ≡ counted result self.old.failed }
-        ensures time { P.rested self.new.port ≡ P.rested self.old.port }
-        ensures learned { OnOk result (self.new.learned.entries
-            ≡ self.old.learned.entries ++ entries.now) }
-        // It failed in the middle: it lacks at least the last one.
-        ensures refused { OnErr result ((count : ℕ) × (count < length entries.now)
-            × (self.new.learned.entries
-            ≡ self.old.learned.entries ++ take count entries.now)) }
-        ensures in_run { self.new.learned.run ≡ self.old.learned.run }
-        ensures run { self.new.run ≡ self.old.run }
-        ensures versions { self.new.versions ≡ self.old.versions }
-    {
-        match self.learned.learn(entries) {
-            Ok(()) => Ok(()),
-            Err(_refused) => Err(self.fail()),
-        }
     }
 }

@@ -1,30 +1,27 @@
 -- A snapshot is opened to its body, and what is opened is a snapshot with that body.
-use Rattle.std.proofs.Common.{◌≡◌, ℕ, suc, ◌+◌, ◌-◌, ◌^◌, ◌≤◌, Bool, true, false, cond, eqb, ltb, leb, List, [], ◌∷◌, ◌++◌, length, take, drop, Option, Some, None, Result, Ok, Err, refl, sym, ap, ◌∙◌, append_assoc, arith, eq-eqb}
+use Rattle.std.proofs.Common.{◌≡◌, ℕ, suc, ◌+◌, ◌-◌, ◌^◌, ◌≤◌, Bool, true, false, cond, eqb, ltb, List, [], ◌∷◌, ◌++◌, length, take, drop, Option, Some, None, Result, Ok, Err, refl, sym, ap, ◌∙◌, append_assoc, arith, eq-eqb}
 use Rattle.std.specs.Prelude.{IfOk, ℤ, codes, nat_eq, slice_range, slice_index}
 use Rattle.std.specs.Int.{w32}
 use Rattle.std.specs.Result.{result_map_both}
 use Rattle.std.specs.Cmp.Lexicographic.{pointwise, bytes_decides}
-use Rattle.std.proofs.lemmas.Bool.{eqb-true, ltb-false, le-ltb, lt-ltb, leb-true}
+use Rattle.std.proofs.lemmas.Bool.{eqb-true, ltb-false, le-ltb}
 use Rattle.std.proofs.lemmas.List.{take_at, drop_at, take-append-drop, take-take, drop-take, length-append}
 use Rattle.sha2.specs.Sha256.{sha256}
 use Rattle.sha2.proofs.Facts256.{length-sha256}
-use Rattle.byte_codec.specs.Codec.{number}
 use Rattle.byte_codec.specs.Exact.{IsExact}
 use Rattle.byte_codec.proofs.Laws.{named_exact, pair_exact, number_exact, wide32}
 use Rattle.snapshot_codec.specs.declared.head.HeadFault.{HeadFault}
 use Rattle.snapshot_codec.specs.declared.head.HeadFault.TheVariants.{Short, BadMagic, BadVersion, WrongScene, BadDigest}
 use Rattle.snapshot_codec.specs.declared.head.Progress.{Progress}
-use Rattle.snapshot_codec.specs.Head.{applied_codec, progress_codec, front, sealed, snapshot, unsealed, head_fault, body_or, opened}
-use Rattle.snapshot_codec.proofs.ValueLaws.{restricted_exact}
+use Rattle.snapshot_codec.specs.declared.input_number.Numbers.{Numbers}
+use Rattle.snapshot_codec.specs.Head.{progress_codec, front, sealed, snapshot, unsealed, head_fault, body_or, opened}
+use Rattle.snapshot_codec.proofs.InputLaws.{applied_exact}
 use Rattle.snapshot_codec.proofs.TraceLaws.{moment_exact}
 
-pub applied_exact : IsExact applied_codec
-applied_exact = restricted_exact (λ n. leb n (2 ^ 20)) (number w32) (λ n ok. lt-ltb n (2 ^ 32) (omega (arith, leb-true n (2 ^ 20) ok))) (number_exact w32 wide32)
-
-pub progress_exact : IsExact progress_codec
+pub progress_exact : (numbers : Numbers) → IsExact (progress_codec numbers)
 unfolding progress_codec
-progress_exact = named_exact (λ (t : ℕ × (ℕ × ℤ)). let p : Progress = record { boot = t.0; applied = t.1.0; last_time = t.1.1 } in p) (λ p. (p.boot, (p.applied, p.last_time))) _ (λ a. refl) (λ b. refl)
-    (pair_exact _ _ (number_exact w32 wide32) (pair_exact _ _ applied_exact moment_exact))
+progress_exact numbers = named_exact (λ (t : ℕ × (ℕ × ℤ)). let p : Progress = record { boot = t.0; applied = t.1.0; last_time = t.1.1 } in p) (λ p. (p.boot, (p.applied, p.last_time))) _ (λ a. refl) (λ b. refl)
+    (pair_exact _ _ (number_exact w32 wide32) (pair_exact _ _ (applied_exact numbers) moment_exact))
 
 -- ---- the tests, one after the other
 

@@ -1,5 +1,6 @@
 pub mod Appends
 pub mod HeadLaws
+pub mod InputLaws
 pub mod KeptLaws
 pub mod Loops
 pub mod PartLaws

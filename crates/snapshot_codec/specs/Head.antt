@@ -1,25 +1,21 @@
 -- The head of a snapshot and the digest at its end (our choice).
-use Rattle.std.specs.Prelude.{ℕ, ◌-◌, ◌^◌, ◌++◌, ◌==◌, List, ◌∷◌, length, take, drop, Option, Some, None, Result, Ok, Err, nat_le, nat_lt, nat_eq, slice_range, slice_index, if◌then◌else◌, codes}
+use Rattle.std.specs.Prelude.{ℕ, ◌-◌, ◌^◌, ◌++◌, ◌==◌, List, ◌∷◌, length, take, drop, Option, Some, None, Result, Ok, Err, nat_lt, nat_eq, slice_range, slice_index, if◌then◌else◌, codes}
 use Rattle.std.specs.Int.{w32}
 use Rattle.std.specs.Cmp.Lexicographic.{pointwise}
-use Rattle.x3d_values.specs.Ranges.{max_inputs}
 use Rattle.sha2.specs.Sha256.{sha256}
 use Rattle.byte_codec.specs.Codec.{Codec, named, pair, number}
 use Rattle.snapshot_codec.specs.declared.head.HeadFault.{HeadFault}
 use Rattle.snapshot_codec.specs.declared.head.HeadFault.TheVariants.{Short, BadMagic, BadVersion, WrongScene, BadDigest}
 use Rattle.snapshot_codec.specs.declared.head.Progress.{Progress}
-use Rattle.snapshot_codec.specs.Values.{restricted}
+use Rattle.snapshot_codec.specs.declared.input_number.Numbers.{Numbers}
+use Rattle.snapshot_codec.specs.Inputs.{applied_codec}
 use Rattle.snapshot_codec.specs.Trace.{moment_codec}
 
--- inputs are numbered up to 2^20
-abbrev pub applied_codec : Codec ℕ
-applied_codec = restricted (λ n. nat_le n max_inputs) (number w32)
-
 -- boot, applied, last time
-unfoldable pub progress_codec : Codec Progress
-progress_codec = named (λ t. record { boot = t.0; applied = t.1.0; last_time = t.1.1 })
+unfoldable pub progress_codec : Numbers → Codec Progress
+progress_codec numbers = named (λ t. record { boot = t.0; applied = t.1.0; last_time = t.1.1 })
     (λ p. (p.boot, (p.applied, p.last_time)))
-    (pair (number w32) (pair applied_codec moment_codec))
+    (pair (number w32) (pair (applied_codec numbers) moment_codec))
 
 -- the four bytes X3DW, the version, the mark of the scene
 abbrev pub front : ℕ → List ℕ → List ℕ

@@ -1,5 +1,6 @@
 pub mod Fields
 pub mod Head
+pub mod Inputs
 pub mod Parts
 pub mod Reads
 pub mod Trace

@@ -3,6 +3,7 @@
 ghost use Rattle.std.specs.Prelude.{ℕ, List, Option};
 ghost use Rattle.byte_codec.specs.Exact.{IsExact};
 ghost use Rattle.x3d_values.specs.declared.field_type.FieldType.{FieldType};
+ghost use Rattle.snapshot_codec.specs.declared.input_number.Numbers.{Numbers};
 ghost use Rattle.snapshot_codec.specs.declared.kept.KeptField.{KeptField};
 ghost use Rattle.snapshot_codec.specs.declared.viewers.Viewers.{Viewers};
 ghost use Rattle.snapshot_codec.specs.Fields.{fields_codec};
@@ -25,8 +26,10 @@ pub fn nodes_are_exact()
 
 /// The codecs for the other parts of a snapshot are exact.
 pub fn worlds_are_exact()
-    ensures progress { IsExact progress_codec }
+    ensures progress { (numbers : Numbers) → IsExact (progress_codec numbers) }
     ensures viewers { (viewers : Viewers) → IsExact (viewer_set_codec viewers) }
-    ensures entry { (types : ℕ → ℕ → Option FieldType) → IsExact (entry_codec types) }
-    ensures trace { (types : ℕ → ℕ → Option FieldType) → IsExact (trace_codec types) }
+    ensures entry { (numbers : Numbers) (types : ℕ → ℕ → Option FieldType)
+        → IsExact (entry_codec numbers types) }
+    ensures trace { (numbers : Numbers) (types : ℕ → ℕ → Option FieldType)
+        → IsExact (trace_codec numbers types) }
 {}

@@ -5,15 +5,16 @@ ghost use Rattle.std.specs.Cmp.Lexicographic.{pointwise};
 ghost use Rattle.std.specs.Option.{option_map};
 ghost use Rattle.std.specs.Result.{result_map_both};
 ghost use Rattle.sha2.specs.Sha256.{sha256};
-ghost use Rattle.snapshot_codec.specs.Head.{applied_codec, progress_codec, front, unsealed, snapshot, head_fault, opened};
+ghost use Rattle.snapshot_codec.specs.Head.{progress_codec, front, unsealed, snapshot, head_fault, opened};
 
-use crate::numbers::signed_bytes;
+use crate::input_number::{Numbers, applied_of};
+use crate::numbers::{low_32_bytes, signed_bytes};
 use crate::trace::moment_of;
 use byte_codec::u32_of;
 use sha2::{Digest, Sha256};
 use std::alloc::AllocError;
 use thiserror::Error;
-use x3d_values::{MAX_INPUTS, push_pieces};
+use x3d_values::push_pieces;
 
 /// The first bytes of each snapshot.
 const MAGIC: &[u8; 4] = b"X3DW";
@@ -43,8 +44,8 @@ pub enum HeadFault {
 pub struct Progress {
     /// The number of the viewer's start.
     pub boot: u32,
-    /// The number of inputs applied, up to 2^20.
-    pub applied: u32,
+    /// The number of inputs applied, up to 2^48 - 1.
+    pub applied: u64,
     /// The time of the last input in microseconds, 0 to 10^18.
     pub last_time: i64,
 }
@@ -134,30 +135,17 @@ pub fn push_digest(from: usize, out: &mut Vec<u8>) -> Result<(), AllocError>
     out.extend_from_slice(&digest)
 }
 
-fn applied_of(bytes: &[u8]) -> Option<(u32, &[u8])>
-    ensures { option_map (λ x. (x.0, x.1.now)) result ≡ applied_codec.read bytes.now }
-{
-    let Some((number, rest)) = u32_of(bytes) else {
-        return None;
-    };
-    if number <= MAX_INPUTS {
-        Some((number, rest))
-    } else {
-        None
-    }
-}
-
-/// Reads how far a world had advanced: boot u32, applied u32 (up to 2^20), last time i64 (0 to
-/// 10^18). Returns it with the rest of the bytes, or `None` if the bytes are too few or a number is
-/// out of its range.
+/// Reads how far a world had advanced: boot u32, applied (up to 2^20 in 32 bits, or up to 2^48 - 1
+/// in 64), last time i64 (0 to 10^18). Returns it with the rest of the bytes, or `None` if the
+/// bytes are too few or a number is out of its range.
 #[tactic(auto, unfolding(crate::specs::Head::progress_codec))]
-pub fn progress_of(bytes: &[u8]) -> Option<(Progress, &[u8])>
-    ensures { option_map (λ x. (x.0, x.1.now)) result ≡ progress_codec.read bytes.now }
+pub fn progress_of(numbers: Numbers, bytes: &[u8]) -> Option<(Progress, &[u8])>
+    ensures { option_map (λ x. (x.0, x.1.now)) result ≡ (progress_codec numbers).read bytes.now }
 {
     let Some((boot, rest)) = u32_of(bytes) else {
         return None;
     };
-    let Some((applied, rest)) = applied_of(rest) else {
+    let Some((applied, rest)) = applied_of(numbers, rest) else {
         return None;
     };
     let Some((last_time, rest)) = moment_of(rest) else {
@@ -171,15 +159,21 @@ pub fn progress_of(bytes: &[u8]) -> Option<(Progress, &[u8])>
     Some((progress, rest))
 }
 
-/// Appends how far a world had advanced. On `AllocError` the buffer is unchanged.
-pub fn push_progress(progress: Progress, out: &mut Vec<u8>) -> Result<(), AllocError>
-    ensures ok { OnOk result (out.new.items ≡ out.old.items ++ progress_codec.write progress) }
+/// Appends how far a world had advanced; of a short number of inputs, the lowest 32 bits. On
+/// `AllocError` the buffer is unchanged.
+pub fn push_progress(
+    numbers: Numbers,
+    progress: Progress,
+    out: &mut Vec<u8>,
+) -> Result<(), AllocError>
+    ensures ok { OnOk result (out.new.items
+        ≡ out.old.items ++ (progress_codec numbers).write progress) }
     ensures err { OnErr result (out.new.items ≡ out.old.items) }
 {
-    let pieces: [&[u8]; 3] = [
-        &progress.boot.to_be_bytes(),
-        &progress.applied.to_be_bytes(),
-        &signed_bytes(&progress.last_time),
-    ];
-    push_pieces(&pieces, out)
+    let boot = progress.boot.to_be_bytes();
+    let last_time = signed_bytes(&progress.last_time);
+    match numbers {
+        Numbers::Short => push_pieces(&[&boot, &low_32_bytes(progress.applied), &last_time], out),
+        Numbers::Long => push_pieces(&[&boot, &progress.applied.to_be_bytes(), &last_time], out),
+    }
 }

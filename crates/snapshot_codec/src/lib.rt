@@ -12,6 +12,7 @@ mod coded;
 mod exactness;
 mod fault;
 mod head;
+mod input_number;
 mod kept;
 mod kept_ranges;
 mod numbers;
@@ -30,6 +31,7 @@ pub use fault::PartFault;
 pub use head::{
     HeadFault, Progress, open, progress_of, push_digest, push_front, push_progress, scene_mark,
 };
+pub use input_number::{Numbers, input_of};
 pub use kept::{KeptField, kept_field, kept_fields_of, push_kept_fields};
 pub use kept_ranges::{is_moment, kept_fits, place_fits, typed_fits};
 pub use parts::{cycle_of, position_of, push_cycle, push_position, push_state, states_of};

@@ -72,6 +72,36 @@ pub(crate) fn push_low_16(number: u64, out: &mut Vec<u8>) -> Result<(), AllocErr
     out.extend_from_slice(&low.to_be_bytes())
 }
 
+/// Returns the bytes of the lowest 32 bits of a number.
+#[tactic(auto, unfolding(byte_codec::specs::Codec::number_text))]
+pub(crate) fn low_32_bytes(number: u64) -> [u8; 4]
+    ensures { result ≡ number_text w32 number }
+{
+    let low = (number % (1 << 32)) as u32;
+    low.to_be_bytes()
+}
+
+#[tactic(auto, unfolding(byte_codec::specs::Codec::number_text))]
+pub(crate) fn bytes_16(number: u16) -> [u8; 2]
+    ensures { result ≡ number_text w16 number }
+{
+    number.to_be_bytes()
+}
+
+#[tactic(auto, unfolding(byte_codec::specs::Codec::number_text))]
+pub(crate) fn bytes_32(number: u32) -> [u8; 4]
+    ensures { result ≡ number_text w32 number }
+{
+    number.to_be_bytes()
+}
+
+#[tactic(auto, unfolding(byte_codec::specs::Codec::number_text))]
+pub(crate) fn bytes_64(number: u64) -> [u8; 8]
+    ensures { result ≡ number_text w64 number }
+{
+    number.to_be_bytes()
+}
+
 /// Reads a number whose size is up to `limit`.
 pub(crate) fn within_of(limit: u64, bytes: &[u8]) -> Option<(i64, &[u8])>
     ensures { option_map (λ x. (x.0, x.1.now)) result ≡ (within limit).read bytes.now }

@@ -10,7 +10,8 @@ ghost use Rattle.snapshot_codec.specs.Reads.{ReadsPart, behind};
 ghost use Rattle.snapshot_codec.specs.Trace.{moment_codec, sent_at_codec, typed_codec, entry_codec, trace_codec, entry_text};
 
 use crate::fault::PartFault;
-use crate::numbers::{push_u64, signed_bytes};
+use crate::input_number::{Numbers, input_of};
+use crate::numbers::{bytes_16, bytes_32, bytes_64, low_32_bytes, push_u64, signed_bytes};
 use crate::value::{push_value, value_of};
 use byte_codec::{i64_of, u16_of, u32_of, u64_of};
 use std::alloc::{AllocError, Global};
@@ -23,7 +24,7 @@ const LATEST: i64 = x3d_values::MAX_TIME;
 #[derive(Clone, Copy, PartialEq, Eq)]
 pub struct SentAt {
     /// The number of the input.
-    pub input: u32,
+    pub input: u64,
     /// In microseconds, 0 to 10^18.
     pub time: i64,
     /// The number of the node.
@@ -81,10 +82,10 @@ pub(crate) fn moment_of(bytes: &[u8]) -> Option<(i64, &[u8])>
 }
 
 #[tactic(auto, unfolding(crate::specs::Trace::sent_at_codec))]
-fn sent_at_of(bytes: &[u8]) -> Option<(SentAt, &[u8])>
-    ensures { option_map (λ x. (x.0, x.1.now)) result ≡ sent_at_codec.read bytes.now }
+fn sent_at_of(numbers: Numbers, bytes: &[u8]) -> Option<(SentAt, &[u8])>
+    ensures { option_map (λ x. (x.0, x.1.now)) result ≡ (sent_at_codec numbers).read bytes.now }
 {
-    let Some((input, rest)) = u32_of(bytes) else {
+    let Some((input, rest)) = input_of(numbers, bytes) else {
         return None;
     };
     let Some((time, rest)) = moment_of(rest) else {
@@ -118,19 +119,21 @@ fn typed_of(
     }
 }
 
-/// Reads an event: the input's number u32, the time i64 (0 to 10^18), the node u32, the field u16,
-/// and a value of the field's type. Returns it with the rest of the bytes. Returns `NotCanonical`
-/// if the bytes don't encode one or the field sends no events, and `Memory` if memory runs out.
+/// Reads an event: the input's number in 32 or 64 bits, the time i64 (0 to 10^18), the node u32,
+/// the field u16, and a value of the field's type. Returns it with the rest of the bytes. Returns
+/// `NotCanonical` if the bytes don't encode one or the field sends no events, and `Memory` if
+/// memory runs out.
 #[tactic(auto, unfolding(crate::specs::Trace::entry_codec))]
 pub fn entry_of<'a, O: Outputs>(
     alloc: Global,
+    numbers: Numbers,
     outputs: &O,
     bytes: &'a [u8],
 ) -> Result<(TraceEntry, &'a [u8]), PartFault>
     ensures { ReadsPart (λ x. (x.0, x.1.now)) result
-        ((entry_codec (O.types outputs.now)).read bytes.now) }
+        ((entry_codec numbers (O.types outputs.now)).read bytes.now) }
 {
-    let Some((sent, rest)) = sent_at_of(bytes) else {
+    let Some((sent, rest)) = sent_at_of(numbers, bytes) else {
         return Err(PartFault::NotCanonical);
     };
     let field_type = outputs.output_type(sent.node, sent.field);
@@ -140,6 +143,7 @@ pub fn entry_of<'a, O: Outputs>(
 
 fn entries_of<'a, O: Outputs, T: TakesEntries>(
     alloc: Global,
+    numbers: Numbers,
     outputs: &O,
     count: u64,
     bytes: &'a [u8],
@@ -147,11 +151,11 @@ fn entries_of<'a, O: Outputs, T: TakesEntries>(
 ) -> Result<&'a [u8], PartFault>
     ensures { ReadsPart (λ rest. (T.entries taker.new, rest.now)) result
         (behind (T.entries taker.old)
-        (many_at (entry_codec (O.types outputs.now)) count bytes.now)) }
+        (many_at (entry_codec numbers (O.types outputs.now)) count bytes.now)) }
 {
     let mut rest = bytes;
     for _ in 0..count {
-        let (entry, after) = entry_of(alloc, outputs, rest)?;
+        let (entry, after) = entry_of(alloc, numbers, outputs, rest)?;
         taker.take_entry(entry)?;
         rest = after;
     }
@@ -163,39 +167,47 @@ fn entries_of<'a, O: Outputs, T: TakesEntries>(
 /// `Memory` if memory runs out. On an error, `taker` may hold some of the events.
 pub fn trace_of<'a, O: Outputs, T: TakesEntries>(
     alloc: Global,
+    numbers: Numbers,
     outputs: &O,
     bytes: &'a [u8],
     taker: &mut T,
 ) -> Result<&'a [u8], PartFault>
     ensures { ReadsPart (λ rest. (T.entries taker.new, rest.now)) result
-        (behind (T.entries taker.old) ((trace_codec (O.types outputs.now)).read bytes.now)) }
+        (behind (T.entries taker.old)
+        ((trace_codec numbers (O.types outputs.now)).read bytes.now)) }
 {
     let Some((count, rest)) = u64_of(bytes) else {
         return Err(PartFault::NotCanonical);
     };
-    entries_of(alloc, outputs, count, rest, taker)
+    entries_of(alloc, numbers, outputs, count, rest, taker)
 }
 
-fn push_sent_at(sent: SentAt, out: &mut Vec<u8>) -> Result<(), AllocError>
-    ensures ok { OnOk result (out.new.items ≡ out.old.items ++ sent_at_codec.write sent) }
+fn push_sent_at(numbers: Numbers, sent: SentAt, out: &mut Vec<u8>) -> Result<(), AllocError>
+    ensures ok { OnOk result (out.new.items ≡ out.old.items ++ (sent_at_codec numbers).write sent) }
     ensures err { OnErr result (out.new.items ≡ out.old.items) }
 {
-    let pieces: [&[u8]; 4] = [
-        &sent.input.to_be_bytes(),
-        &signed_bytes(&sent.time),
-        &sent.node.to_be_bytes(),
-        &sent.field.to_be_bytes(),
-    ];
-    push_pieces(&pieces, out)
+    let time = signed_bytes(&sent.time);
+    let node = bytes_32(sent.node);
+    let field = bytes_16(sent.field);
+    match numbers {
+        Numbers::Short => push_pieces(&[&low_32_bytes(sent.input), &time, &node, &field], out),
+        Numbers::Long => push_pieces(&[&bytes_64(sent.input), &time, &node, &field], out),
+    }
 }
 
-/// Appends an event. On `AllocError` the buffer is unchanged.
-pub fn push_entry(sent: SentAt, value: &Value, out: &mut Vec<u8>) -> Result<(), AllocError>
-    ensures ok { OnOk result (out.new.items ≡ out.old.items ++ entry_text sent value.now) }
+/// Appends an event; of a short number of its input, the lowest 32 bits. On `AllocError` the buffer
+/// is unchanged.
+pub fn push_entry(
+    numbers: Numbers,
+    sent: SentAt,
+    value: &Value,
+    out: &mut Vec<u8>,
+) -> Result<(), AllocError>
+    ensures ok { OnOk result (out.new.items ≡ out.old.items ++ entry_text numbers sent value.now) }
     ensures err { OnErr result (out.new.items ≡ out.old.items) }
 {
     let len = out.len();
-    push_sent_at(sent, out)?;
+    push_sent_at(numbers, sent, out)?;
     let pushed = push_value(value, out);
     if pushed.is_err() {
         out.truncate(len);

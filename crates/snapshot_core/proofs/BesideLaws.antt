@@ -32,7 +32,7 @@ use Rattle.sensor_plane.specs.Planes as planes
 use Rattle.sensor_plane.specs.Planes.{Plane}
 use Rattle.sensor_plane.specs.Pointing.{is_no_sensor, plane_fits, pointing_fits, touch_fits}
 use Rattle.snapshot_core.specs.declared.version.Version.{Version}
-use Rattle.snapshot_core.specs.declared.version.Version.TheVariants.{One, Two}
+use Rattle.snapshot_core.specs.declared.version.Version.TheVariants.{One, Two, Three}
 use Rattle.snapshot_core.specs.Opening.{newest, viewers_of}
 use Rattle.snapshot_core.specs.Beside as n
 use Rattle.snapshot_core.proofs.SetLaws.{few_bits, few_viewers, number_back, over_back, over_length, number_small}
@@ -209,16 +209,21 @@ held_again state.NoSensor ok = absurd cc
 held_again (state.Touch touch) ok = absurd cc
 held_again (state.Plane plane) ok = (ok, refl, refl)
 
-plane_part_exact : (version : Version) → IsExact (n.plane_part version)
-unfolding n.plane_part n.drags_codec
-plane_part_exact One = never_exact
-plane_part_exact Two = worded_exact n.plane_text (λ plane. Some (state.Plane plane)) plane_in_it plane_fits n.drags_codec (record {
+plane_state_exact : IsExact n.plane_state
+unfolding n.drags_codec
+plane_state_exact = worded_exact n.plane_text (λ plane. Some (state.Plane plane)) plane_in_it plane_fits n.drags_codec (record {
   back = λ a b fits e.
       let made : PointingState = state.Plane a in
       let P : PointingState → Type 0 = λ s. (plane_in_it s ≡ a) × (plane_fits s ≡ true) in
       subst P (some_is made b e) (refl, fits);
   forth = λ b ok. let f = held_again b ok in (f.0, f.1);
 }) (λ b ok. (held_again b ok).2) drags_exact
+
+plane_part_exact : (version : Version) → IsExact (n.plane_part version)
+unfolding n.plane_part
+plane_part_exact One = never_exact
+plane_part_exact Two = plane_state_exact
+plane_part_exact Three = plane_state_exact
 
 only_no_sensor : (s : PointingState) → is_no_sensor s ≡ true → s ≡ state.NoSensor
 only_no_sensor state.NoSensor e = refl
@@ -286,6 +291,7 @@ plane_fitting : (version : Version) (s : PointingState) → (n.plane_part versio
 unfolding n.plane_part
 plane_fitting One s fits = absurd cc
 plane_fitting Two s fits = fits
+plane_fitting Three s fits = fits
 
 pub pointing_fitting : (version : Version) (t : NodeType) (s : PointingState) → (n.pointing_part version t).fits s ≡ true → pointing_fits t s ≡ true
 unfolding n.pointing_part n.touch_part

@@ -10,7 +10,7 @@ use Rattle.std.proofs.lemmas.List.FromFn.{length-map-range_with_len}
 use Rattle.x3d_values.specs.Ranges.{max_viewers}
 use Rattle.snapshot_codec.specs.Parts.{viewer_count, viewer_set_codec}
 use Rattle.snapshot_core.specs.declared.version.Version.{Version}
-use Rattle.snapshot_core.specs.declared.version.Version.TheVariants.{One, Two}
+use Rattle.snapshot_core.specs.declared.version.Version.TheVariants.{One, Two, Three}
 use Rattle.snapshot_core.specs.Opening.{viewers_of}
 use Rattle.sensor_core.specs.Parts.{bit_of, number_of, over_of}
 
@@ -87,8 +87,10 @@ number_small set len = subst (λ k. number_of set < 2 ^ k) len (below set)
 pub few_viewers : (version : Version) → viewer_count (viewers_of version) ≤ max_viewers
 few_viewers One = omega arith
 few_viewers Two = omega arith
+few_viewers Three = omega arith
 
 pub few_bits : (version : Version) (n : ℕ) → (viewer_set_codec (viewers_of version)).fits n ≡ true → n < 2 ^ max_viewers
 unfolding viewer_set_codec
 few_bits One n fits = omega (arith, ltb-true n (2 ^ 16) fits)
 few_bits Two n fits = ltb-true n (2 ^ 64) fits
+few_bits Three n fits = ltb-true n (2 ^ 64) fits

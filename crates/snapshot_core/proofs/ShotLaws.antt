@@ -1,19 +1,21 @@
 -- A snapshot is loaded to its world, and what is loaded is a snapshot.
-use Rattle.std.proofs.Common.{◌≡◌, ℕ, zero, suc, ◌^◌, ◌<◌, ◌≤◌, Bool, true, false, cond, eqb, ltb, List, [], ◌∷◌, ◌++◌, length, Option, Some, None, Result, Ok, Err, refl, sym, ap, subst, ◌∙◌, arith}
+use Rattle.std.proofs.Common.{◌≡◌, ℕ, zero, suc, ◌^◌, ◌<◌, ◌≤◌, Bool, true, false, cond, eqb, ltb, leb, List, [], ◌∷◌, ◌++◌, length, Option, Some, None, Result, Ok, Err, refl, sym, ap, subst, ◌∙◌, arith}
 use Rattle.std.specs.Prelude.{◌&&◌, codes}
 use Rattle.std.specs.Int.{w32, w64}
-use Rattle.std.proofs.lemmas.Bool.{eqb-true, le-ltb, lt-ltb, ltb-true}
+use Rattle.std.proofs.lemmas.Bool.{eqb-true, le-leb, le-ltb, leb-true, lt-ltb, ltb-true}
 use Rattle.std.proofs.lemmas.List.{length-append}
 use Rattle.byte_codec.specs.Codec.{number, number_text, whole}
 use Rattle.byte_codec.specs.Exact.{IsBytes}
 use Rattle.byte_codec.proofs.Laws.{IsBytes-rest, both, and_true, whole_again, whole_takes, wide32, wide64}
 use Rattle.scene_core.specs.Scene.{SceneView, shapes_of}
-use Rattle.x3d_values.specs.Ranges.{max_viewers}
+use Rattle.x3d_values.specs.Ranges.{max_inputs, max_short_number, max_viewers}
 use Rattle.snapshot_codec.specs.declared.head.HeadFault.{HeadFault}
-use Rattle.snapshot_codec.specs.Head.{applied_codec, front, opened, snapshot}
+use Rattle.snapshot_codec.specs.Head.{front, opened, snapshot}
+use Rattle.snapshot_codec.specs.Inputs.{applied_codec, input_codec, most_inputs}
 use Rattle.snapshot_core.specs.declared.version.Version.{Version}
-use Rattle.snapshot_core.specs.declared.version.Version.TheVariants.{One, Two}
-use Rattle.snapshot_core.specs.Opening.{found_body, newest, version_in, version_number}
+use Rattle.snapshot_core.specs.declared.version.Version.TheVariants.{One, Two, Three}
+use Rattle.snapshot_core.specs.Opening.{found_body, newest, numbers_of, version_in, version_number}
+use Rattle.snapshot_codec.specs.Parts.{states_codec}
 use Rattle.snapshot_codec.specs.Trace.{moment_codec}
 use Rattle.snapshot_codec.proofs.HeadLaws.{opened-found, snapshot-opened}
 use Rattle.cascade_core.specs.Course.{Scripted}
@@ -25,7 +27,8 @@ use Rattle.snapshot_core.specs.declared.fault.SnapFault.TheVariants.{BootNotNew,
 use Rattle.snapshot_core.specs.Loading.{HasSnapshot, behind_head, loaded, newer, states_fit, with_states}
 use Rattle.snapshot_core.specs.Shot.{body_codec, shot, shot_as}
 use Rattle.snapshot_core.specs.Nodes.{lists_codec, lists_fit, nodes_codec}
-use Rattle.snapshot_core.specs.WorldCodec.{buttons_codec, lists_in, parts_codec, parts_in, set_has_bytes, world_codec}
+use Rattle.snapshot_core.specs.WorldCodec.{buttons_codec, lines_codec, lists_in, parts_codec, parts_in, set_has_bytes, world_codec}
+use Rattle.snapshot_core.proofs.LineLaws.{newest_lines}
 use Rattle.snapshot_core.proofs.NodeLaws.{newest_lists}
 use Rattle.snapshot_core.proofs.StateLaws.{all_fit, fitting_all, stated}
 use Rattle.snapshot_core.proofs.WorldLaws.{body_exact, newest_set}
@@ -40,12 +43,19 @@ length8 : (n : ℕ) → length (number_text w64 n) ≡ 8
 unfolding number_text
 length8 n = wide64.len n
 
-long : (boot : ℕ) (applied moment rest : List ℕ) → length applied ≡ 4 → length moment ≡ 8 → 16 ≤ length (number_text w32 boot ++ (applied ++ (moment ++ rest)))
+-- how many inputs were applied takes 4 bytes or more
+applied_long : (version : Version) (n : ℕ) → 4 ≤ length ((applied_codec (numbers_of version)).write n)
+unfolding input_codec
+applied_long One n = omega (arith, length4 n)
+applied_long Two n = omega (arith, length4 n)
+applied_long Three n = omega (arith, length8 n)
+
+long : (boot : ℕ) (applied moment rest : List ℕ) → 4 ≤ length applied → length moment ≡ 8 → 16 ≤ length (number_text w32 boot ++ (applied ++ (moment ++ rest)))
 long boot applied moment rest a m = omega (arith, a, m, length4 boot, length-append (number_text w32 boot) (applied ++ (moment ++ rest)), length-append applied (moment ++ rest), length-append moment rest)
 
 some_body : (version : Version) (scene : SceneView) (boot : ℕ) (w : Scripted) → 16 ≤ length ((body_codec version scene).write (boot, w))
 unfolding world_codec
-some_body version scene boot w = long boot (applied_codec.write w.world.applied) (moment_codec.write w.world.last_time) ((parts_codec version scene).write (parts_in w)) (length4 w.world.applied) (length8 _)
+some_body version scene boot w = long boot ((applied_codec (numbers_of version)).write w.world.applied) (moment_codec.write w.world.last_time) ((parts_codec version scene).write (parts_in w)) (applied_long version w.world.applied) (length8 _)
 
 read_again : (version : Version) (scene : SceneView) (boot : ℕ) (w : Scripted) → boot < 2 ^ 32 → (world_codec version scene).fits w ≡ true → whole ((body_codec version scene).read ((body_codec version scene).write (boot, w))) ≡ Some (boot, w)
 read_again version scene boot w small fits = whole_again (body_codec version scene) (body_exact version scene) (boot, w) (and_true _ _ (lt-ltb boot (2 ^ 32) small) fits)
@@ -54,10 +64,12 @@ read_again version scene boot w small fits = whole_again (body_codec version sce
 pub named-front : (version : Version) (rest : List ℕ) → version_in (codes "X3DW" ++ version_number version ∷ rest) ≡ version
 named-front One rest = refl
 named-front Two rest = refl
+named-front Three rest = refl
 
 named : (version : Version) (mark body : List ℕ) → version_in (snapshot (version_number version) mark body) ≡ version
 named One mark body = refl
 named Two mark body = refl
+named Three mark body = refl
 
 pub body_again : (version : Version) (mark body : List ℕ) → length mark ≡ 32 → 16 ≤ length body → found_body mark (snapshot (version_number version) mark body) ≡ Ok body
 body_again version mark body len some =
@@ -100,20 +112,28 @@ body_bytes version mark bytes body h e =
     let all : IsBytes (snapshot version mark body) = subst IsBytes e h in
     IsBytes-rest (front version mark) body (IsBytes-front (front version mark ++ body) _ all)
 
+-- what inputs a version has numbers for, the newest has numbers for
+more_inputs : (version : Version) (n : ℕ) → leb n (most_inputs (numbers_of version)) ≡ true → leb n (most_inputs (numbers_of newest)) ≡ true
+more_inputs One n fits = le-leb n max_inputs (omega (arith, leb-true n max_short_number fits))
+more_inputs Two n fits = le-leb n max_inputs (omega (arith, leb-true n max_short_number fits))
+more_inputs Three n fits = fits
+
 -- a world that has bytes in a version has bytes in the newest
 newest_fits : (version : Version) (scene : SceneView) (w : Scripted) → (world_codec version scene).fits w ≡ true → (world_codec newest scene).fits w ≡ true
 unfolding world_codec parts_codec nodes_codec lists_codec buttons_codec
 newest_fits version scene w fits =
-    let a = both (applied_codec.fits w.world.applied) _ fits in
+    let a = both ((applied_codec (numbers_of version)).fits w.world.applied) _ fits in
     let b = both (moment_codec.fits w.world.last_time) _ a.1 in
     let c = both (all_lead scene 0 w.world.pointing && lists_fit version (shapes_of scene) (lists_in w.world)) _ b.1 in
     let n = both (all_lead scene 0 w.world.pointing) (lists_fit version (shapes_of scene) (lists_in w.world)) c.0 in
     let d = both (set_has_bytes version w.world.buttons) _ c.1 in
     let e = both (eqb (length w.world.buttons) max_viewers) _ d.0 in
-    and_true _ _ a.0
+    let g = both ((states_codec (length (kinds_in scene))).fits w.states) ((lines_codec version (shapes_of scene)).fits w.world.trace) d.1 in
+    and_true _ _ (more_inputs version w.world.applied a.0)
     (and_true _ _ b.0
     (and_true _ _ (and_true _ _ n.0 (newest_lists version (shapes_of scene) (lists_in w.world) n.1))
-    (and_true _ _ (newest_set w.world.buttons (eqb-true _ _ e.0)) d.1)))
+    (and_true _ _ (newest_set w.world.buttons (eqb-true _ _ e.0))
+    (and_true _ _ g.0 (newest_lines version (shapes_of scene) w.world.trace g.1)))))
 
 -- what it comes to that this is read of these bytes
 abbrev Found : List ℕ → SceneView → ℕ → List ℕ → ℕ × Scripted → Type 0

@@ -10,16 +10,17 @@ use Rattle.scene_core.specs.Scene.{SceneView, shapes_of}
 use Rattle.snapshot_codec.specs.declared.fault.PartFault.{PartFault}
 use Rattle.snapshot_codec.specs.declared.fault.PartFault.TheVariants as faults
 use Rattle.snapshot_codec.specs.declared.head.Progress.{Progress}
-use Rattle.snapshot_codec.specs.Head.{applied_codec, progress_codec}
+use Rattle.snapshot_codec.specs.Head.{progress_codec}
+use Rattle.snapshot_codec.specs.Inputs.{applied_codec}
 use Rattle.snapshot_codec.specs.Reads.{Fails}
 use Rattle.snapshot_codec.specs.Parts.{states_codec, viewer_set_codec}
 use Rattle.snapshot_codec.specs.Trace.{moment_codec}
-use Rattle.snapshot_codec.proofs.HeadLaws.{applied_exact}
+use Rattle.snapshot_codec.proofs.InputLaws.{applied_exact}
 use Rattle.snapshot_codec.proofs.PartLaws.{states_exact, viewer_set_exact}
 use Rattle.snapshot_codec.proofs.TraceLaws.{moment_exact}
 use Rattle.x3d_values.specs.Ranges.{max_viewers}
 use Rattle.snapshot_core.specs.declared.version.Version.{Version}
-use Rattle.snapshot_core.specs.Opening.{newest, viewers_of}
+use Rattle.snapshot_core.specs.Opening.{newest, numbers_of, viewers_of}
 use Rattle.sensor_core.specs.Parts.{number_of, over_of}
 use Rattle.cascade_core.specs.Course.{Scripted}
 use Rattle.cascade_core.specs.Scripts.{kinds_in}
@@ -84,18 +85,18 @@ module _ (f : List ℕ → Option (ℕ × List ℕ)) (g : List ℕ → Option (�
   at_boot None = refl
   at_boot (Some b) = at_applied b.0 (f b.1)
 
-body_read : (version : Version) (scene : SceneView) (bytes : List ℕ) → (body_codec version scene).read bytes ≡ (progress_codec.read bytes >>? λ p. (parts_codec version scene).read p.1 >>? found_with p.0)
+body_read : (version : Version) (scene : SceneView) (bytes : List ℕ) → (body_codec version scene).read bytes ≡ ((progress_codec (numbers_of version)).read bytes >>? λ p. (parts_codec version scene).read p.1 >>? found_with p.0)
 unfolding world_codec progress_codec
-body_read version scene bytes = at_boot applied_codec.read moment_codec.read (parts_codec version scene).read ((number w32).read bytes)
+body_read version scene bytes = at_boot (applied_codec (numbers_of version)).read moment_codec.read (parts_codec version scene).read ((number w32).read bytes)
 
-pub no_progress : (version : Version) (scene : SceneView) (bytes : List ℕ) → None ≡ progress_codec.read bytes → (body_codec version scene).read bytes ≡ None
+pub no_progress : (version : Version) (scene : SceneView) (bytes : List ℕ) → None ≡ (progress_codec (numbers_of version)).read bytes → (body_codec version scene).read bytes ≡ None
 no_progress version scene bytes e = body_read version scene bytes ∙ rw (sym e) refl
 
-pub no_parts : (version : Version) (scene : SceneView) (bytes : List ℕ) (p : Progress) (rest : List ℕ) (e : PartFault) → Some (p, rest) ≡ progress_codec.read bytes → Fails e ((parts_codec version scene).read rest) → Fails e ((body_codec version scene).read bytes)
+pub no_parts : (version : Version) (scene : SceneView) (bytes : List ℕ) (p : Progress) (rest : List ℕ) (e : PartFault) → Some (p, rest) ≡ (progress_codec (numbers_of version)).read bytes → Fails e ((parts_codec version scene).read rest) → Fails e ((body_codec version scene).read bytes)
 no_parts version scene bytes p rest faults.Memory front h = tt
 no_parts version scene bytes p rest faults.NotCanonical front h = body_read version scene bytes ∙ rw (sym front, h) refl
 
-pub whole_body : (version : Version) (scene : SceneView) (bytes : List ℕ) (p : Progress) (rest : List ℕ) (parts : WorldParts) (after : List ℕ) → Some (p, rest) ≡ progress_codec.read bytes → (parts_codec version scene).read rest ≡ Some (parts, after) → (body_codec version scene).read bytes ≡ Some ((p.boot, world_with p parts), after)
+pub whole_body : (version : Version) (scene : SceneView) (bytes : List ℕ) (p : Progress) (rest : List ℕ) (parts : WorldParts) (after : List ℕ) → Some (p, rest) ≡ (progress_codec (numbers_of version)).read bytes → (parts_codec version scene).read rest ≡ Some (parts, after) → (body_codec version scene).read bytes ≡ Some ((p.boot, world_with p parts), after)
 whole_body version scene bytes p rest parts after front h = body_read version scene bytes ∙ rw (sym front, h) refl
 
 -- ---- writing
@@ -103,14 +104,14 @@ whole_body version scene bytes p rest parts after front h = body_read version sc
 regroup : (old b a t n u s l : List ℕ) → ((((old ++ (b ++ (a ++ t))) ++ n) ++ u) ++ s) ++ l ≡ old ++ (b ++ (a ++ (t ++ (n ++ (u ++ (s ++ l))))))
 regroup old b a t n u s l = simp append_assoc refl
 
-pub body_written : (version : Version) (scene : SceneView) (boot : ℕ) (w : Scripted) (old o1 o2 o3 o4 new : List ℕ) → o1 ≡ old ++ progress_codec.write (record { boot = boot; applied = w.world.applied; last_time = w.world.last_time })
+pub body_written : (version : Version) (scene : SceneView) (boot : ℕ) (w : Scripted) (old o1 o2 o3 o4 new : List ℕ) → o1 ≡ old ++ (progress_codec (numbers_of version)).write (record { boot = boot; applied = w.world.applied; last_time = w.world.last_time })
     → o2 ≡ o1 ++ (nodes_codec version scene).write (lists_in w.world) → o3 ≡ o2 ++ (buttons_codec version).write w.world.buttons
-    → o4 ≡ o3 ++ (states_codec (length (kinds_in scene))).write w.states → new ≡ o4 ++ (lines_codec (shapes_of scene)).write w.world.trace
+    → o4 ≡ o3 ++ (states_codec (length (kinds_in scene))).write w.states → new ≡ o4 ++ (lines_codec version (shapes_of scene)).write w.world.trace
     → new ≡ old ++ (body_codec version scene).write (boot, w)
 unfolding world_codec parts_codec progress_codec
 body_written version scene boot w old o1 o2 o3 o4 new p n u s l =
     let shapes = shapes_of scene in
-    rw (l, s, u, n, p) (regroup old (number_text w32 boot) (applied_codec.write w.world.applied) (moment_codec.write w.world.last_time) ((nodes_codec version scene).write (lists_in w.world)) ((buttons_codec version).write w.world.buttons) ((states_codec (length (kinds_in scene))).write w.states) ((lines_codec shapes).write w.world.trace))
+    rw (l, s, u, n, p) (regroup old (number_text w32 boot) ((applied_codec (numbers_of version)).write w.world.applied) (moment_codec.write w.world.last_time) ((nodes_codec version scene).write (lists_in w.world)) ((buttons_codec version).write w.world.buttons) ((states_codec (length (kinds_in scene))).write w.states) ((lines_codec version shapes).write w.world.trace))
 
 -- ---- exactness
 
@@ -133,11 +134,11 @@ newest_set set len = and_true _ _ (eq-eqb _ _ len) (lt-ltb _ _ (number_small set
 
 parts_exact : (version : Version) (scene : SceneView) → IsExact (parts_codec version scene)
 unfolding parts_codec
-parts_exact version scene = named_exact _ _ _ (λ a. refl) (λ b. refl) (pair_exact _ _ (nodes_exact version scene) (pair_exact _ _ (buttons_exact version) (pair_exact _ _ (states_exact (length (kinds_in scene))) (lines_exact (shapes_of scene)))))
+parts_exact version scene = named_exact _ _ _ (λ a. refl) (λ b. refl) (pair_exact _ _ (nodes_exact version scene) (pair_exact _ _ (buttons_exact version) (pair_exact _ _ (states_exact (length (kinds_in scene))) (lines_exact version (shapes_of scene)))))
 
 pub world_exact : (version : Version) (scene : SceneView) → IsExact (world_codec version scene)
 unfolding world_codec
-world_exact version scene = named_exact world_of (λ w. (w.world.applied, (w.world.last_time, parts_in w))) _ (λ a. refl) (λ b. refl) (pair_exact _ _ applied_exact (pair_exact _ _ moment_exact (parts_exact version scene)))
+world_exact version scene = named_exact world_of (λ w. (w.world.applied, (w.world.last_time, parts_in w))) _ (λ a. refl) (λ b. refl) (pair_exact _ _ (applied_exact (numbers_of version)) (pair_exact _ _ moment_exact (parts_exact version scene)))
 
 pub body_exact : (version : Version) (scene : SceneView) → IsExact (body_codec version scene)
 body_exact version scene = pair_exact _ _ (number_exact w32 wide32) (world_exact version scene)

@@ -1,5 +1,5 @@
 -- The part of a node after its fields in a snapshot, by the node's type (our choice).
-use Rattle.std.specs.Prelude.{ℕ, ◌&&◌, Bool, true, false, is_none, List, [], Option, Some, None}
+use Rattle.std.specs.Prelude.{ℕ, ◌&&◌, Bool, false, is_none, List, [], Option, Some, None}
 use Rattle.std.specs.Option.{option_map}
 use Rattle.byte_codec.specs.Codec.{Codec, refined, worded, named, pair}
 use Rattle.x3d_values.specs.declared.fields.Position.{Position}
@@ -19,7 +19,7 @@ use Rattle.sensor_plane.specs.Planes.{Plane}
 use Rattle.sensor_plane.specs.Pointing.{is_no_sensor, plane_fits, touch_fits}
 use Rattle.snapshot_core.specs.declared.beside.Beside.{Beside}
 use Rattle.snapshot_core.specs.declared.version.Version.{Version}
-use Rattle.snapshot_core.specs.declared.version.Version.TheVariants.{One, Two}
+use Rattle.snapshot_core.specs.declared.version.Version.TheVariants.{One, Two, Three}
 use Rattle.snapshot_core.specs.Opening.{viewers_of}
 
 -- a value without bytes: x and no other value
@@ -104,10 +104,14 @@ abbrev pub plane_text : PointingState → List ℕ
 plane_text (state.Plane plane) = drags_codec.write plane
 plane_text _ = []
 
+abbrev pub plane_state : Codec PointingState
+plane_state = worded plane_text (λ plane. Some (state.Plane plane)) plane_fits drags_codec
+
 -- version 1 has no PlaneSensors
 unfoldable pub plane_part : Version → Codec PointingState
 plane_part One = never
-plane_part Two = worded plane_text (λ plane. Some (state.Plane plane)) plane_fits drags_codec
+plane_part Two = plane_state
+plane_part Three = plane_state
 
 -- the pointing state of a node
 unfoldable pub pointing_part : Version → NodeType → Codec PointingState

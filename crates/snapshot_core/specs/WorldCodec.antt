@@ -4,11 +4,11 @@ use Rattle.byte_codec.specs.Codec.{Codec, refined, named, pair}
 use Rattle.x3d_values.specs.declared.ranges.TheConstants.{MAX_VIEWERS}
 use Rattle.snapshot_codec.specs.declared.head.Progress.{Progress}
 use Rattle.snapshot_codec.specs.declared.trace.TraceEntry.{TraceEntry}
-use Rattle.snapshot_codec.specs.Head.{applied_codec}
+use Rattle.snapshot_codec.specs.Inputs.{applied_codec}
 use Rattle.snapshot_codec.specs.Parts.{states_codec, viewer_set_codec}
 use Rattle.snapshot_codec.specs.Trace.{moment_codec, trace_codec, entry_text}
 use Rattle.snapshot_core.specs.declared.version.Version.{Version}
-use Rattle.snapshot_core.specs.Opening.{viewers_of}
+use Rattle.snapshot_core.specs.Opening.{numbers_of, viewers_of}
 use Rattle.sensor_core.specs.Parts.{number_of, over_of}
 use Rattle.scene_core.specs.Scene.{SceneView, shapes_of}
 use Rattle.scene_core.specs.Shape.{Shape}
@@ -56,11 +56,12 @@ entry_of line = record {
 }
 
 -- input, time, node, field, value
-abbrev pub line_text : TraceLine → List ℕ
-line_text line = entry_text (entry_of line).sent line.value
+abbrev pub line_text : Version → TraceLine → List ℕ
+line_text version line = entry_text (numbers_of version) (entry_of line).sent line.value
 
-unfoldable pub lines_codec : List Shape → Codec (List TraceLine)
-lines_codec shapes = named (map line_of) (map entry_of) (trace_codec (output_type shapes))
+unfoldable pub lines_codec : Version → List Shape → Codec (List TraceLine)
+lines_codec version shapes =
+    named (map line_of) (map entry_of) (trace_codec (numbers_of version) (output_type shapes))
 
 -- ---- a world
 
@@ -71,7 +72,7 @@ parts_codec version scene =
     (λ p. (p.nodes, (p.buttons, (p.states, p.trace))))
     (pair (nodes_codec version scene)
     (pair (buttons_codec version)
-    (pair (states_codec (length (kinds_in scene))) (lines_codec (shapes_of scene)))))
+    (pair (states_codec (length (kinds_in scene))) (lines_codec version (shapes_of scene)))))
 
 -- inputs applied, time of the last input, and the parts
 abbrev pub world_of : ℕ × (ℤ × WorldParts) → Scripted
@@ -105,7 +106,7 @@ parts_in w = record {
 unfoldable pub world_codec : Version → SceneView → Codec Scripted
 world_codec version scene =
     named world_of (λ w. (w.world.applied, (w.world.last_time, parts_in w)))
-    (pair applied_codec (pair moment_codec (parts_codec version scene)))
+    (pair (applied_codec (numbers_of version)) (pair moment_codec (parts_codec version scene)))
 
 -- a world with this progress and these parts
 abbrev pub world_with : Progress → WorldParts → Scripted

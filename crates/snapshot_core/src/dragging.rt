@@ -4,8 +4,7 @@ ghost use Rattle.std.specs.Prelude.{◌≡◌, ◌++◌, Some, None, if◌then�
 ghost use Rattle.std.specs.Option.{option_map};
 ghost use Rattle.sensor_plane.specs.Paths.{path_fits};
 ghost use Rattle.sensor_plane.specs.PlaneParts.{plane_of_parts};
-ghost use Rattle.snapshot_core.specs.declared.version.Version.TheVariants.{Two};
-ghost use Rattle.snapshot_core.specs.Beside.{drag_in, drag_bytes, plane_in, plane_bytes, drags_codec, plane_text, plane_part};
+ghost use Rattle.snapshot_core.specs.Beside.{drag_in, drag_bytes, plane_in, plane_bytes, drags_codec, plane_text, plane_state, plane_part};
 
 use crate::version::Version;
 use sensor_plane::{Drag, ListPath, PlaneParts, PlaneState, PointingState};
@@ -65,9 +64,8 @@ fn drags_of(bytes: &[u8]) -> Option<(PlaneState, &[u8])>
     Some((state, rest))
 }
 
-#[tactic(auto, unfolding(crate::specs::Beside::plane_part))]
 fn plane_state_of(bytes: &[u8]) -> Option<(PointingState, &[u8])>
-    ensures { option_map (λ x. (x.0, x.1.now)) result ≡ (plane_part Two).read bytes.now }
+    ensures { option_map (λ x. (x.0, x.1.now)) result ≡ plane_state.read bytes.now }
 {
     let Some((plane, rest)) = drags_of(bytes) else {
         return None;
@@ -82,7 +80,7 @@ pub(crate) fn plane_of(version: Version, bytes: &[u8]) -> Option<(PointingState,
 {
     match version {
         Version::One => None,
-        Version::Two => plane_state_of(bytes),
+        Version::Two | Version::Three => plane_state_of(bytes),
     }
 }
 
@@ -151,6 +149,6 @@ pub(crate) fn push_plane(
 {
     match version {
         Version::One => Ok(()),
-        Version::Two => push_plane_state(state, out),
+        Version::Two | Version::Three => push_plane_state(state, out),
     }
 }

@@ -23,7 +23,7 @@ pub enum SnapFault {
     Short,
     #[error("this is not a snapshot")]
     BadMagic,
-    #[error("the version of the snapshot is neither 1 nor 2")]
+    #[error("the version of the snapshot is not 1, 2 or 3")]
     BadVersion,
     #[error("the snapshot is of another scene")]
     WrongScene,

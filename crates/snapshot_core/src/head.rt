@@ -4,6 +4,7 @@ ghost use Rattle.std.specs.Prelude.{◌≡◌, ◌<◌, ◌^◌, ℕ, List, Some
 ghost use Rattle.std.specs.Int.{w32};
 ghost use Rattle.std.specs.Option.{option_map};
 ghost use Rattle.byte_codec.specs.Codec.{pair, number};
+ghost use Rattle.snapshot_codec.specs.Inputs.{input_codec};
 ghost use Rattle.scene_core.specs.Scene.{SceneView};
 ghost use Rattle.cascade_core.specs.Course.{Scripted};
 ghost use Rattle.snapshot_core.specs.Opening.{newest, version_number};
@@ -13,6 +14,7 @@ ghost use Rattle.snapshot_core.specs.ShotHead.{begins_as_shot, shot_head};
 
 use crate::version::version_in;
 use byte_codec::u32_of;
+use snapshot_codec::{Numbers, input_of};
 
 /// The first bytes of each snapshot.
 const MAGIC: &[u8; 4] = b"X3DW";
@@ -27,7 +29,7 @@ pub struct ShotHead {
     /// The number of the viewer's start.
     pub boot: u32,
     /// The number of inputs applied to the snapshot's world.
-    pub applied: u32,
+    pub applied: u64,
 }
 
 fn begins_as_shot(bytes: &[u8]) -> bool
@@ -37,18 +39,18 @@ fn begins_as_shot(bytes: &[u8]) -> bool
         && (&bytes[..4] == MAGIC.as_slice() && bytes[4] == version_in(bytes).number())
 }
 
-/// Reads two 32-bit numbers.
-fn words_of(bytes: &[u8]) -> Option<((u32, u32), &[u8])>
+/// Reads a boot, and the number of inputs applied.
+fn words_of(numbers: Numbers, bytes: &[u8]) -> Option<((u32, u64), &[u8])>
     ensures { option_map (λ r. (r.0, r.1.now)) result
-        ≡ (pair (number w32) (number w32)).read bytes.now }
+        ≡ (pair (number w32) (input_codec numbers)).read bytes.now }
 {
-    let Some((first, rest)) = u32_of(bytes) else {
+    let Some((boot, rest)) = u32_of(bytes) else {
         return None;
     };
-    let Some((second, rest)) = u32_of(rest) else {
+    let Some((applied, rest)) = input_of(numbers, rest) else {
         return None;
     };
-    Some(((first, second), rest))
+    Some(((boot, applied), rest))
 }
 
 fn head_in(bytes: &[u8]) -> Option<ShotHead>
@@ -57,11 +59,12 @@ fn head_in(bytes: &[u8]) -> Option<ShotHead>
     if !begins_as_shot(bytes) {
         return None;
     }
-    let Some(((boot, applied), _rest)) = words_of(&bytes[37..]) else {
+    let version = version_in(bytes);
+    let Some(((boot, applied), _rest)) = words_of(version.numbers(), &bytes[37..]) else {
         return None;
     };
     Some(ShotHead {
-        version: version_in(bytes).number(),
+        version: version.number(),
         boot,
         applied,
     })

@@ -1,13 +1,13 @@
 //! The trace as bytes.
 
 ghost use Rattle.std.specs.Prelude.{◌≡◌, ◌++◌, List, OnOk};
-ghost use Rattle.std.specs.Option.{option_map};
 ghost use Rattle.x3d_lists.specs.Extends.{Extends};
 ghost use Rattle.scene_core.specs.Scene.{shapes_of};
 ghost use Rattle.scene_core.specs.Shape.{Shape, row_entry};
 ghost use Rattle.snapshot_codec.specs.Reads.{ReadsPart};
 ghost use Rattle.snapshot_core.specs.WorldCodec.{sent_type, output_type, lines_codec};
 
+use crate::version::Version;
 use cascade_core::{LineHead, Trace, WritesLines};
 use scene_core::{End, NodeField, Scene};
 use snapshot_codec::{
@@ -72,21 +72,23 @@ impl TakesEntries for ReadTrace {
     }
 }
 
-/// Reads the trace of the scene. Returns it with the rest of the bytes.
+/// Reads the trace of the scene, in a snapshot of this version. Returns it with the rest of the
+/// bytes.
 pub(crate) fn lines_of<'a>(
     alloc: Global,
+    version: Version,
     scene: &Scene,
     bytes: &'a [u8],
 ) -> Result<(Trace, &'a [u8]), PartFault>
     ensures { ReadsPart (λ x. (x.0, x.1.now)) result
-        ((lines_codec (shapes_of scene.now)).read bytes.now) }
+        ((lines_codec version (shapes_of scene.now)).read bytes.now) }
 {
     let outputs = SceneOutputs { scene };
     let mut read = ReadTrace {
         alloc,
         trace: Trace::new(alloc),
     };
-    match trace_of(alloc, &outputs, bytes, &mut read) {
+    match trace_of(alloc, version.numbers(), &outputs, bytes, &mut read) {
         Ok(rest) => Ok((read.trace, rest)),
         Err(fault) => {
             drop(read);
@@ -95,14 +97,16 @@ pub(crate) fn lines_of<'a>(
     }
 }
 
-/// A writer of lines as bytes.
+/// A writer of lines as bytes, for a snapshot of a version.
 #[derive(Clone, Copy)]
-struct LineBytes;
+struct LineBytes {
+    version: Version,
+}
 
 impl WritesLines for LineBytes {
     ghost use Rattle.snapshot_core.specs.WorldCodec.{line_text};
 
-    ghost text = { λ _ line. line_text line };
+    ghost text = { λ bytes line. line_text bytes.version line };
 
     fn write_line(
         &mut self,
@@ -116,17 +120,21 @@ impl WritesLines for LineBytes {
             node: head.source.node,
             field: head.source.field,
         };
-        push_entry(sent, value, out)
+        push_entry(self.version.numbers(), sent, value, out)
     }
 }
 
-/// Appends a trace. On `AllocError`, `out` may hold a part of it.
-pub(crate) fn push_lines(trace: &Trace, out: &mut Vec<u8>) -> Result<(), AllocError>
-    ensures ok { (shapes : List Shape)
-        → OnOk result (out.new.items ≡ out.old.items ++ (lines_codec shapes).write trace.now) }
+/// Appends a trace, for a snapshot of this version. On `AllocError`, `out` may hold a part of it.
+pub(crate) fn push_lines(
+    version: Version,
+    trace: &Trace,
+    out: &mut Vec<u8>,
+) -> Result<(), AllocError>
+    ensures ok { (shapes : List Shape) → OnOk result (out.new.items
+        ≡ out.old.items ++ (lines_codec version shapes).write trace.now) }
     ensures kept { Extends out.old.items out.new.items }
 {
     push_entry_count(trace.len(), out)?;
-    trace.write(&mut LineBytes, out)?;
+    trace.write(&mut LineBytes { version }, out)?;
     Ok(())
 }

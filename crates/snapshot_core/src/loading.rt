@@ -22,8 +22,8 @@ use std::alloc::Global;
 #[derive(Clone, Copy, PartialEq, Eq)]
 pub struct Saved {
     pub boot: u32,
-    /// Up to 2^20.
-    pub applied: u32,
+    /// Up to 2^48 - 1.
+    pub applied: u64,
 }
 
 /// Reads the boot and the world from the body of a snapshot of this version, for a viewer that

@@ -3,7 +3,7 @@
 ghost use Rattle.std.specs.Prelude.{◌≡◌};
 ghost use Rattle.snapshot_core.specs.Opening.{newest, version_in};
 
-use snapshot_codec::Viewers;
+use snapshot_codec::{Numbers, Viewers};
 
 /// A version of snapshots that can be read.
 #[derive(Clone, Copy, PartialEq, Eq)]
@@ -12,11 +12,13 @@ pub enum Version {
     One,
     /// For 64 viewers.
     Two,
+    /// For up to 2^48 - 1 inputs; the others are for up to 2^20.
+    Three,
 }
 
 impl Version {
     ghost use Rattle.std.specs.Prelude.{◌≡◌};
-    ghost use Rattle.snapshot_core.specs.Opening.{version_number, version_of, viewers_of};
+    ghost use Rattle.snapshot_core.specs.Opening.{numbers_of, version_number, version_of, viewers_of};
 
     /// Returns the number of the version: the fifth byte of its snapshots.
     pub fn number(self) -> u8
@@ -25,6 +27,7 @@ impl Version {
         match self {
             Version::One => 1,
             Version::Two => 2,
+            Version::Three => 3,
         }
     }
 
@@ -35,6 +38,7 @@ impl Version {
         match number {
             1 => Some(Version::One),
             2 => Some(Version::Two),
+            3 => Some(Version::Three),
             _ => None,
         }
     }
@@ -46,6 +50,18 @@ impl Version {
         match self {
             Version::One => Viewers::Sixteen,
             Version::Two => Viewers::SixtyFour,
+            Version::Three => Viewers::SixtyFour,
+        }
+    }
+
+    /// Returns how many bits the numbers of inputs have in snapshots of this version.
+    pub fn numbers(self) -> Numbers
+        ensures { result ≡ numbers_of self }
+    {
+        match self {
+            Version::One => Numbers::Short,
+            Version::Two => Numbers::Short,
+            Version::Three => Numbers::Long,
         }
     }
 }
@@ -54,7 +70,7 @@ impl Version {
 pub fn newest() -> Version
     ensures { result ≡ newest }
 {
-    Version::Two
+    Version::Three
 }
 
 /// Returns the version that the fifth byte names. Returns the newest version if there is no such

@@ -65,7 +65,7 @@ fn parts_of<'a>(
             return Err(fault);
         }
     };
-    let (trace, rest) = match lines_of(alloc, scene, rest) {
+    let (trace, rest) = match lines_of(alloc, version, scene, rest) {
         Ok(read) => read,
         Err(fault) => {
             drop(nodes);
@@ -120,7 +120,7 @@ fn world_of<'a>(
     ensures { ReadsPart (λ x. (booted x.0, x.1.now)) result
         ((body_codec version scene.now).read bytes.now) }
 {
-    let Some((progress, rest)) = progress_of(bytes) else {
+    let Some((progress, rest)) = progress_of(version.numbers(), bytes) else {
         return Err(PartFault::NotCanonical);
     };
     let (parts, rest) = parts_of(alloc, version, scene, scripts, rest)?;
@@ -169,10 +169,10 @@ pub(crate) fn push_body(
         applied: world.applied,
         last_time: world.last_time,
     };
-    push_progress(progress, out)?;
+    push_progress(version.numbers(), progress, out)?;
     push_nodes(version, scene, world, out)?;
     push_buttons(version, &world.buttons, out)?;
     push_states(states, out)?;
-    push_lines(&world.trace, out)?;
+    push_lines(version, &world.trace, out)?;
     Ok(())
 }

@@ -74,7 +74,7 @@ impl fmt::Display for HostEnd {
 /// The result of a viewer's run, in words.
 #[derive(Drop)]
 struct ViewEnd {
-    inputs: u32,
+    inputs: u64,
     counts: Counts,
 }
 
@@ -168,7 +168,7 @@ pub fn tell_strange<R: Eprint>(rt: &R, verbose: bool, strange: u64) {
 }
 
 /// Reports the result of a viewer's run, if `verbose` is set.
-pub fn tell_view_end<R: Eprint>(rt: &R, verbose: bool, inputs: u32, counts: Counts) {
+pub fn tell_view_end<R: Eprint>(rt: &R, verbose: bool, inputs: u64, counts: Counts) {
     if verbose {
         let _told = rt.eprintln(ViewEnd { inputs, counts });
     }
@@ -176,7 +176,7 @@ pub fn tell_view_end<R: Eprint>(rt: &R, verbose: bool, inputs: u32, counts: Coun
 
 /// How many inputs the world has that a host keeps, in words.
 #[derive(Drop)]
-struct KeptWorld(u32);
+struct KeptWorld(u64);
 
 impl fmt::Display for KeptWorld {
     fn fmt<W: fmt::Write>(&self, f: &mut fmt::Formatter<W>) -> fmt::Result {
@@ -185,7 +185,7 @@ impl fmt::Display for KeptWorld {
 }
 
 /// Reports how many inputs the world has that a host keeps, if `verbose` is set.
-pub fn tell_kept<R: Eprint>(rt: &R, verbose: bool, inputs: u32) {
+pub fn tell_kept<R: Eprint>(rt: &R, verbose: bool, inputs: u64) {
     if verbose {
         let _told = rt.eprintln(KeptWorld(inputs));
     }

@@ -39,7 +39,7 @@ pub struct Turning {
     pub turns: HostTurns,
     /// How many of the last inputs keep their lines of the trace, if it keeps the world; `None`
     /// keeps all.
-    pub forget: Option<u32>,
+    pub forget: Option<u64>,
 }
 
 /// What a host begins with.

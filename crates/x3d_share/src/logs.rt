@@ -141,7 +141,7 @@ pub fn host_over_log(
 fn made_back(
     rt: &HostRuntime,
     bytes: &[u8],
-    until: Option<u32>,
+    until: Option<u64>,
     file: &str,
 ) -> Result<(), LogFault> {
     // No file is made for a log that is refused.
@@ -157,7 +157,7 @@ fn made_back(
 }
 
 /// Reads the file of a log, and makes another of its inputs, or of the first of them, in a file.
-pub fn recall_into(rt: &HostRuntime, until: Option<u32>, file: &str) -> Result<(), End> {
+pub fn recall_into(rt: &HostRuntime, until: Option<u64>, file: &str) -> Result<(), End> {
     match read_whole(rt.alloc(), &mut rt.reader()) {
         Ok(bytes) => Ok(made_back(rt, bytes.as_slice(), until, file)?),
         Err(fault) => Err(End::from(RunFault::from(fault))),
@@ -169,7 +169,7 @@ pub fn recall_into(rt: &HostRuntime, until: Option<u32>, file: &str) -> Result<(
 fn text_of(
     alloc: Global,
     bytes: &[u8],
-    until: Option<u32>,
+    until: Option<u64>,
     info: bool,
 ) -> Result<Vec<u8>, LogFault> {
     if info {
@@ -181,7 +181,7 @@ fn text_of(
 
 /// Reads the file of a log, and prints its inputs, or the first of them, as the steps of a job; or
 /// with `info` what the log has.
-pub fn recall(rt: &HostRuntime, until: Option<u32>, info: bool) -> Result<(), End> {
+pub fn recall(rt: &HostRuntime, until: Option<u64>, info: bool) -> Result<(), End> {
     let bytes = match read_whole(rt.alloc(), &mut rt.reader()) {
         Ok(bytes) => bytes,
         Err(fault) => return Err(End::from(RunFault::from(fault))),

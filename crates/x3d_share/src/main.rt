@@ -162,7 +162,7 @@ fn serve_as(rt: &HostRuntime, words: &[&str], asked: &ServeOrder) -> Result<(), 
 }
 
 /// Makes a log of the inputs of another in the file that the words name.
-fn recall_as(rt: &HostRuntime, words: &[&str], until: Option<u32>) -> Result<(), End> {
+fn recall_as(rt: &HostRuntime, words: &[&str], until: Option<u64>) -> Result<(), End> {
     match text_of(rt.alloc(), words, "new-log")? {
         Some(file) => recall_into(rt, until, file),
         None => Err(End::from(OrderFault::Words)),

@@ -71,7 +71,7 @@ fn view_plan(asked: &ViewOrder, boot: u32) -> ViewPlan {
 }
 
 /// Returns the last input that a viewer takes, if there is a last one.
-fn last_input(asked: &ViewOrder) -> Option<u32> {
+fn last_input(asked: &ViewOrder) -> Option<u64> {
     match asked.end {
         ViewEnd::Until(_) => None,
         ViewEnd::Exactly(last) => Some(last),

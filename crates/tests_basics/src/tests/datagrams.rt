@@ -58,6 +58,34 @@ const FULL: &[u8] = b"X3DS\x01\x06abcdefghijklmnopqrstuvwxyzABCDEF\
     abcdefghijklmnopqrstuvwxyz0123456789ABCDEFGHIJKL\
     abcdefghijklmnopqrstuvwxyz0123456789ABCDEFGHIJKL";
 
+/// Input 2^20 + 1, a clock at 1 second.
+const LONG_CLOCK: &[u8] = b"X3DS\x01\x09abcdefghijklmnopqrstuvwxyzABCDEF\
+    \x00\x00\x00\x00\x00\x10\x00\x01\x00\x00\x00\x00\x00\x0f\x42\x40\x00";
+
+/// Input 2^48 - 1, with the point of `POINTER` and its time.
+const LONG_POINTER: &[u8] = b"X3DS\x01\x09abcdefghijklmnopqrstuvwxyzABCDEF\
+    \x00\x00\xff\xff\xff\xff\xff\xff\x00\x00\x00\x00\x00\x0f\x42\x41\x01\x03\x01\
+    \x00\x00\x00\x00\x00\x07\xa1\x20\xff\xff\xff\xff\xff\xf0\xbd\xc0\
+    \x00\x00\x00\x00\x00\x98\x96\x80\
+    \x00\x00\x00\x00\x00\x00\x00\x00\x00\x00\x00\x00\x00\x00\x00\x00\
+    \xff\xff\xff\xff\xff\xf0\xbd\xc0";
+
+/// Viewer 1 asks for the inputs from 2^20 + 2 on.
+const LONG_ASK: &[u8] = b"X3DS\x01\x0aabcdefghijklmnopqrstuvwxyzABCDEF\
+    \x01\x00\x00\x00\x00\x00\x10\x00\x02";
+
+/// The host has the inputs from 2^48 on, which are none.
+const LONG_FLOOR: &[u8] = b"X3DS\x01\x0babcdefghijklmnopqrstuvwxyzABCDEF\
+    \x00\x01\x00\x00\x00\x00\x00\x00";
+
+/// The last piece, of 8 bytes, of a snapshot of 392 bytes with 2^48 - 1 inputs applied, of boot 1.
+const LONG_LAST: &[u8] = b"X3DS\x01\x0cabcdefghijklmnopqrstuvwxyzABCDEF\
+    \x00\x00\x00\x01\x00\x00\xff\xff\xff\xff\xff\xff\x00\x00\x01\x88\x00\x00\x00\x02\
+    snapshot";
+
+/// The largest number of an input.
+const LAST_INPUT: u64 = (1 << 48) - 1;
+
 /// Returns the ray from 0.5 -1 10 in direction 0 0 -1.
 fn ray() -> Ray {
     let origin = Vec3 {
@@ -80,20 +108,21 @@ fn is_both_ways(body: Body, bytes: &[u8]) -> bool {
     written && decode(bytes) == Ok(message)
 }
 
-/// Returns the piece of this number, with these bytes, of the snapshot of 392 bytes.
-fn piece_of(index: u32, bytes: &[u8]) -> Option<Body> {
-    if !is_piece(1, 2, 392, index) {
+/// Returns the piece of this number, with these bytes, of the snapshot of 392 bytes with this many
+/// inputs applied.
+fn piece_of(applied: u64, index: u32, bytes: &[u8]) -> Option<Body> {
+    if !is_piece(1, applied, 392, index) {
         return None;
     }
     if bytes.len() != piece_size(392, index) as usize {
         return None;
     }
-    Some(Body::Piece(Piece::new(1, 2, 392, index, bytes)))
+    Some(Body::Piece(Piece::new(1, applied, 392, index, bytes)))
 }
 
 /// Reports whether that piece is written as these bytes of a datagram and read from them.
-fn is_piece_both_ways(index: u32, bytes: &[u8], datagram: &[u8]) -> bool {
-    match piece_of(index, bytes) {
+fn is_piece_both_ways(applied: u64, index: u32, bytes: &[u8], datagram: &[u8]) -> bool {
+    match piece_of(applied, index, bytes) {
         Some(body) => is_both_ways(body, datagram),
         None => false,
     }
@@ -111,10 +140,27 @@ fn each_message_has_its_bytes(rt: HostRuntime) {
     let ack = Ack::new(63, u32::MAX, 0x0102_0304);
     holds(&rt, is_both_ways(Body::Ack(ack), ACK));
     holds(&rt, is_both_ways(Body::Floor(Floor::new(3)), FLOOR));
-    holds(&rt, is_piece_both_ways(2, b"snapshot", LAST));
+    holds(&rt, is_piece_both_ways(2, 2, b"snapshot", LAST));
     holds(
         &rt,
-        is_piece_both_ways(1, FULL.get(54..).unwrap_or(b""), FULL),
+        is_piece_both_ways(2, 1, FULL.get(54..).unwrap_or(b""), FULL),
+    );
+}
+
+#[test]
+fn a_large_number_has_8_bytes(rt: HostRuntime) {
+    let clock = Stamped::new((1 << 20) + 1, 1_000_000, Cause::Clock);
+    holds(&rt, is_both_ways(Body::Input(clock), LONG_CLOCK));
+    let pointer = Cause::Pointer(Pointer::new(3, true, ray()));
+    let pressed = Stamped::new(LAST_INPUT, 1_000_001, pointer);
+    holds(&rt, is_both_ways(Body::Input(pressed), LONG_POINTER));
+    let ask = Ask::new(1, (1 << 20) + 2);
+    holds(&rt, is_both_ways(Body::Ask(ask), LONG_ASK));
+    let floor = Floor::new(LAST_INPUT + 1);
+    holds(&rt, is_both_ways(Body::Floor(floor), LONG_FLOOR));
+    holds(
+        &rt,
+        is_piece_both_ways(LAST_INPUT, 2, b"snapshot", LONG_LAST),
     );
 }
 
@@ -143,7 +189,7 @@ fn a_snapshot_has_as_many_pieces(rt: HostRuntime) {
 
 /// Returns the length of the datagram of the piece of this number with these bytes.
 fn datagram_len(index: u32, bytes: &[u8]) -> Option<usize> {
-    let body = piece_of(index, bytes)?;
+    let body = piece_of(2, index, bytes)?;
     Some(encode(&Message { mark: MARK, body }).len())
 }
 
@@ -168,6 +214,11 @@ pub(super) enum Of {
     Floor,
     Last,
     Full,
+    LongClock,
+    LongPointer,
+    LongAsk,
+    LongFloor,
+    LongLast,
 }
 
 pub(super) fn bytes_of(datagram: Of) -> &'static [u8] {
@@ -180,6 +231,11 @@ pub(super) fn bytes_of(datagram: Of) -> &'static [u8] {
         Of::Floor => FLOOR,
         Of::Last => LAST,
         Of::Full => FULL,
+        Of::LongClock => LONG_CLOCK,
+        Of::LongPointer => LONG_POINTER,
+        Of::LongAsk => LONG_ASK,
+        Of::LongFloor => LONG_FLOOR,
+        Of::LongLast => LONG_LAST,
     }
 }
 

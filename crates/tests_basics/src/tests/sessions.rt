@@ -253,8 +253,9 @@ fn is_heard(session: &Session, number: u64) -> bool {
 #[test]
 fn a_peer_hears_its_session(rt: HostRuntime) -> Result<(), Fail> {
     assert!(rt; is_heard(&SESSION, 1));
-    assert!(rt; is_heard(&SESSION, 1 << 20));
-    assert!(rt; !is_heard(&SESSION, (1 << 20) + 1));
+    assert!(rt; is_heard(&SESSION, (1 << 20) + 1));
+    assert!(rt; is_heard(&SESSION, (1 << 48) - 1));
+    assert!(rt; !is_heard(&SESSION, 1 << 48));
     assert!(rt; !is_heard(&RUN, 1));
     let floor = lifted(&Body::Floor(Floor::new(1)));
     assert!(rt; floor == Some(Body2::Floor(Number::new(1))));

@@ -1,16 +1,17 @@
 //! Parts of a world, with their bytes by hand.
 
+mod sensors;
+
 use super::{Row, all_hold, holds};
-use arrayvec::ArrayVec;
 use snapshot_codec::{
-    Drag, HeadFault, KeptField, Outputs, Path, Plane, Progress, SentAt, Touch, TraceEntry, Viewers,
-    kept_fields_of, open, plane_of, push_cycle, push_digest, push_entry, push_entry_count,
-    push_front, push_kept_fields, push_plane, push_position, push_progress, push_state, push_touch,
-    push_viewer_set, scene_mark, states_of, touch_of, trace_of, viewer_set_of,
+    HeadFault, KeptField, Numbers, Outputs, Progress, SentAt, Touch, TraceEntry, Viewers,
+    kept_fields_of, open, push_cycle, push_digest, push_entry, push_entry_count, push_front,
+    push_kept_fields, push_position, push_progress, push_state, push_touch, push_viewer_set,
+    scene_mark, states_of, trace_of,
 };
 use std::alloc::Global;
 use std::process::Abort;
-use x3d_values::{FieldType, Items, Position, Value, Vec3};
+use x3d_values::{FieldType, Items, Position, Value};
 
 const MARK: [u8; 32] = *b"abcdefghijklmnopqrstuvwxyzABCDEF";
 
@@ -23,15 +24,20 @@ const EMPTY_OF_64: &[u8] = b"\x00\x00\x00\x01\x00\x00\x00\x00\
     \x00\x00\x00\x00\x00\x00\x00\x00\x00\x00\x00\x00\x00\x00\x00\x00\
     \x00\x00\x00\x00\x00\x00\x00\x00";
 
+/// Like `EMPTY_OF_64`, with 4 bytes more for how many inputs were applied.
+const EMPTY_IN_LONG: &[u8] = b"\x00\x00\x00\x01\x00\x00\x00\x00\x00\x00\x00\x00\
+    \x00\x00\x00\x00\x00\x00\x00\x00\x00\x00\x00\x00\x00\x00\x00\x00\
+    \x00\x00\x00\x00\x00\x00\x00\x00";
+
 /// Appends the snapshot of an empty world. Reports whether memory is granted.
-fn push_empty(version: u8, of: Viewers, out: &mut Vec<u8>) -> bool {
+fn push_empty(version: u8, numbers: Numbers, of: Viewers, out: &mut Vec<u8>) -> bool {
     let progress = Progress {
         boot: 1,
         applied: 0,
         last_time: 0,
     };
     let front = push_front(version, &MARK, out).is_ok();
-    let middle = push_progress(progress, out).is_ok();
+    let middle = push_progress(numbers, progress, out).is_ok();
     let viewers = push_viewer_set(of, 0, out).is_ok();
     let count = push_entry_count(0, out).is_ok();
     let digest = push_digest(0, out).is_ok();
@@ -48,30 +54,31 @@ fn opened(version: u8, shot: &[u8], body: &[u8]) -> Option<HeadFault> {
     }
 }
 
-/// A version and its viewers, the body of the snapshot of an empty world, and the length of the
-/// snapshot.
-struct Empty(u8, Viewers, &'static [u8], usize);
+/// A version, its numbers of inputs and its viewers, the body of the snapshot of an empty world,
+/// and the length of the snapshot.
+struct Empty(u8, Numbers, Viewers, &'static [u8], usize);
 
 /// The snapshot opens to that body in its own version, and in no other.
 impl Row for Empty {
     fn holds(&self, alloc: Global) -> bool {
         let mut out = Vec::new(alloc);
-        let pushed = push_empty(self.0, self.1, &mut out);
+        let pushed = push_empty(self.0, self.1, self.2, &mut out);
         let len = out.len();
-        let is_opened = opened(self.0, out.as_slice(), self.2) == None;
-        let other = opened(3, out.as_slice(), self.2) == Some(HeadFault::BadVersion);
+        let is_opened = opened(self.0, out.as_slice(), self.3) == None;
+        let other = opened(4, out.as_slice(), self.3) == Some(HeadFault::BadVersion);
         drop(out);
-        pushed && len == self.3 && is_opened && other
+        pushed && len == self.4 && is_opened && other
     }
 }
 
-static EMPTIES: [Empty; 2] = [
-    Empty(1, Viewers::Sixteen, EMPTY, 95),
-    Empty(2, Viewers::SixtyFour, EMPTY_OF_64, 101),
+static EMPTIES: [Empty; 3] = [
+    Empty(1, Numbers::Short, Viewers::Sixteen, EMPTY, 95),
+    Empty(2, Numbers::Short, Viewers::SixtyFour, EMPTY_OF_64, 101),
+    Empty(3, Numbers::Long, Viewers::SixtyFour, EMPTY_IN_LONG, 105),
 ];
 
 #[test]
-fn an_empty_world_has_95_bytes_or_101(rt: HostRuntime) {
+fn an_empty_world_has_95_bytes_or_101_or_105(rt: HostRuntime) {
     all_hold(&rt, rt.alloc(), &EMPTIES);
 }
 
@@ -148,9 +155,9 @@ const TOUCH: Touch = Touch {
     presser: Some(15),
 };
 
-fn push_cause(out: &mut Vec<u8>) -> bool {
+fn push_cause(numbers: Numbers, sent: SentAt, out: &mut Vec<u8>) -> bool {
     let value = Value::SFBool(true);
-    let pushed = push_entry(SENT, &value, out).is_ok();
+    let pushed = push_entry(numbers, sent, &value, out).is_ok();
     drop(value);
     pushed
 }
@@ -158,7 +165,7 @@ fn push_cause(out: &mut Vec<u8>) -> bool {
 /// Appends the parts. Reports whether memory is granted.
 fn push_parts(out: &mut Vec<u8>) -> bool {
     let count = push_entry_count(1, out).is_ok();
-    let event = push_cause(out);
+    let event = push_cause(Numbers::Short, SENT, out);
     let two = push_state(&[-1, 2], out).is_ok();
     let none = push_state(&[], out).is_ok();
     let cycle = push_cycle(Some(258), out).is_ok();
@@ -193,7 +200,7 @@ fn are_states(alloc: Global, bytes: &[u8]) -> bool {
 /// Reports whether the events and the states are read, the first event as it was sent.
 fn are_as_sent(alloc: Global) -> bool {
     let mut entries: Items<TraceEntry> = Items::new(alloc);
-    let read = match trace_of(alloc, &Switches, PARTS, &mut entries) {
+    let read = match trace_of(alloc, Numbers::Short, &Switches, PARTS, &mut entries) {
         Ok(rest) => are_states(alloc, rest),
         Err(_) => false,
     };
@@ -208,143 +215,42 @@ fn parts_have_their_bytes(rt: HostRuntime) {
     holds(&rt, are_as_sent(rt.alloc()));
 }
 
-/// A touch with two of 64 viewers over it; the last viewer presses.
-const TOUCH_OF_64: &[u8] = b"\x80\x00\x00\x00\x00\x00\x00\x01\x3f";
+/// The number of events, and one event, by input 2^20 + 1 in 8 bytes.
+const LATE: &[u8] = b"\x00\x00\x00\x00\x00\x00\x00\x01\
+    \x00\x00\x00\x00\x00\x10\x00\x01\x00\x00\x00\x00\x00\x0f\x42\x40\
+    \x00\x00\x00\x02\x00\x03\x01";
 
-/// Reports whether that touch is written as these bytes and read from them.
-fn is_touch_of_64(alloc: Global) -> bool {
-    let touch = Touch {
-        over: 1 << 63 | 1,
-        presser: Some(63),
-    };
+const SENT_LATE: SentAt = SentAt {
+    input: (1 << 20) + 1,
+    time: 1_000_000,
+    node: 2,
+    field: 3,
+};
+
+/// Reports whether that event is written as these bytes.
+fn is_written_late(alloc: Global) -> bool {
     let mut out = Vec::new(alloc);
-    let pushed = push_touch(Viewers::SixtyFour, touch, &mut out).is_ok();
-    let same = out.as_slice() == TOUCH_OF_64;
-    let read = touch_of(Viewers::SixtyFour, out.as_slice()) == Some((touch, &[]));
+    let count = push_entry_count(1, &mut out).is_ok();
+    let event = push_cause(Numbers::Long, SENT_LATE, &mut out);
+    let same = out.as_slice() == LATE;
     drop(out);
-    pushed && same && read
+    count && event && same
 }
 
-#[test]
-fn a_touch_has_its_bytes(rt: HostRuntime) {
-    holds(&rt, is_touch_of_64(rt.alloc()));
-    let below = b"\x00\x00\x00\x00\x00\x00\x00\x00\x40";
-    holds(&rt, touch_of(Viewers::SixtyFour, below).is_none());
-    holds(&rt, touch_of(Viewers::Sixteen, b"\x00\x00\x10").is_none());
-    holds(&rt, viewer_set_of(Viewers::SixtyFour, &[255; 7]).is_none());
-}
-
-/// Two PlaneSensors. Viewer 63 is over the first and presses it, from 1 -0.000001 0 on, with
-/// translation 2 0 0, on the path to the second root and its first child. No viewer is over the
-/// second.
-const PLANES: &[u8] = b"\x80\x00\x00\x00\x00\x00\x00\x00\x3f\
-    \x00\x00\x00\x00\x00\x0f\x42\x40\xff\xff\xff\xff\xff\xff\xff\xff\
-    \x00\x00\x00\x00\x00\x00\x00\x00\x00\x00\x00\x00\x00\x1e\x84\x80\
-    \x00\x00\x00\x00\x00\x00\x00\x00\x00\x00\x00\x00\x00\x00\x00\x00\
-    \x02\x00\x00\x00\x01\x00\x00\x00\x00\
-    \x00\x00\x00\x00\x00\x00\x00\x00\xff";
-
-fn pressed() -> Plane {
-    Plane {
-        over: 1 << 63,
-        drag: Some(Drag {
-            presser: 63,
-            start: Vec3 {
-                x: 1_000_000,
-                y: -1,
-                z: 0,
-            },
-            last: Vec3 {
-                x: 2_000_000,
-                y: 0,
-                z: 0,
-            },
-            path: Path::new(&[1, 0]),
-        }),
-    }
-}
-
-/// Reports whether the two sensors are written as these bytes.
-fn are_planes(alloc: Global) -> bool {
-    let mut out = Vec::new(alloc);
-    let pressed = push_plane(&pressed(), &mut out).is_ok();
-    let nobody = Plane {
-        over: 0,
-        drag: None,
+/// Reports whether that event is read from these bytes, with none left.
+fn is_read_late(alloc: Global) -> bool {
+    let mut entries: Items<TraceEntry> = Items::new(alloc);
+    let read = match trace_of(alloc, Numbers::Long, &Switches, LATE, &mut entries) {
+        Ok(rest) => rest.is_empty(),
+        Err(_) => false,
     };
-    let none = push_plane(&nobody, &mut out).is_ok();
-    let same = out.as_slice() == PLANES;
-    drop(out);
-    pressed && none && same
-}
-
-/// Reports whether a viewer presses, on this path.
-fn is_way(drag: &Option<Drag>, way: &[u32]) -> bool {
-    match drag {
-        Some(drag) => drag.path.as_slice() == way,
-        None => false,
-    }
-}
-
-/// Reports whether a pressed sensor is read, with `behind` bytes after it.
-fn is_pressed(bytes: &[u8], behind: usize) -> bool {
-    match plane_of(bytes) {
-        Some((plane, rest)) => is_way(&plane.drag, &[1, 0]) && rest.len() == behind,
-        None => false,
-    }
+    let first = entries.get(0).map(|entry| entry.sent);
+    drop(entries);
+    read && first == Some(SENT_LATE)
 }
 
 #[test]
-fn drags_have_their_bytes(rt: HostRuntime) {
-    holds(&rt, are_planes(rt.alloc()));
-    holds(&rt, is_pressed(PLANES, 9));
-    holds(&rt, plane_of(&PLANES[..65]).is_none());
-}
-
-/// Returns the bytes of a PlaneSensor that no viewer is over, with this byte for its presser, this
-/// height of the point of the press, and this number of positions. After them are as many bytes as
-/// 64 positions have.
-fn drag_bytes(presser: u8, height: &[u8], count: u8) -> ArrayVec<u8, 320> {
-    let mut out = ArrayVec::new();
-    let _over = out.try_extend_from_slice(&[0; 8]);
-    let _presser = out.try_push(presser);
-    let _before = out.try_extend_from_slice(&[0; 16]);
-    let _height = out.try_extend_from_slice(height);
-    let _last = out.try_extend_from_slice(&[0; 24]);
-    let _count = out.try_push(count);
-    let _positions = out.try_extend_from_slice(&[0; 256]);
-    out
-}
-
-/// The arguments of `drag_bytes`, and how many bytes are left after a PlaneSensor is read from
-/// them.
-struct Left(u8, &'static [u8], u8, Option<usize>);
-
-impl Row for Left {
-    fn holds(&self, _alloc: Global) -> bool {
-        match plane_of(drag_bytes(self.0, self.1, self.2).as_slice()) {
-            Some((_plane, rest)) => self.3 == Some(rest.len()),
-            None => self.3 == None,
-        }
-    }
-}
-
-/// 10^15, and one more.
-const FAR: &[u8] = b"\x00\x03\x8d\x7e\xa4\xc6\x80\x00";
-
-const TOO_FAR: &[u8] = b"\x00\x03\x8d\x7e\xa4\xc6\x80\x01";
-
-static LEFT: [Left; 7] = [
-    Left(255, FAR, 0, Some(305)),
-    Left(63, FAR, 0, Some(256)),
-    Left(64, FAR, 0, None),
-    Left(254, FAR, 0, None),
-    Left(0, TOO_FAR, 0, None),
-    Left(0, FAR, 64, Some(0)),
-    Left(0, FAR, 65, None),
-];
-
-#[test]
-fn drags_are_read_in_their_ranges(rt: HostRuntime) {
-    all_hold(&rt, rt.alloc(), &LEFT);
+fn a_late_event_has_its_bytes(rt: HostRuntime) {
+    holds(&rt, is_written_late(rt.alloc()));
+    holds(&rt, is_read_late(rt.alloc()));
 }

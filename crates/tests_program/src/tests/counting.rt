@@ -190,7 +190,7 @@ fn a_rehearsal_calls_each_box(rt: HostRuntime) {
 }
 
 /// Gives a viewer the clock of this number, at this many seconds. Reports whether it is applied.
-fn takes_clock<B: Behaviour>(viewer: &mut Viewer<B>, number: u32, seconds: u32) -> bool {
+fn takes_clock<B: Behaviour>(viewer: &mut Viewer<B>, number: u64, seconds: u32) -> bool {
     let time = i64::from(seconds) * 1_000_000;
     if !is_input_number(number) {
         return false;

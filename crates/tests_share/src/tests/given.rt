@@ -20,7 +20,7 @@ pub(super) struct Job {
     /// The host's clocks, in microseconds.
     pub(super) clocks: &'static [i64],
     pub(super) points: [&'static [Point]; 2],
-    pub(super) inputs: u32,
+    pub(super) inputs: u64,
 }
 
 /// A clock that ticks every two seconds, and a switch that it toggles.

@@ -1,4 +1,4 @@
-//! Snapshots as bytes: `save` writes version 2, and both versions can be loaded.
+//! Snapshots as bytes: `save` writes version 3, and each version can be loaded.
 
 ghost use Rattle.std.specs.Prelude.{◌≡◌, IfOk};
 ghost use Rattle.cascade_core.specs.Scripts.{scripts_in};
@@ -108,20 +108,27 @@ fn is_loaded(alloc: Global, one: &Begun, other: &mut Begun, stored: &Stored, sho
         && is_saved(alloc, &other.stage, &other.mark, stored.shot)
 }
 
-/// Like `is_loaded`, for the snapshot of version 1, if there is one.
-fn is_old_loaded(alloc: Global, one: &Begun, other: &mut Begun, stored: &Stored) -> bool {
-    match stored.old {
+/// Like `is_loaded`, for the snapshot of an older version, if there is one.
+fn is_old_loaded(
+    alloc: Global,
+    one: &Begun,
+    other: &mut Begun,
+    stored: &Stored,
+    old: Option<&[u8]>,
+) -> bool {
+    match old {
         Some(old) => is_loaded(alloc, one, other, stored, old),
         None => true,
     }
 }
 
-/// Reports whether a stage that applies all inputs is saved as the snapshot of version 2, and the
-/// snapshots of both versions are loaded.
+/// Reports whether a stage that applies all inputs is saved as the snapshot of version 3, and the
+/// snapshots of all versions are loaded.
 fn are_exact(alloc: Global, one: &mut Begun, other: &mut Begun, stored: &Stored) -> bool {
     applies_all(&mut one.stage, &one.inputs)
         && is_saved(alloc, &one.stage, &one.mark, stored.shot)
-        && is_old_loaded(alloc, one, other, stored)
+        && is_old_loaded(alloc, one, other, stored, stored.one)
+        && is_old_loaded(alloc, one, other, stored, stored.two)
         && is_loaded(alloc, one, other, stored, stored.shot)
 }
 
@@ -165,26 +172,32 @@ fn a_drag_in_progress(rt: HostRuntime) {
     holds(&rt, rt.alloc(), &DRAGGING);
 }
 
-/// Reports whether the snapshots of version 1 and of version 2 have these numbers of bytes.
-fn have_sizes(stored: &Stored, old: usize, new: usize) -> bool {
-    match stored.old {
-        Some(shot) => shot.len() == old && stored.shot.len() == new,
+/// Reports whether there is a snapshot of this number of bytes.
+fn has_size(shot: Option<&[u8]>, len: usize) -> bool {
+    match shot {
+        Some(shot) => shot.len() == len,
         None => false,
     }
 }
 
-#[test]
-fn sizes(rt: HostRuntime) {
-    assert!(&rt; have_sizes(&EMPTY, 95, 101));
-    assert!(&rt; have_sizes(&OPENING, 147, 153));
-    assert!(&rt; have_sizes(&CLOCKED, 308, 314));
+/// Reports whether the snapshots of versions 1, 2 and 3 have these numbers of bytes.
+fn have_sizes(stored: &Stored, one: usize, two: usize, newest: usize) -> bool {
+    has_size(stored.one, one) && has_size(stored.two, two) && stored.shot.len() == newest
 }
 
-/// Returns the fault of a snapshot in which a bit of byte `at` is flipped.
-fn flip_fault(at: usize) -> SnapFault {
+#[test]
+fn sizes(rt: HostRuntime) {
+    assert!(&rt; have_sizes(&EMPTY, 95, 101, 105));
+    assert!(&rt; have_sizes(&OPENING, 147, 153, 157));
+    assert!(&rt; have_sizes(&CLOCKED, 308, 314, 346));
+}
+
+/// Returns the fault of a snapshot of version 1 in which these bits of byte `at` are flipped. If
+/// its version is then 3, only the digest is wrong.
+fn flip_fault(at: usize, bits: u8) -> SnapFault {
     match at {
         0..=3 => SnapFault::BadMagic,
-        4 => SnapFault::BadVersion,
+        4 if bits != 2 => SnapFault::BadVersion,
         5..=36 => SnapFault::WrongScene,
         _ => SnapFault::BadDigest,
     }
@@ -202,7 +215,7 @@ fn refuses_byte(begun: &mut Begun, shot: &mut [u8], at: usize) -> bool {
         flip(shot, at, bits);
         let answer = load_into(&mut begun.stage, &begun.mark, 2, shot);
         flip(shot, at, bits);
-        if answer != Err(flip_fault(at)) {
+        if answer != Err(flip_fault(at, bits)) {
             return false;
         }
     }
@@ -222,7 +235,7 @@ fn refuses_flips(begun: &mut Begun, shot: &mut [u8]) -> bool {
 
 /// Like `refuses_flips`, for the snapshot of version 1.
 fn is_unflipped(alloc: Global, begun: &mut Begun, stored: &Stored) -> bool {
-    let Some(old) = stored.old else {
+    let Some(old) = stored.one else {
         return false;
     };
     let Ok(mut shot) = old.to_vec(alloc) else {

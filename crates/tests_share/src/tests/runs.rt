@@ -92,12 +92,12 @@ pub(super) fn clock(chain: Chain, number: u64, time: i64) -> Input2
     }
 }
 
-fn number_of(input: Stamped) -> u32 {
+fn number_of(input: Stamped) -> u64 {
     input.number()
 }
 
 /// Returns the number of an input.
-fn number_in(body: Body) -> Option<u32> {
+fn number_in(body: Body) -> Option<u64> {
     match body {
         Body::Input(input) => Some(number_of(input)),
         _ => None,
@@ -105,7 +105,7 @@ fn number_in(body: Body) -> Option<u32> {
 }
 
 /// Receives a datagram, and returns the number of its input, if it is one of version 1.
-fn received<P: Port>(port: &mut P) -> Option<u32> {
+fn received<P: Port>(port: &mut P) -> Option<u64> {
     let mut bytes = [0; RECEIVED];
     let Ok(Some((_from, count))) = port.receive(&mut bytes) else {
         return None;

@@ -25,7 +25,7 @@ const ALL: HostPlan = HostPlan {
 };
 
 /// Returns a plan of `until` inputs in at most `turns` turns.
-fn plan(until: u32, turns: u32) -> ViewPlan {
+fn plan(until: u64, turns: u32) -> ViewPlan {
     ViewPlan {
         until,
         forget: None,

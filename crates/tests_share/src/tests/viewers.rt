@@ -10,6 +10,7 @@ mod given;
 mod hosting;
 mod joins;
 mod keeping;
+mod long;
 mod memory;
 mod ports;
 mod snapshots;

@@ -1,4 +1,5 @@
-use Rattle.std.proofs.Common.{◌≡◌, ◌≤◌, ◌^◌, length}
+use Rattle.std.proofs.Common.{◌≡◌, ◌≤◌, length}
+use Rattle.x3d_values.specs.Ranges.{max_inputs}
 use Rattle.cascade_core.specs.InOrder.{AreInOrder}
 use Rattle.app_jobs.specs.Job.{job_lines}
 use Rattle.app_jobs.proofs.JobLemmas.{left_of}
@@ -8,7 +9,7 @@ abbrev pub invariant-loop-rest : goal.invariant-loop-rest
 invariant-loop-rest l = record {
   answer : job_lines l.bytes ≡ left_of l.inputs l.rest;
   in_order : AreInOrder l.inputs;
-  few : length l.inputs ≤ 2 ^ 20;
+  few : length l.inputs ≤ max_inputs;
 }
 
 abbrev pub decreases-loop-rest : goal.decreases-loop-rest

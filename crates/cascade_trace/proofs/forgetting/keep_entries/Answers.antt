@@ -1,7 +1,7 @@
 use Rattle.std.proofs.Common.{◌∙◌, ◌<◌, ◌≤◌, arith, length, le-leb}
 use Rattle.std.proofs.lemmas.Bool.{lt-leb}
 use Rattle.std.proofs.lemmas.List.{length-set}
-use Rattle.cascade_trace.specs.Forgetting.{entries_from, input_after}
+use Rattle.cascade_trace.specs.Staying.{entries_from, input_after}
 use Rattle.cascade_trace.proofs.Shifts.{entries-all, entry-goes, entry-stays}
 use Rattle.cascade_trace.proofs.forgetting.keep_entries.Goals as goal
 use Rattle.cascade_trace.proofs.forgetting.keep_entries.Goals.{then-below-input, else-below-input}

@@ -1,5 +1,5 @@
 use Rattle.std.proofs.Common.{◌≡◌, ◌≤◌, ◌++◌, drop, length, take}
-use Rattle.cascade_trace.specs.Forgetting.{entries_from}
+use Rattle.cascade_trace.specs.Staying.{entries_from}
 use Rattle.cascade_trace.proofs.forgetting.keep_entries.Given as goal
 
 -- what stays of the entries so far, with those that are left

@@ -1,6 +1,6 @@
 use Rattle.std.proofs.Common.{◌∙◌, arith, sym, le-leb}
 use Rattle.std.proofs.lemmas.Bool.{lt-leb}
-use Rattle.cascade_trace.specs.Forgetting.{values_from}
+use Rattle.cascade_trace.specs.Staying.{values_from}
 use Rattle.cascade_trace.proofs.Shifts.{as-long, as-many-left, fewer-left, moved-on, passed-on, skipped-on, values-all}
 use Rattle.cascade_trace.proofs.forgetting.keep_values.Goals as goal
 use Rattle.cascade_trace.proofs.forgetting.keep_values.Goals.{then-takes_value, then-below-input, else-below-input, else-takes_value}

@@ -1,6 +1,6 @@
 use Rattle.std.proofs.Common.{◌≡◌, ◌≤◌, ◌+◌, ◌++◌, drop, length, take}
 use Rattle.std.specs.Prelude.{count_by}
-use Rattle.cascade_trace.specs.Forgetting.{values_from}
+use Rattle.cascade_trace.specs.Staying.{values_from}
 use Rattle.cascade_trace.specs.Since.{takes_value}
 use Rattle.cascade_trace.proofs.forgetting.keep_values.Given as goal
 

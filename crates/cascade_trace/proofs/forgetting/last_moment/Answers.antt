@@ -1,5 +1,5 @@
 use Rattle.std.proofs.Common.{◌∙◌, ◌+◌, drop, ap}
-use Rattle.cascade_trace.specs.Forgetting.{last_input, last_time}
+use Rattle.cascade_trace.specs.Staying.{last_input, last_time}
 use Rattle.cascade_trace.proofs.Shifts.{input-all, input-next, time-all, time-next}
 use Rattle.cascade_trace.proofs.forgetting.last_moment.Goals as goal
 

@@ -1,5 +1,5 @@
 use Rattle.std.proofs.Common.{◌≡◌, drop, pos}
-use Rattle.cascade_trace.specs.Forgetting.{last_input, last_time}
+use Rattle.cascade_trace.specs.Staying.{last_input, last_time}
 use Rattle.cascade_trace.proofs.forgetting.last_moment.Given as goal
 
 -- the input after the entries that are left

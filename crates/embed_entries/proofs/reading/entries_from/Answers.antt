@@ -1,6 +1,4 @@
-use Rattle.std.proofs.Common.{rules, ◌≡◌, ℕ, ◌+◌, [], ◌∷◌, ◌++◌, ◌∙◌, ap}
-use Rattle.std.specs.Int.{w64}
-use Rattle.byte_codec.specs.Codec.{number_text}
+use Rattle.std.proofs.Common.{rules, ◌≡◌, [], ◌∷◌, ◌++◌}
 use Rattle.embed_entries.specs.Appends.{lines_from}
 use Rattle.embed_entries.proofs.LineTexts.{one-more, read-line}
 use Rattle.embed_entries.proofs.reading.entries_from.Goals as goal
@@ -9,7 +7,7 @@ pub loop-number-preserved : goal.loop-number-preserved
 loop-number-preserved c =
     let so_far = c.loop-number.invariant in
     let e = c.in-Some-entry_of.entry in
-    let numbered = c.in-Some.ensures.found ∙ ap (λ (k : ℕ). number_text w64 (c.args.first + k) ++ c.in-Some.line.now) c.from.ensures in
+    let numbered = c.in-Some.ensures.found in
     let lines = read-line c.args.first c.args.bytes.now c.loop-number.entries.items e c.loop-number.number c.loop-number.rest.now c.in-Some.line.now c.in-Some-entry_of.behind.now
     so_far.text so_far.count numbered c.in-Some-entry_of.ensures.found in
     let grown : c.push.new.self.items ≡ c.loop-number.entries.items ++ e ∷ [] = search rules in

@@ -6,5 +6,5 @@ use Rattle.snapshot_codec.proofs.trace.entries_of.Given as goal
 
 abbrev pub invariant-loop : goal.invariant-loop
 invariant-loop g l =
-    behind (g.T.TakesEntries.entries l.taker) (many_at (entry_codec (g.O.Outputs.types l.outputs)) (l.count - l.counter) l.rest)
-    ≡ behind (g.T.TakesEntries.entries l.fn.taker) (many_at (entry_codec (g.O.Outputs.types l.outputs)) l.count l.bytes)
+    behind (g.T.TakesEntries.entries l.taker) (many_at (entry_codec l.numbers (g.O.Outputs.types l.outputs)) (l.count - l.counter) l.rest)
+    ≡ behind (g.T.TakesEntries.entries l.fn.taker) (many_at (entry_codec l.numbers (g.O.Outputs.types l.outputs)) l.count l.bytes)

@@ -73,7 +73,7 @@ impl Row for Damaged {
     }
 }
 
-static DAMAGED: [Damaged; 8] = [
+static DAMAGED: [Damaged; 13] = [
     Damaged(Of::Clock),
     Damaged(Of::Pointer),
     Damaged(Of::Offer),
@@ -82,6 +82,11 @@ static DAMAGED: [Damaged; 8] = [
     Damaged(Of::Floor),
     Damaged(Of::Last),
     Damaged(Of::Full),
+    Damaged(Of::LongClock),
+    Damaged(Of::LongPointer),
+    Damaged(Of::LongAsk),
+    Damaged(Of::LongFloor),
+    Damaged(Of::LongLast),
 ];
 
 #[test]

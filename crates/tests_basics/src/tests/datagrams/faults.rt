@@ -24,6 +24,20 @@ const FAR_BACK: &[u8] = b"\xff\xfc\x72\x81\x5b\x39\x80\x00";
 
 const TOO_FAR_BACK: &[u8] = b"\xff\xfc\x72\x81\x5b\x39\x7f\xff";
 
+/// 2^20, which has 4 bytes as the number of an input, and the numbers after it, which have 8.
+const SHORT: &[u8] = b"\x00\x00\x00\x00\x00\x10\x00\x00";
+
+const FIRST_LONG: &[u8] = b"\x00\x00\x00\x00\x00\x10\x00\x01";
+
+const FIRST_LONG_NEXT: &[u8] = b"\x00\x00\x00\x00\x00\x10\x00\x02";
+
+/// 2^48 - 1, the number of the last input, and the numbers after it.
+const LAST_NUMBER: &[u8] = b"\x00\x00\xff\xff\xff\xff\xff\xff";
+
+const BEYOND: &[u8] = b"\x00\x01\x00\x00\x00\x00\x00\x00";
+
+const BEYOND_NEXT: &[u8] = b"\x00\x01\x00\x00\x00\x00\x00\x01";
+
 const NO_DIRECTION: &[u8] = &[0; 24];
 
 /// A datagram, other bytes and their place in it, and the fault that they cause, if any.
@@ -43,7 +57,7 @@ impl Row for Changed {
     }
 }
 
-static CHANGED: [Changed; 88] = [
+static CHANGED: [Changed; 115] = [
     // the head
     Changed(Of::Ask, 0, b"X3DW", Some(WireFault::BadPacket)),
     Changed(Of::Ask, 3, b"T\x02", Some(WireFault::BadPacket)),
@@ -52,6 +66,10 @@ static CHANGED: [Changed; 88] = [
     Changed(Of::Ask, 4, b"\x02\x09", Some(WireFault::BadVersion)),
     Changed(Of::Ask, 5, b"\x00", Some(WireFault::BadTag)),
     Changed(Of::Ask, 5, b"\x07", Some(WireFault::BadTag)),
+    Changed(Of::Ask, 5, b"\x08", Some(WireFault::BadTag)),
+    Changed(Of::Ask, 5, b"\x0a", Some(WireFault::BadPacket)),
+    Changed(Of::Ask, 5, b"\x0d", Some(WireFault::BadTag)),
+    Changed(Of::LongAsk, 5, b"\x03", Some(WireFault::BadPacket)),
     Changed(Of::Ask, 6, b"\x00\xff", None),
     // inputs
     Changed(Of::Clock, 38, ZERO, Some(WireFault::BadRange)),
@@ -192,6 +210,30 @@ static CHANGED: [Changed; 88] = [
     ),
     Changed(Of::Full, 50, b"\x00\x00\x00\x03", Some(WireFault::BadRange)),
     Changed(Of::Full, 54, b"\x00\xff", None),
+    // numbers of 8 bytes
+    Changed(Of::LongClock, 38, SHORT, Some(WireFault::BadRange)),
+    Changed(Of::LongClock, 38, FIRST_LONG, None),
+    Changed(Of::LongClock, 38, LAST_NUMBER, None),
+    Changed(Of::LongClock, 38, BEYOND, Some(WireFault::BadRange)),
+    Changed(Of::LongPointer, 38, SHORT, Some(WireFault::BadRange)),
+    Changed(Of::LongPointer, 38, FIRST_LONG, None),
+    Changed(Of::LongPointer, 38, LAST_NUMBER, None),
+    Changed(Of::LongPointer, 38, BEYOND, Some(WireFault::BadRange)),
+    Changed(Of::LongLast, 42, SHORT, Some(WireFault::BadRange)),
+    Changed(Of::LongLast, 42, FIRST_LONG, None),
+    Changed(Of::LongLast, 42, LAST_NUMBER, None),
+    Changed(Of::LongLast, 42, BEYOND, Some(WireFault::BadRange)),
+    Changed(Of::LongAsk, 39, FIRST_LONG, Some(WireFault::BadRange)),
+    Changed(Of::LongAsk, 39, FIRST_LONG_NEXT, None),
+    Changed(Of::LongAsk, 39, BEYOND, None),
+    Changed(Of::LongAsk, 39, BEYOND_NEXT, Some(WireFault::BadRange)),
+    Changed(Of::LongFloor, 38, FIRST_LONG, Some(WireFault::BadRange)),
+    Changed(Of::LongFloor, 38, FIRST_LONG_NEXT, None),
+    Changed(Of::LongFloor, 38, BEYOND, None),
+    Changed(Of::LongFloor, 38, BEYOND_NEXT, Some(WireFault::BadRange)),
+    Changed(Of::LongClock, 46, TOO_LATE, Some(WireFault::BadRange)),
+    Changed(Of::LongPointer, 55, b"\x40", Some(WireFault::BadRange)),
+    Changed(Of::LongPointer, 81, NO_DIRECTION, Some(WireFault::ZeroRay)),
 ];
 
 #[test]

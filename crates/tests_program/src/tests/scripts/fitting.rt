@@ -9,7 +9,7 @@ use scene_core::{End, Scene};
 use sensor_core::{TimeState, TouchParts, TouchState};
 use sensor_plane::{Drag, ListPath, PlaneParts, PlaneState, PointingSlot, PointingState};
 use std::alloc::Global;
-use x3d_values::{Items, Position, Value, Vec3};
+use x3d_values::{Items, MAX_INPUTS, Position, Value, Vec3};
 
 /// A node of each kind that keeps more than its fields, and one that declares fields: 0 to 3. Then
 /// a PlaneSensor below a Group, 4 and 5, and one next to the Group, 6.
@@ -46,7 +46,7 @@ enum Kept {
 enum Change {
     Nothing,
     /// This many inputs were applied.
-    Applied(u32),
+    Applied(u64),
     /// The last input was at this time.
     Last(i64),
     /// A node has this value in the field of this name.
@@ -66,7 +66,7 @@ enum Change {
     FewerPointing,
     /// An event was sent from a node's field of this name, by the input of this number at this
     /// time.
-    Sent(u32, i64, u32, &'static str, Held),
+    Sent(u64, i64, u32, &'static str, Held),
 }
 
 fn value_of(alloc: Global, held: Held) -> Option<Value> {
@@ -239,8 +239,8 @@ const GREATEST: i64 = 1_000_000_000_000_000;
 const ROWS: [Changed; 60] = [
     Changed(Change::Nothing, true),
     // Counts and times.
-    Changed(Change::Applied(1 << 20), true),
-    Changed(Change::Applied((1 << 20) + 1), false),
+    Changed(Change::Applied(MAX_INPUTS), true),
+    Changed(Change::Applied(MAX_INPUTS + 1), false),
     Changed(Change::Last(LATEST), true),
     Changed(Change::Last(LATEST + 1), false),
     Changed(Change::Last(-1), false),
@@ -304,7 +304,7 @@ const ROWS: [Changed; 60] = [
     Changed(Change::Sent(1, 1, 0, "isActive", Held::Truth(true)), true),
     Changed(Change::Sent(0, 0, 3, "levels", Held::Numbers(7)), true),
     Changed(
-        Change::Sent((1 << 20) + 1, 1, 0, "isActive", Held::Truth(true)),
+        Change::Sent(MAX_INPUTS + 1, 1, 0, "isActive", Held::Truth(true)),
         false,
     ),
     Changed(Change::Sent(1, -1, 0, "isActive", Held::Truth(true)), false),

@@ -67,7 +67,7 @@ fn loading_is_refused_until_there_is_enough(rt: HostRuntime) {
 }
 
 /// Reports whether a stage says that memory was refused earlier, with `applied` inputs applied.
-fn is_spoiled<B: Behaviour>(alloc: Global, stage: &mut Stage<B>, applied: u32) -> bool {
+fn is_spoiled<B: Behaviour>(alloc: Global, stage: &mut Stage<B>, applied: u64) -> bool {
     let mut out = Vec::new(alloc);
     let mut states = Vec::new(alloc);
     let texts = stage.scene_text(&mut out) == Err(TextFault::Spoiled)

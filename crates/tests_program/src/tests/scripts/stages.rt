@@ -14,10 +14,10 @@ use std::process::Abort;
 #[derive(Clone, Copy)]
 enum Step {
     /// The clock of this number, at this many seconds.
-    Clock(u32, u32),
+    Clock(u64, u32),
     /// Like `Clock`, with the work of the input: how many outputs send, how many routes are
     /// followed, and how many scripts settle.
-    Work(u32, u32, usize, usize, usize),
+    Work(u64, u32, usize, usize, usize),
     /// The box of script `k` is replaced by box 3.
     Replace(usize, Made, Result<(), PlaceFault>),
     /// The stage is restored from its own snapshot, or refuses that for this reason.
@@ -25,7 +25,7 @@ enum Step {
     /// The world in which nothing has happened is installed, with counters at these counts.
     Install(&'static [i64], Result<(), StateFault>),
     /// This many inputs were applied.
-    Applied(u32),
+    Applied(u64),
     /// The states of two scripts begin with these numbers.
     Counts([i64; 2]),
     /// The trace is this.
@@ -37,7 +37,7 @@ enum Step {
     Called([u32; 4]),
 }
 
-pub(super) fn works<B: Behaviour>(stage: &mut Stage<B>, number: u32, seconds: u32) -> Option<Work> {
+pub(super) fn works<B: Behaviour>(stage: &mut Stage<B>, number: u64, seconds: u32) -> Option<Work> {
     stage.apply(&clock(number, seconds)?).ok()
 }
 
@@ -70,7 +70,7 @@ fn installs<B: Behaviour>(
 }
 
 /// Reports whether `count` inputs were applied.
-fn is_at<B: Behaviour>(stage: &Stage<B>, count: u32) -> bool {
+fn is_at<B: Behaviour>(stage: &Stage<B>, count: u64) -> bool {
     match stage.world() {
         Some(world) => world.applied == count && stage.applied() == count && !stage.spoiled(),
         None => false,

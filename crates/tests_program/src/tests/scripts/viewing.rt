@@ -19,7 +19,7 @@ enum Step {
     Take(u32),
     Save,
     /// The viewer rewinds to the saved snapshot, as this boot, with this many inputs applied.
-    Rewind(u32, u32),
+    Rewind(u32, u64),
     /// The box of script `k` is replaced by box 3.
     Replace(usize, Made, Result<(), PlaceFault>),
     /// The trace is this.
@@ -32,7 +32,7 @@ enum Step {
 }
 
 fn take(viewer: &mut Viewer<Probe<'_>>, number: u32) -> Option<Result<Taken, TakeFault>> {
-    let body = Body::Input(clock(number, number)?);
+    let body = Body::Input(clock(u64::from(number), number)?);
     Some(viewer.take(encode(&Message { mark: MARK, body }).as_slice()))
 }
 

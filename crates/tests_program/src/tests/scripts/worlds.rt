@@ -48,7 +48,7 @@ pub(super) fn stage_of<'a>(
 }
 
 /// Returns the clock of this number at this many seconds.
-pub(super) fn clock(number: u32, seconds: u32) -> Option<Stamped> {
+pub(super) fn clock(number: u64, seconds: u32) -> Option<Stamped> {
     let time = i64::from(seconds) * 1_000_000;
     if !is_input_number(number) {
         return None;

@@ -11,7 +11,7 @@ use std::alloc::Global;
 use std::process::Abort;
 
 /// The visible state of a peer: three counts, and two packets that it sends.
-type Shown = ([u32; 3], Option<Packet>, Option<Packet>);
+type Shown = ([u64; 3], Option<Packet>, Option<Packet>);
 
 /// A host or a viewer.
 trait Peer {
@@ -32,7 +32,7 @@ impl Peer for Host {
     }
 
     fn shown(&self) -> Shown {
-        let counts = [self.len(), u32::from(self.viewers()), 0];
+        let counts = [self.len(), u64::from(self.viewers()), 0];
         (counts, ack_packet(self), self.packet(1))
     }
 }
@@ -47,7 +47,11 @@ impl Peer for Viewer<StockScript> {
     }
 
     fn shown(&self) -> Shown {
-        let counts = [self.applied(), self.boot(), self.waiting()];
+        let counts = [
+            self.applied(),
+            u64::from(self.boot()),
+            u64::from(self.waiting()),
+        ];
         (counts, Some(self.ask()), self.resend(0))
     }
 }

@@ -65,9 +65,9 @@ impl Aim {
     }
 
     /// Returns the input of this number, at as many microseconds.
-    fn input(&self, number: u32) -> Option<Stamped> {
+    fn input(&self, number: u64) -> Option<Stamped> {
         let ray = self.ray()?;
-        let time = i64::from(number);
+        let time = i64::try_from(number).ok()?;
         if !is_viewer(self.0) {
             return None;
         }
@@ -81,7 +81,7 @@ impl Aim {
         Some(Stamped::new(number, time, Cause::Pointer(pointer)))
     }
 
-    fn packet(&self, number: u32) -> Option<Packet> {
+    fn packet(&self, number: u64) -> Option<Packet> {
         let body = Body::Input(self.input(number)?);
         Some(encode(&Message { mark: MARK, body }))
     }
@@ -121,8 +121,8 @@ impl<T: Trial> Trial for Dragging<T> {
 }
 
 #[test]
-fn a_snapshot_of_a_drag_has_385_bytes(rt: HostRuntime) {
-    try_on(&rt, rt.alloc(), DRAGGED, 0, &Dragging(Size(385)));
+fn a_snapshot_of_a_drag_has_405_bytes(rt: HostRuntime) {
+    try_on(&rt, rt.alloc(), DRAGGED, 0, &Dragging(Size(405)));
 }
 
 /// Reports whether the viewer goes to the end of the drag, back to its middle, and to its end
@@ -166,25 +166,26 @@ fn a_drag_goes_on_from_a_snapshot(rt: HostRuntime) {
 static DRAGS: Dragging<Alterations> = Dragging(Alterations(&[
     // another viewer drags; there is no viewer 64; and if no viewer drags, nothing of a drag is
     // kept
-    (123, 62, None),
-    (123, 64, NOT_CANONICAL),
-    (123, 255, NOT_CANONICAL),
+    (127, 62, None),
+    (127, 64, NOT_CANONICAL),
+    (127, 255, NOT_CANONICAL),
     // viewer 63 is over the box as well, or its button is up
-    (115, 128, None),
-    (177, 0, None),
+    (119, 128, None),
+    (181, 0, None),
     // the press, or the translation, is further out than coordinates can be
-    (124, 128, NOT_CANONICAL),
-    (148, 128, NOT_CANONICAL),
+    (128, 128, NOT_CANONICAL),
+    (152, 128, NOT_CANONICAL),
     // the path has no position, two, or 65
-    (172, 0, NOT_CANONICAL),
-    (172, 2, NOT_CANONICAL),
-    (172, 65, NOT_CANONICAL),
-    // the path leads to the other group, which has no sensor, or nowhere
-    (176, 1, NOT_CANONICAL),
+    (176, 0, NOT_CANONICAL),
     (176, 2, NOT_CANONICAL),
-    (173, 1, NOT_CANONICAL),
-    // the snapshot is of version 1, which has no PlaneSensor
+    (176, 65, NOT_CANONICAL),
+    // the path leads to the other group, which has no sensor, or nowhere
+    (180, 1, NOT_CANONICAL),
+    (180, 2, NOT_CANONICAL),
+    (177, 1, NOT_CANONICAL),
+    // the snapshot is of version 1, which has no PlaneSensor, or of version 2
     (4, 1, NOT_CANONICAL),
+    (4, 2, NOT_CANONICAL),
 ]));
 
 #[test]
@@ -192,8 +193,9 @@ fn a_drag_that_no_world_has_is_refused(rt: HostRuntime) {
     try_on(&rt, rt.alloc(), DRAGGED, 0, &DRAGS);
 }
 
-/// Writes a snapshot before any input as version 1 would have it: with only the last 16 bits of the
-/// set of viewers that begins at this byte, and of the set of buttons after its presser.
+/// Writes a snapshot before any input as version 1 would have it: with only the last 32 bits of how
+/// many inputs were applied, and the last 16 of the set of viewers that begins at this byte, and of
+/// the set of buttons after its presser.
 fn write_old(shot: &[u8], over: usize, out: &mut Vec<u8>) -> Result<(), AllocError> {
     out.clear();
     for (at, byte) in shot
@@ -201,8 +203,8 @@ fn write_old(shot: &[u8], over: usize, out: &mut Vec<u8>) -> Result<(), AllocErr
         .enumerate()
         .take(shot.len().saturating_sub(DIGEST))
     {
-        match at.wrapping_sub(over) {
-            0..=5 | 9..=14 => {}
+        match (at, at.wrapping_sub(over)) {
+            (41..=44, _) | (_, 0..=5 | 9..=14) => {}
             _ => out.push(if at == 4 { 1 } else { *byte })?,
         }
     }
@@ -227,6 +229,6 @@ impl Trial for Old {
 /// A TouchSensor of version 1 is loaded.
 #[test]
 fn version_1_has_no_plane_sensor(rt: HostRuntime) {
-    try_on(&rt, rt.alloc(), TOUCHED, 0, &Old(58, None));
-    try_on(&rt, rt.alloc(), DRAGGED, 0, &Old(115, NOT_CANONICAL));
+    try_on(&rt, rt.alloc(), TOUCHED, 0, &Old(62, None));
+    try_on(&rt, rt.alloc(), DRAGGED, 0, &Old(119, NOT_CANONICAL));
 }

@@ -20,7 +20,7 @@ fn bytes_of(first: u8) -> [u8; 392] {
 
 /// Returns the piece of this number of these bytes, if they have one, as a snapshot of this boot
 /// with `applied` inputs applied.
-fn piece_of(boot: u32, applied: u32, bytes: &[u8], index: u32) -> Option<Body> {
+fn piece_of(boot: u32, applied: u64, bytes: &[u8], index: u32) -> Option<Body> {
     let size = u32::try_from(bytes.len()).ok()?;
     if !is_piece(boot, applied, size, index) {
         return None;

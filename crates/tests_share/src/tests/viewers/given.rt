@@ -80,6 +80,7 @@ pub(super) fn viewer_of(alloc: Global, text: &str) -> Result<Viewer<StockScript>
 /// Returns the clock of this number, at as many seconds.
 pub(super) fn clock_at(number: u32) -> Option<Stamped> {
     let time = i64::from(number) * 1_000_000;
+    let number = u64::from(number);
     if !is_input_number(number) {
         return None;
     }
@@ -105,7 +106,7 @@ pub(super) fn take_clock(
 }
 
 /// Rewinds the viewer to this snapshot, as its next boot.
-pub(super) fn go_back(viewer: &mut Viewer<StockScript>, shot: &[u8]) -> Result<u32, SnapFault> {
+pub(super) fn go_back(viewer: &mut Viewer<StockScript>, shot: &[u8]) -> Result<u64, SnapFault> {
     let boot = viewer.boot().saturating_add(1);
     viewer.rewind(shot, boot)
 }

@@ -1,4 +1,5 @@
-//! The host by hand: with as many inputs as there can be, and with memory that is refused.
+//! The host by hand: with more inputs than 4 bytes number in datagrams, and with memory that is
+//! refused.
 
 use super::given::MARK;
 use share_core::Host;
@@ -8,7 +9,7 @@ use std::alloc::Global;
 use std::mem;
 use std::process::Abort;
 use tests_memory::{Outcome, Spared, UsedUp, is_refused_until_enough};
-use x3d_values::{MAX_INPUTS, Pointer, Ray, Vec3};
+use x3d_values::{MAX_SHORT_NUMBER, Pointer, Ray, Vec3};
 
 /// Numbers clocks from one number to another, each at as many microseconds.
 fn number_clocks(host: &mut Host, first: u32, last: u32) -> Result<(), NumberFault> {
@@ -18,15 +19,24 @@ fn number_clocks(host: &mut Host, first: u32, last: u32) -> Result<(), NumberFau
     Ok(())
 }
 
+/// Returns the length of the datagram of this input, or 0 if there is none.
+fn packet_len(host: &Host, number: u64) -> usize {
+    match host.packet(number) {
+        Some(packet) => packet.len(),
+        None => 0,
+    }
+}
+
+/// The number of a clock has 4 bytes up to 2^20, and then 8.
 #[test]
-fn a_world_has_2_to_the_20_inputs(rt: HostRuntime) {
+fn a_world_has_more_than_2_to_the_20_inputs(rt: HostRuntime) {
     let mut host = Host::new(rt.alloc(), MARK, 64);
-    let numbered = number_clocks(&mut host, 1, MAX_INPUTS);
+    let numbered = number_clocks(&mut host, 1, (1 << 20) + 1);
     let count = host.len();
-    let more = host.clock(i64::from(MAX_INPUTS) + 1);
+    let lens = (packet_len(&host, count - 1), packet_len(&host, count));
     drop(host);
-    assert!(rt; numbered == Ok(()) && count == MAX_INPUTS);
-    assert!(rt; more == Err(NumberFault::WorldFull));
+    assert!(rt; numbered == Ok(()) && count == MAX_SHORT_NUMBER + 1);
+    assert!(rt; lens == (51, 55));
 }
 
 /// Returns the first offer of viewer 1, in its boot 1.
@@ -79,10 +89,12 @@ impl Spared<Host> for Numbering {
         memory.run_short();
         let answer = self.number(host);
         memory.come_back();
-        let numbered = Ok(HostReply::Numbered(before.saturating_add(1)));
+        let numbered = Ok(HostReply::Numbered(u64::from(before).saturating_add(1)));
         let refused = answer == Err(HostFault::Number(NumberFault::Memory));
         let stands = !refused
-            || (host.len() == before && ack_packet(host) == ack && self.number(host) == numbered);
+            || (host.len() == u64::from(before)
+                && ack_packet(host) == ack
+                && self.number(host) == numbered);
         Outcome::of(answer == numbered, refused).where_so(ready && stands)
     }
 }

@@ -62,7 +62,7 @@ fn given_at_rest(port: &mut Keeping) -> usize {
         .count()
 }
 
-/// The snapshot has 314 bytes, so two pieces.
+/// The snapshot has 346 bytes, so two pieces.
 #[test]
 fn a_viewer_joins_until_it_asks_on(rt: HostRuntime) {
     let Some(mut port) = keeping(rt.alloc(), 0) else {
@@ -119,7 +119,7 @@ fn a_world_goes_on_with_what_is_learned(rt: HostRuntime) {
 }
 
 /// Returns the port of a host whose log has three clocks, a second apart, with what it forgets.
-fn keeping_three(alloc: Global, forget: Option<u32>) -> Option<Keeping> {
+fn keeping_three(alloc: Global, forget: Option<u64>) -> Option<Keeping> {
     let stage = stage_in(alloc, CLOCKED)?;
     let entries = [
         Entry::new(1_000_000, Source::Clock),

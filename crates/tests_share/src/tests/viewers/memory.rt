@@ -73,7 +73,7 @@ fn texts_are_refused_until_there_is_enough(rt: HostRuntime) {
 
 /// Reports whether a viewer says at each call that memory was refused earlier, and has `applied`
 /// inputs applied.
-fn is_spoiled(alloc: Global, viewer: &mut Viewer<StockScript>, applied: u32) -> bool {
+fn is_spoiled(alloc: Global, viewer: &mut Viewer<StockScript>, applied: u64) -> bool {
     let mut out = Vec::new(alloc);
     let texts = viewer.scene_text(&mut out) == Err(TextFault::Spoiled)
         && viewer.trace_text(&mut out) == Err(TextFault::Spoiled)
@@ -103,7 +103,7 @@ impl<'a> Spared<Viewer<StockScript>> for Takes<'a> {
         memory: &mut UsedUp,
     ) -> Outcome {
         let (before, first) = (self.1, self.1.saturating_add(1));
-        let begun = go_back(viewer, self.0) == Ok(before);
+        let begun = go_back(viewer, self.0) == Ok(u64::from(before));
         let kept = take_clock(viewer, first.saturating_add(1)) == Some(Ok(Taken::Held));
         memory.run_short();
         let answer = take_clock(viewer, first);
@@ -111,9 +111,10 @@ impl<'a> Spared<Viewer<StockScript>> for Takes<'a> {
         let refused = answer == Some(Err(TakeFault::Memory));
         let applied = viewer.applied();
         let stands = if refused {
-            is_spoiled(alloc, viewer, applied) && (applied == before || applied == first)
+            is_spoiled(alloc, viewer, applied)
+                && (applied == u64::from(before) || applied == u64::from(first))
         } else {
-            applied == first.saturating_add(1)
+            applied == u64::from(first).saturating_add(1)
         };
         Outcome::of(answer == Some(Ok(Taken::Applied(2))), refused).where_so(
             begun && kept && stands,

@@ -76,7 +76,7 @@ fn take_turn(host: &mut Host, call: HostCall, port: &mut FakePort) -> Option<Tur
 }
 
 #[derive(Clone, Copy)]
-struct HostTurns<'a>(HostCall, u32, &'a Cell<u32>);
+struct HostTurns<'a>(HostCall, u64, &'a Cell<u32>);
 
 /// How many inputs are numbered: all if the turn is done, and fewer if memory is refused.
 impl<'a> Spared<Host> for HostTurns<'a> {
@@ -98,7 +98,7 @@ impl<'a> Spared<Host> for HostTurns<'a> {
 }
 
 /// Returns how many of the turns refuse memory to the host itself, or 0 if something went wrong.
-fn refused_to_host(alloc: Global, call: HostCall, inputs: u32) -> u32 {
+fn refused_to_host(alloc: Global, call: HostCall, inputs: u64) -> u32 {
     let refusals = Cell::new(0);
     let mut host = Host::new(alloc, MARK, 2);
     let work = HostTurns(call, inputs, &refusals);

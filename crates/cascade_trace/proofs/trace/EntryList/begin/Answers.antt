@@ -18,4 +18,4 @@ pub returns-clause-in_order : goal.returns-clause-in_order
 returns-clause-in_order c is =
     ap (risen 0) c.in_ok-push.ensures.items
     ∙ in-order-next c.args.self.now.entries.items c.input_entry.result c.args.self.now.input c.args.input c.args.self.now.in_order c.follows-in_order.result
-    c.requires.in_order (ap (λ (e : Entry). e.kind) c.input_entry.ensures) (ap (λ (e : Entry). e.node) c.input_entry.ensures) c.follows-in_order.ensures is
+    c.requires.in_order (ap (λ (e : Entry). e.kind) c.input_entry.ensures) (ap (λ (e : Entry). e.input) c.input_entry.ensures) c.follows-in_order.ensures is

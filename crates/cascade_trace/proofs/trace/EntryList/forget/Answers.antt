@@ -1,6 +1,6 @@
 use Rattle.std.proofs.Common.{◌∙◌, ap, List, pos}
 use Rattle.cascade_trace.specs.declared.trace.Entry.{Entry}
-use Rattle.cascade_trace.specs.Forgetting.{last_input, last_time, values_from}
+use Rattle.cascade_trace.specs.Staying.{last_input, last_time, values_from}
 use Rattle.cascade_trace.proofs.Forgets.{counted-all, lines-all, opens-all, rises-all}
 use Rattle.cascade_trace.proofs.trace.EntryList.forget.Goals as goal
 

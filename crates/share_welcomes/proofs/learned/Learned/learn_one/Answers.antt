@@ -6,5 +6,5 @@ pub invariant_of-self-2 : goal.invariant_of-self-2
 invariant_of-self-2 c =
     let old = c.self.inside in
     let pushed : c.push.new.self.items ≡ old.links.items ++ link_of old.next c.args.entry.now ∷ [] = search rules in
-    one_more old.run old.links.items c.push.new.self.items old.next c.link-self-inside.result old.boots c.note_boot.new.boots c.args.entry.now
-    c.self.invariant.0 c.self.invariant.1 c.self.invariant.2 pushed c.link-self-inside.ensures c.note_boot.ensures
+    one_more old.before old.links.items c.push.new.self.items old.next c.link-self-inside.result c.args.entry.now
+    c.self.invariant.0 c.self.invariant.1 pushed c.link-self-inside.ensures

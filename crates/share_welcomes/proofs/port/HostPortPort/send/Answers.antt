@@ -1,4 +1,4 @@
-use Rattle.std.proofs.Common.{rules, refl, [], ◌∷◌}
+use Rattle.std.proofs.Common.{refl, [], ◌∷◌}
 use Rattle.share_welcomes.proofs.Telling.{grows_one, on_err, on_ok, sent_plain, sent_says, sent_text}
 use Rattle.share_welcomes.proofs.port.HostPortPort.send.Goals as goal
 
