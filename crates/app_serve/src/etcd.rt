@@ -3,6 +3,7 @@
 use crate::end::End;
 use crate::key_files::login_bytes;
 use crate::places::addresses_at;
+use crate::telling::tell_etcd;
 use app_logs::LogFault;
 use app_words::OrderFault;
 use share_engine::{Engine, EngineFault, WorldFault};
@@ -13,11 +14,14 @@ use std::time::Clock;
 /// For this many milliseconds after a request without an answer nothing is asked.
 const PAUSE: u64 = 1_000;
 
-/// etcd over one connection, and when it may be asked.
+/// etcd over one connection, when it may be asked, and whether it answered last.
 #[derive(Drop)]
 pub struct Etcd<'r> {
     rt: &'r HostRuntime,
     engine: EtcdEngine<'r>,
+    /// Reports on standard error that it went silent, and that it answers again.
+    verbose: bool,
+    answers: bool,
     /// Nothing is asked before this time of the clock, in milliseconds.
     opens: u64,
 }
@@ -88,13 +92,24 @@ pub fn etcd_at<'r>(
 }
 
 impl<'r> Etcd<'r> {
-    /// Returns etcd for the worlds of a process. Nothing was asked yet.
-    pub fn new(rt: &'r HostRuntime, engine: EtcdEngine<'r>) -> Etcd<'r> {
+    /// Returns etcd for the worlds of a process. Nothing was asked yet. If `verbose` is set it is
+    /// reported on standard error that etcd went silent, and that it answers again.
+    pub fn new(rt: &'r HostRuntime, engine: EtcdEngine<'r>, verbose: bool) -> Etcd<'r> {
         Etcd {
             rt,
             engine,
+            verbose,
+            answers: true,
             opens: 0,
         }
+    }
+
+    /// Notes whether an answer came.
+    fn note(&mut self, answers: bool) {
+        if self.verbose && answers != self.answers {
+            tell_etcd(self.rt, answers);
+        }
+        self.answers = answers;
     }
 
     /// Has nothing asked for a while.
@@ -102,14 +117,19 @@ impl<'r> Etcd<'r> {
         self.opens = millis_now(self.rt, self.opens).saturating_add(PAUSE);
     }
 
-    /// Asks for a transaction, and notes if no answer came.
+    /// Asks for a transaction, and notes whether an answer came.
     fn ask(&mut self, body: &[u8], into: &mut Vec<u8>) -> Result<(), EngineFault> {
         match self.engine.ask(body, into) {
             Err(EngineFault::Silent) => {
+                self.note(false);
                 self.pause();
                 Err(EngineFault::Silent)
             }
-            done => done,
+            Err(EngineFault::Memory) => Err(EngineFault::Memory),
+            Ok(()) => {
+                self.note(true);
+                Ok(())
+            }
         }
     }
 }

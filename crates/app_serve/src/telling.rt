@@ -32,6 +32,16 @@ fn tell<R: Eprint, T: fmt::Display + Drop>(rt: &R, world: Option<&WorldName>, te
     let _told = rt.eprintln(Line { world, text });
 }
 
+/// Reports on standard error that etcd answers again, or that it doesn't answer.
+pub(crate) fn tell_etcd<R: Eprint>(rt: &R, answers: bool) {
+    let text = if answers {
+        "etcd answers again"
+    } else {
+        "etcd doesn't answer"
+    };
+    tell(rt, None, text);
+}
+
 /// Prints the line of a refusal of a log, and returns its status.
 fn refuse_log<R: Eprint>(rt: &R, world: Option<&WorldName>, fault: LogFault) -> ExitCode {
     tell(rt, world, log_refusal_line(fault).as_str());

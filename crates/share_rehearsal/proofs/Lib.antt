@@ -2,6 +2,7 @@ mod Cuts
 mod Endings
 mod Joining
 mod Leaving
+mod Loads
 mod Places
 mod Plays
 mod Seating

@@ -14,7 +14,6 @@ use Rattle.share_wire.specs.declared.fault.WireFault.{WireFault}
 use Rattle.share_wire.specs.declared.message.Body.{Body}
 use Rattle.share_wire.specs.declared.message.Message.{Message}
 use Rattle.snapshot_core.specs.declared.fault.SaveFault.TheVariants as save_fault
-use Rattle.snapshot_core.specs.Loading.{HasSnapshot}
 use Rattle.snapshot_core.specs.Shot.{shot}
 use Rattle.snapshot_core.specs.declared.head.ShotHead.{ShotHead}
 use Rattle.snapshot_core.proofs.ShotHeads.{head_of_shot}
@@ -46,13 +45,8 @@ use Rattle.share_rehearsal.specs.declared.answer.Answer.TheVariants.{Clocked, Ho
 use Rattle.share_rehearsal.specs.declared.nodes.Shot.{Shot}
 use Rattle.share_rehearsal.specs.Calls.{Seen, with_host, with_viewer, with_packets, with_shots, message, IsUnknown, IsMade, IsAcked, IsHostGiven, IsGiven, IsSaving, IsSaved, IsRewinding, IsCut, IsGathering, IsJoining, IsForgotten, IsOffering, IsCall, AreCalls}
 use Rattle.share_rehearsal.specs.Stands.{law_answer, viewer_at, shot_at, StandFor}
+use Rattle.share_rehearsal.proofs.Loads.{ShotsLoad}
 use Rattle.share_rehearsal.proofs.Places.{set-both}
-
--- each snapshot of the run with fewer than 2^64 lines can be loaded, whatever happened before
-abbrev pub ShotsLoad : (mark : List ℕ) → SceneView → List Route → Type 0
-ShotsLoad mark scene routes =
-    (net : Network Scripted) → Reached (cascade mark scene routes) net
-    → (s : ℕ) (taken : LawShot Scripted) → slice_get net.shots s ≡ Some taken → length taken.state.world.trace < 2 ^ 64 → HasSnapshot scene taken.state
 
 -- ---- a step, with what stands after it
 
@@ -60,8 +54,7 @@ module _ (mark : List ℕ) (scene : SceneView) (routes : List Route) (loads : Sh
   abbrev pub m : Machine Scripted
   m = cascade mark scene routes
 
-  -- the network was reached, and the real nodes match it; snapshots have the boots of real viewers, and
-  -- bytes that are in a real list
+  -- the network was reached, and the real nodes match it; snapshots have boots and bytes of real viewers
   pub record IsAt (net : Network Scripted) (now : Seen) : Type 0 where
     pub reached : Reached m net
     pub stand : StandFor mark scene routes now net

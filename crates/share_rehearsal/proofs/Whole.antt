@@ -19,7 +19,8 @@ use Rattle.share_rehearsal.specs.Loaded.{AreLoaded}
 use Rattle.share_rehearsal.specs.Rehearsed.{IsLogged, IsRehearsal, IsRehearsed}
 use Rattle.share_rehearsal.proofs.Plays.{stand-begun}
 use Rattle.share_rehearsal.proofs.Telling.{told_run}
-use Rattle.share_rehearsal.proofs.Ties.{IsAt, ShotsLoad, tied}
+use Rattle.share_rehearsal.proofs.Loads.{ShotsLoad}
+use Rattle.share_rehearsal.proofs.Ties.{IsAt, tied}
 
 -- ---- all of it
 

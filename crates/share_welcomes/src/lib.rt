@@ -3,7 +3,7 @@
 //! | Modules | Content |
 //! |---|---|
 //! | `host_run` | the run of a host, and what it makes of a datagram |
-//! | `learned` | the entries of a log that a port has learned and may still send, with their chains |
+//! | `learned` | the entries that a port has learned and may still send, with their chains |
 //! | `laws` | what is known is that of the log, and so is what is sent |
 //! | `versions` | the version of each peer |
 //! | `answering` | what is sent for a datagram of version 1 |

@@ -22,10 +22,10 @@ use std::alloc::{AllocError, Global};
 /// as it came, and a host takes none of it.
 ///
 /// A send fails if the port below fails, and also if there is nothing to send: the bytes aren't a
-/// datagram of version 1, or the peer is answered in version 2 and the port doesn't know the input's
-/// entry, or the chain after the inputs of a piece's snapshot. It knows what it has learned, and not
-/// what it has dropped: the entries of inputs that the host no longer has, and the chains before
-/// them.
+/// datagram of version 1, or the peer is answered in version 2 and the port doesn't know the
+/// input's entry, or the chain after the inputs of a piece's snapshot. It knows what it has
+/// learned, and not what it has dropped: the entries of inputs that the host no longer has, and the
+/// chains before them.
 #[derive(Drop)]
 pub struct HostPort<P> {
     port: P,

@@ -161,8 +161,8 @@ fn at(z: i64) -> Vec3 {
     Vec3 { x: 0, y: 0, z }
 }
 
-/// A log of 5,000 inputs, input n at n microseconds: an offer of viewer 1, whose boot is 7, and then
-/// clocks.
+/// A log of 5,000 inputs, input n at n microseconds: an offer of viewer 1, whose boot is 7, and
+/// then clocks.
 fn long_log(alloc: Global) -> Result<Vec<Entry>, Fail> {
     let Some(ray) = ray_of(at(5_000_000), at(-1_000_000)) else {
         return Err(Fail::from("this isn't a ray"));

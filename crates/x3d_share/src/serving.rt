@@ -24,7 +24,7 @@ fn serve_over_etcd(
     login: Option<&str>,
 ) -> Result<(), End> {
     let engine = etcd_at(rt, text, login)?;
-    let etcd = RefCell::new(Etcd::new(rt, engine));
+    let etcd = RefCell::new(Etcd::new(rt, engine, serving.verbose));
     let done = serve(rt, folder, serving, Some(EtcdWay::new(&etcd)));
     drop(etcd);
     done

@@ -4,6 +4,7 @@
 mod calls;
 mod damaged;
 mod drags;
+mod dropping;
 mod forgetting;
 mod gathering;
 mod given;

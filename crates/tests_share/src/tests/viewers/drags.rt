@@ -121,8 +121,8 @@ impl<T: Trial> Trial for Dragging<T> {
 }
 
 #[test]
-fn a_snapshot_of_a_drag_has_405_bytes(rt: HostRuntime) {
-    try_on(&rt, rt.alloc(), DRAGGED, 0, &Dragging(Size(405)));
+fn a_snapshot_of_a_drag_has_413_bytes(rt: HostRuntime) {
+    try_on(&rt, rt.alloc(), DRAGGED, 0, &Dragging(Size(413)));
 }
 
 /// Reports whether the viewer goes to the end of the drag, back to its middle, and to its end

@@ -33,7 +33,7 @@ fn a_world_has_more_than_2_to_the_20_inputs(rt: HostRuntime) {
     let mut host = Host::new(rt.alloc(), MARK, 64);
     let numbered = number_clocks(&mut host, 1, (1 << 20) + 1);
     let count = host.len();
-    let lens = (packet_len(&host, count - 1), packet_len(&host, count));
+    let lens = (packet_len(&host, 1 << 20), packet_len(&host, count));
     drop(host);
     assert!(rt; numbered == Ok(()) && count == MAX_SHORT_NUMBER + 1);
     assert!(rt; lens == (51, 55));
