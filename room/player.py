@@ -66,12 +66,11 @@ class Player:
         first, self.told = self.told, number
         points = [*{each.point.who: each.point for each in self.points}.values()]
         self.points = []
-        names, about = self.record.names, {"n": number, "points": points}
-        kind = "news" if first is not None else "scene"
-        told = names.scene(self.world) if first is None else names.news(self.world, first)
-        # What was told is not told again.
+        names = self.record.names
+        kind, told = ("scene", names.scene(self.world)) if first is None else ("news", names.news(self.world, first))
+        # The lines of these inputs are not needed again.
         self.world.forget_below(number + 1)
-        return kind, {**about, **told}
+        return kind, {"n": number, "points": points, **told}
 
     def status(self):
         """Where it is: its input, seconds from the first on, whether it plays."""

@@ -8,13 +8,13 @@ from library import wire, x3d
 
 # Of how many numbers a viewer's digests are remembered.
 DIGESTS = 64
-# Of how many of the last inputs a world that is saved keeps the lines of its trace; page/own.js has the same number, since
-# the digest of a world has its trace. A window that lacks more inputs is told the whole scene.
+# Of how many of the last inputs a world that is saved keeps the lines of its trace; page/own.js has the same number,
+# since the digest of a world has its trace. A window that lacks more inputs gets the whole scene.
 LINES = 300
 # The boot in a snapshot and its seal (crates/snapshot_codec/README.md) are no part of a world.
 BOOT, SEAL = slice(37, 41), 32
-# What an offer begins with, behind the head, and all of an ask, by its tag: with a number up to 2^20 + 1, or a long one; and
-# the tags of a piece (crates/share_wire/README.md).
+# What an offer begins with, after the head, and all of an ask, by its tag: with a number up to 2^20 + 1, or a long one;
+# and the tags of a piece (crates/share_wire/README.md).
 OFFER = struct.Struct(">BII")
 ASKS = {bytes([wire.ASK]): struct.Struct(">BI"), bytes([10]): struct.Struct(">BQ")}
 PIECES = wire.PIECE, 12
@@ -27,7 +27,7 @@ def digest_of(snapshot):
 
 
 def forget(world):
-    """Forgets the lines of a world's trace that no window is told any more."""
+    """Forgets the lines of a world's trace that no window gets any more."""
     world.forget_below(max(0, world.applied() + 1 - LINES))
 
 
