@@ -111,12 +111,14 @@ hostile:
 	@cd crates/x3d_share && $(RT) run -- --version > /dev/null
 	@scripts/hostile $$((60 * $(MINUTES)))
 
-# Proves and builds the program, and serves folders of worlds, 1,000 of them at last, whose figures it prints; then some
-# by two processes over etcd, where it is installed.
+# Proves and builds the program, and serves folders of worlds, 1,000 of them at last, whose figures it prints; then one
+# whose log gets bases, and some by two processes over etcd, where it is installed.
 worlds:
 	@cd crates/x3d_share && $(RT) run -- --version > /dev/null
 	@scripts/worlds
+	@scripts/bases
 	@scripts/worlds_etcd
+	@scripts/bases_etcd
 
 # Proves and builds the program, and kills hosts that share a log in etcd, the etcd that leads, and viewers, for SECONDS;
 # then two begin a world or append to it at once, 300 times. Wants etcd.
@@ -166,7 +168,9 @@ test: definitions
 	scripts/logs --seed 67; \
 	scripts/hostile 30 --seed 68; \
 	scripts/worlds 5; \
+	scripts/bases 5; \
 	scripts/worlds_etcd; \
+	scripts/bases_etcd; \
 	scripts/cluster 60 --seed 69; \
 	scripts/cluster --majority; \
 	scripts/cluster --races 60; \

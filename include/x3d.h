@@ -112,7 +112,8 @@ enum x3d_status {
   X3D_LOG_DAMAGED = 76,    /* a frame (entries stored together) was altered, or is misplaced */
   X3D_NOT_ENTRIES = 77,    /* the bytes are not the next entries of this log */
   X3D_LOG_FULL = 78,       /* the log would have more than 2^48 - 1 entries */
-  X3D_IN_DOUBT = 79        /* an append failed, and may be stored: close the log, open it again */
+  X3D_IN_DOUBT = 79,       /* an append failed, and may be stored: close the log, open it again */
+  X3D_HAS_BASE = 80        /* the log has no entries up to a number: `serve --base` dropped them */
 };
 
 /* What an input led to: how many outputs sent, how many routes were followed, and how many scripts
@@ -643,9 +644,10 @@ uint8_t x3d_log_make(struct x3d_log *log, const uint8_t *path, size_t path_lengt
  * one that the handle had, which is closed first. Bytes after the last entry, of an append that was
  * not finished, are cut; `place` becomes their number. May return, in this order: X3D_NO_LOG,
  * X3D_LOG_BUSY, X3D_BAD_HEAD, X3D_WRONG_SCENE, X3D_WRONG_SEATS, X3D_LOG_DAMAGED (`place` becomes
- * the number of the damaged frame; the head is 0), or X3D_LOG_FULL if it has more entries than a
- * world; X3D_DEVICE or X3D_MEMORY at any time. Then the handle is empty; only after X3D_LOG_FULL,
- * X3D_DEVICE or X3D_MEMORY may bytes be cut. */
+ * the number of the damaged frame; the head is 0), X3D_HAS_BASE if its first entries are not in the
+ * file, or X3D_LOG_FULL if it has more entries than a world; X3D_DEVICE or X3D_MEMORY at any time.
+ * Then the handle is empty; only after X3D_HAS_BASE, X3D_LOG_FULL, X3D_DEVICE or X3D_MEMORY may
+ * bytes be cut. */
 uint8_t x3d_log_open(struct x3d_log *log, const uint8_t *path, size_t path_length,
                      const uint8_t *text, size_t length, uint8_t viewers, uint64_t *place);
 /* Closes the log, and gives up its lock. Does nothing if the handle holds none. */

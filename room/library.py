@@ -13,6 +13,9 @@ import scene_text
 import wire
 import x3d
 
+# A room drops lines itself, and alike in all its worlds (seat.py, `forget`): their digests have the lines.
+x3d.World.keep_lines = x3d.Viewer.keep_lines = True
+
 # Where the library is as a package for windows, if it was built.
 WASM = Path(os.environ.get("X3D_WASM", TOP / "out/wasm"))
 

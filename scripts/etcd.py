@@ -75,10 +75,14 @@ def put(key, value):
     return {"request_put": {"key": coded(key), "value": coded(value)}}
 
 
-def making_body(name, head):
-    """The transaction that makes a world, if there is none."""
+def making_body(name, head, based=None):
+    """The transaction that makes a world, if there is none: without entries, or after a base with its number and
+    snapshot."""
     keys = key_of(name, "head"), key_of(name, "tail")
-    return {"compare": [absent(key) for key in keys], "success": [put(keys[0], head), put(keys[1], NONE)]}
+    puts = [put(keys[0], head), put(keys[1], digits(based[0]) if based else NONE)]
+    if based:
+        puts += [put(key_of(name, "base"), based[1]), put(key_of(name, "snapshot"), based[2])]
+    return {"compare": [absent(key) for key in keys], "success": puts}
 
 
 def append_body(name, known, frames, last):
@@ -116,34 +120,56 @@ def frames_of(address, revision, name):
         key = found[-1][0] + b"\0" if found else key
 
 
-def payloads_of(address, name):
-    """The payloads of a world's log, the head before the frames, and the number of its last entry."""
-    answer, found = ranged(address, 0, key_of(name, "head"))
-    revision = answer["header"]["revision"]
-    tail = ranged(address, revision, key_of(name, "tail"))[1]
-    if not found or not tail:
+def value_of(address, revision, name, part):
+    """The value of a key of a world, or None."""
+    found = ranged(address, revision, key_of(name, part))[1]
+    return found[0][1] if found else None
+
+
+def start_of(head, base):
+    """The chain where the frames begin, and how many entries are below."""
+    if base is None:
+        return head[40:56], 0
+    found = log_file.read_base(head[5], base)
+    if not found:
+        raise Refused("the base is damaged")
+    return found[1], found[0]
+
+
+def contents_of(address, name):
+    """The payloads of a world's log, the head before the base, if there is one, and the frames; the number of its last
+    entry, and the snapshot at the base. All is of one revision."""
+    revision = ranged(address, 0, key_of(name, "head"))[0]["header"]["revision"]
+    parts = "head", "tail", "base", "snapshot"
+    head, tail, base, snapshot = (value_of(address, revision, name, part) for part in parts)
+    if head is None or tail is None:
         raise Refused(f"etcd has no world {name}")
-    head = found[0][1]
     if head != log_file.head_again(head):
         raise Refused("the head is damaged")
-    payloads, chain, last = [head], head[40:56], 0
+    payloads, (chain, last) = [head] if base is None else [head, base], start_of(head, base)
     for key, frame in frames_of(address, revision, name):
         entries = log_file.read_entries(chain, last + 1, frame)
         if key != log_key(name, last + 1) or not entries:
             raise Refused(f"the frame after entry {last} is damaged")
         payloads.append(frame)
         chain, last = entries[1], last + len(entries[0])
-    if digits(last) != tail[0][1]:
-        raise Refused(f"the frames end at entry {last}, and the tail is {tail[0][1].decode(errors='replace')}")
-    return payloads, last
+    if digits(last) != tail:
+        raise Refused(f"the frames end at entry {last}, and the tail is {tail.decode(errors='replace')}")
+    return payloads, last, snapshot
+
+
+def payloads_of(address, name):
+    """The payloads of a world's log, and the number of its last entry."""
+    return contents_of(address, name)[:2]
 
 
 # ---- writing
 
 
-def parts_of(frames):
-    """Frames, each with the number of its first entry, in parts that a transaction takes, each with its last entry."""
-    part, size, last = [], 0, 0
+def parts_of(frames, below):
+    """Frames after the first `below` entries, each with the number of its first entry, in parts that a transaction
+    takes, each with its last entry."""
+    part, size, last = [], 0, below
     for frame in frames:
         if part and (len(part) == FRAMES or size + len(frame) > BYTES):
             yield part, last
@@ -154,13 +180,23 @@ def parts_of(frames):
         yield part, last
 
 
-def put_log(address, name, payloads):
-    """Makes a world with the log of these payloads, where there is none."""
-    made = done(address, making_body(name, payloads[0]))
+def put_log(address, name, payloads, snapshot=None):
+    """Makes a world with the log of these payloads, where there is none, and the snapshot at its base."""
+    head, frames, below, based = payloads[0], payloads[1:], 0, None
+    if frames and frames[0][0] == log_file.BASE:
+        base, frames = frames[0], frames[1:]
+        below = start_of(head, base)[1]
+        based = below, base, snapshot
+    made = done(address, making_body(name, head, based))
     if made is None:
         raise Refused(f"etcd has a world {name}")
     tail = made
-    for part, last in parts_of(payloads[1:]):
+    for part, last in parts_of(frames, below):
         tail = done(address, append_body(name, (made, tail), part, last))
         if tail is None:
             raise Refused(f"another host has appended to {name} before entry {part[0][0]}")
+
+
+def remove(address, name):
+    """Takes a world out of etcd."""
+    post(address, "/v3/kv/deleterange", {"key": coded(key_of(name, "")), "range_end": coded(f"x3d/{name}0".encode())})

@@ -1,5 +1,7 @@
 """Viewers of worlds that `serve` serves, and the worlds of a folder, for tests and measurements."""
 import os
+import resource
+import signal
 import subprocess
 import time
 from pathlib import Path
@@ -40,15 +42,21 @@ class Guest(sessions.Viewer):
 
 
 class Served:
-    """A process that serves a folder, at a port that is free if none is named."""
+    """A process that serves a folder, at a port that is free if none is named. With a limit no file gets longer."""
 
-    def __init__(self, folder, *words, program=PROGRAM, listen=None, port=None):
+    def __init__(self, folder, *words, program=PROGRAM, listen=None, port=None, limit=None):
+
+        def limited():
+            signal.signal(signal.SIGXFSZ, signal.SIG_IGN)
+            resource.setrlimit(resource.RLIMIT_FSIZE, (limit, limit))
+
         self.folder, self.port = Path(folder), port or free_port()
         self.told = Path(folder).parent / f"told-{self.port}-{time.monotonic_ns()}"
         with open(self.told, "wb") as told:
             place = ["--listen", text_of(listen, self.port)] if listen else ["--port", str(self.port)]
             words = [program, "serve", str(folder), *place, "-v", *map(str, words)]
-            self.process = subprocess.Popen(words, stdin=subprocess.DEVNULL, stderr=told)
+            self.process = subprocess.Popen(words, stdin=subprocess.DEVNULL, stderr=told,
+                                            preexec_fn=limited if limit else None)
 
     def __enter__(self):
         return self

@@ -3,8 +3,8 @@ import hashlib
 import struct
 from typing import NamedTuple
 
-# The most entries of a frame, and the kind of a frame of entries.
-MOST, ENTRIES = 977, 0
+# The most entries of a frame, and the kinds of a frame of entries and of a base.
+MOST, ENTRIES, BASE = 977, 0, 1
 
 
 def digest(data, size):
@@ -36,6 +36,14 @@ def linked(chain, entries):
 def frame(chain, first, entries):
     """The payload of entries, the first with this number, after a log with this chain."""
     return struct.pack(">BHQ", ENTRIES, len(entries), first) + b"".join(entries) + linked(chain, entries)
+
+
+def base(kept, number, time, chain, snapshot):
+    """The payload of a base: the boot and the count of each viewer, the last entry's number and time, the chain, and the
+    SHA-256 of a snapshot."""
+    seats = b"".join(struct.pack(">II", boot, count) for boot, count in kept)
+    front = bytes([BASE, len(kept)]) + seats + struct.pack(">Qq", number, time) + chain + snapshot
+    return front + digest(front, 8)
 
 
 def gated(*payloads):
@@ -72,6 +80,9 @@ class Found(NamedTuple):
     run: bytes
     entries: list
     cut: int
+    # The number of the last entry below the base, and the SHA-256 of the snapshot there.
+    below: int = 0
+    snapshot: bytes = b""
 
 
 def whole_frames(data):
@@ -108,6 +119,14 @@ def read_entries(chain, first, payload):
     return (entries, chain) if payload[at:] == chain else None
 
 
+def read_base(viewers, payload):
+    """The number, the chain and the snapshot's sum of a base for so many viewers, or None if it isn't one."""
+    if len(payload) != 2 + 8 * viewers + 72 or payload[1] != viewers or payload[-8:] != digest(payload[:-8], 8):
+        return None
+    number, _, chain, snapshot = struct.unpack(">Qq16s32s", payload[2 + 8 * viewers:-8])
+    return number, chain, snapshot
+
+
 def read(data):
     """The log that these bytes are, or Damage."""
     payloads, rest = whole_frames(data)
@@ -115,17 +134,22 @@ def read(data):
         raise Damage("BadHead")
     first = payloads[0]
     viewers, mark, run, entries = first[5], first[8:40], first[40:56], []
-    chain = run
-    for number, payload in enumerate(payloads[1:], 1):
-        found = read_entries(chain, len(entries) + 1, payload)
+    below, chain, snapshot, frames = 0, run, b"", payloads[1:]
+    if frames and frames[0][0] == BASE:
+        found = read_base(viewers, frames[0])
+        if not found:
+            raise Damage("LogDamaged frame 1")
+        (below, chain, snapshot), frames = found, frames[1:]
+    for number, payload in enumerate(frames, len(payloads) - len(frames)):
+        found = read_entries(chain, below + len(entries) + 1, payload)
         if not found:
             raise Damage(f"LogDamaged frame {number}")
         entries, chain = entries + found[0], found[1]
-    size = int.from_bytes(rest[1:3], "big")
-    hidden = len(rest) > 3 + size and rest[3 + size] == 1 and read_entries(chain, len(entries) + 1, rest[3:3 + size])
+    size, last = int.from_bytes(rest[1:3], "big"), below + len(entries)
+    hidden = len(rest) > 3 + size and rest[3 + size] == 1 and read_entries(chain, last + 1, rest[3:3 + size])
     if not rest or rest[0] == 1 or hidden:
         raise Damage(f"LogDamaged frame {len(payloads)}")
-    return Found(viewers, mark, run, entries, len(rest) - 1)
+    return Found(viewers, mark, run, entries, len(rest) - 1, below, snapshot)
 
 
 def head_again(payload):

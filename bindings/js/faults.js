@@ -62,6 +62,7 @@ const REASONS = {
   77: "NotEntries",
   78: "LogFull",
   79: "InDoubt",
+  80: "HasBase",
 };
 
 export class Refusal extends Error {

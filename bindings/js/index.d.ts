@@ -170,13 +170,18 @@ declare abstract class Readable extends Held {
   /** What a ray would hit; the world is unchanged. */
   meet(aim: Aim): Meeting | null;
   /** The lines of the trace of inputs from number `first` on: `<input> <seconds> <label>.<field> <value>`. From 0 on it
-   * is the whole trace. */
+   * is the whole trace. Then forgets the lines below that number (see `keepLines`). */
   trace(first?: number): string;
-  /** The same lines with the numbers of nodes and fields. */
+  /** The lines that `trace` gives, with the numbers of nodes and fields. Then forgets those below that number, like
+   * `trace`. */
   changes(first?: number): Change[];
   /** The fields that inputs after number `since` set, each once, with their current values. `since` is 0, or what
-   * `applied` was when the world was drawn last. A field that only sends holds no value and is left out. */
+   * `applied` was when the world was drawn last. A field that only sends holds no value and is left out. Then forgets
+   * the lines of inputs up to `since` (see `keepLines`). */
   changed(since?: number): Changed[];
+  /** Whether lines stay that were read. If not, as at first, `trace`, `changes` and `changed` forget the lines below the
+   * number they read from, since a program that reads on has read those: so its memory doesn't grow. */
+  keepLines: boolean;
   /** Forgets the lines of the trace of inputs below number `below`, which is at most that of the next input: `trace`,
    * `changes` and `changed` tell only of lines that are left, and so does a snapshot. Nothing else changes. Faults:
    * `Spoiled`, `Range`. */

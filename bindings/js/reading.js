@@ -126,6 +126,8 @@ export class Held {
 
 /** What is read of a world, of a World and of a Viewer. */
 export class Readable extends Held {
+  keepLines = false;
+
   /** The bytes that were made last. */
   _bytes() {
     return this._packet("copy_text");
@@ -152,17 +154,28 @@ export class Readable extends Held {
   }
 
   trace(first = 0) {
-    return this._text("make_trace", ordinal(first));
+    const text = this._text("make_trace", ordinal(first));
+    this._forgetRead(first);
+    return text;
   }
 
   changes(first = 0) {
-    return changesOf(this._text("make_changes", ordinal(first)));
+    const text = this._text("make_changes", ordinal(first));
+    this._forgetRead(first);
+    return changesOf(text);
   }
 
   changed(since = 0) {
     this._call("list_changed", ordinal(since));
     const fields = this._library.copied((...out) => this._status("copy_changed", ...out), CHANGE_SIZE);
-    return changedOf(fields, this._numbers());
+    const numbers = this._numbers();
+    this._forgetRead(since + 1);
+    return changedOf(fields, numbers);
+  }
+
+  /** Forgets the lines below a number that was read from, unless they are kept. */
+  _forgetRead(first) {
+    if (!this.keepLines) this.forgetBelow(Math.min(first, this.applied() + 1));
   }
 
   forgetBelow(below) {

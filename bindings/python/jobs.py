@@ -25,6 +25,8 @@ class Drawn:
     """What a program has drawn of a world, by its lists of changed fields."""
 
     def __init__(self, world):
+        # The whole trace is printed at the end.
+        world.keep_lines = True
         self.world, self.picture, self.since = world, picture(world), 0
 
     def draw(self):

@@ -117,7 +117,18 @@ class Client:
                 raise
             if self.is_joining and self.viewer.gather(packet) == "Whole":
                 self.viewer.join(self.boot)
-                self.is_joining, self.joins, self.drawn = False, self.joins + 1, 0
+                self.is_joining, self.joins = False, self.joins + 1
+                self.draw_all()
+
+    def draw_all(self):
+        """Draws each field that holds a value: a snapshot lacks the lines that its viewer forgot."""
+        for node in range(self.viewer.node_count()):
+            for field in range(self.viewer.field_count(node)):
+                try:
+                    self.picture[node, field] = self.viewer.numbers(node, field)
+                except Fault:  # a field that only sends holds no value
+                    pass
+        self.drawn = self.viewer.applied()
 
     def draw(self):
         """Draws the fields that were set since the last time."""

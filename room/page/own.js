@@ -82,6 +82,7 @@ async function start({ who, boot, life, text }) {
   if (own.boot !== boot || own.life !== life || !own.library) return;
   try {
     own.viewer = new own.x3d.Viewer(own.library, text, who, own.saved ? 1 : boot);
+    own.viewer.keepLines = true;
     if (own.saved) own.viewer.rewind(own.saved, boot);
     own.names = new Names(own.viewer);
   } catch (error) {

@@ -43,14 +43,29 @@ test("a click opens the door", () => {
 test("a world forgets old lines alone", () => {
   const [world, whole] = [clicked(), clicked()];
   for (const each of [world, whole]) each.clock(4, 11_000_002);
+  const size = whole.snapshot(1).length;
   refused("Range", () => world.forgetBelow(6));
   world.forgetBelow(4);
   assert.equal(world.trace(), whole.trace(4));
   assert.deepEqual(world.changed(3), whole.changed(3));
-  assert.ok(world.snapshot(1).length < whole.snapshot(1).length);
+  assert.ok(world.snapshot(1).length < size);
   for (const each of [world, whole]) each.clock(5, 11_500_002);
   assert.equal(world.trace(), whole.trace(4));
   assert.equal(world.scene(), whole.scene());
+});
+
+test("reading on forgets what was read", () => {
+  for (const read of [(each) => each.trace(3), (each) => each.changes(3), (each) => each.changed(2)]) {
+    const [world, whole] = [clicked(), clicked()];
+    whole.keepLines = true;
+    const [lines, late] = [whole.trace(), whole.trace(3)];
+    assert.equal(world.trace(), lines);
+    assert.deepEqual(read(world), read(whole));
+    assert.deepEqual([world.trace(), whole.trace()], [late, lines]);
+    assert.ok(late !== "" && late !== lines);
+    world.changes(Number.MAX_SAFE_INTEGER);
+    assert.equal(world.trace(), "");
+  }
 });
 
 test("a field that was set again is listed with its current value", () => {

@@ -56,6 +56,7 @@ class Nodes(unittest.TestCase):
 
     def test_a_viewer_forgets_old_lines_alone(self):
         host, viewer, whole = Host(DOOR, 2), Viewer(DOOR, 0, 1), Viewer(DOOR, 1, 1)
+        whole.keep_lines = True
         carrier = Carrier(host)
         viewer.offer(True, AIM)
         viewer.offer(False, AIM)
@@ -74,6 +75,8 @@ class Nodes(unittest.TestCase):
             carrier.turn(each, who)
         self.assertEqual(viewer.trace(), whole.trace(4))
         self.assertEqual((viewer.changed(4), viewer.scene()), (whole.changed(4), whole.scene()))
+        # What was read is forgotten.
+        self.assertEqual(viewer.trace(), whole.trace(5))
 
     def test_what_is_asked_of_a_viewer_is_as_of_a_world(self):
         scene = DOOR + """DEF Count Script {

@@ -79,6 +79,25 @@ class Worlds(unittest.TestCase):
         other.load(2, world.snapshot(1))
         self.assertEqual((other.trace(), other.scene()), (world.trace(), whole.scene()))
 
+    def test_reading_on_forgets_what_was_read(self):
+        for read in (
+            lambda each: each.trace(3),
+            lambda each: each.changes(3),
+            lambda each: each.changed(2),
+        ):
+            world, whole = clicked(), clicked()
+            whole.keep_lines = True
+            lines, late = whole.trace(), whole.trace(3)
+            self.assertEqual(world.trace(), lines)
+            self.assertEqual(read(world), read(whole))
+            self.assertEqual((world.trace(), whole.trace()), (late, lines))
+            self.assertNotIn(late, ("", lines))
+            world.changes(2**64 - 1)
+            self.assertEqual(world.trace(), "")
+            for each in (world, whole):
+                each.clock(4, 11_000_002)
+            self.assertEqual(world.trace(), whole.trace(4))
+
     def test_types_names_scripts_and_time(self):
         world = World(COUNT)
         door, count = world.node_named("Door"), world.node_named("Count")
@@ -119,9 +138,9 @@ class Worlds(unittest.TestCase):
             translation = world.field_named(door, "translation")
             drawn = [field for field in world.changed() if field.node == door]
             self.assertEqual(drawn, [(door, translation, "SFVec3f", [0, 2_500_000, 0])])
-            self.assertEqual(world.changed(1), [])
             lines = [change.value for change in world.changes(1) if change.node == door]
             self.assertEqual(lines, ["0.5 0 0"])
+            self.assertEqual(world.changed(1), [])
             self.assertEqual(world.value(door, translation), "0 2.5 0")
             self.assertEqual(world.numbers(door, translation), [0, 2_500_000, 0])
 

@@ -77,6 +77,7 @@ class Fault(Exception):
         77: "NotEntries",
         78: "LogFull",
         79: "InDoubt",
+        80: "HasBase",
     }
 
     def __init__(self, status: int, entry: int = 0, frame: Optional[int] = None) -> None:

@@ -25,8 +25,8 @@ class Log(Held):
         host.stored(append.token)  # and is shown
 
     Faults of opening, in this order: `NoLog`, `LogBusy`, `BadHead`, `WrongScene`, `WrongSeats` (of
-    another number of viewers, if one is given), `LogDamaged` with the frame's number, `LogFull`;
-    and `Device` and `Memory` at any time."""
+    another number of viewers, if one is given), `LogDamaged` with the frame's number, `HasBase`
+    (its first entries are not in the file), `LogFull`; and `Device` and `Memory` at any time."""
 
     _KIND = "log"
 

@@ -210,6 +210,11 @@ class Readable(Held):
     """What is read of a world, of a World and of a Viewer alike. Where memory was refused at an
     input all of it raises Fault `Spoiled`, but what a scene says by itself."""
 
+    keep_lines = False
+    """Whether lines stay that were read. If not, `trace`, `changes` and `changed` forget the lines
+    below the number they read from, since a program that reads on has read those: so its memory
+    doesn't grow. Set it to keep the whole trace."""
+
     def _bytes(self) -> bytes:
         """The bytes that were made last."""
         return self._copied("copy_text")
@@ -230,27 +235,39 @@ class Readable(Held):
 
     def trace(self, first: int = 0) -> str:
         """The lines of the trace that are of inputs from a number on; from 0 on it is the whole
-        trace."""
-        return self._text("make_trace", fits(first, 64))
+        trace. Then forgets the lines below that number (see `keep_lines`)."""
+        text = self._text("make_trace", fits(first, 64))
+        self._forget_read(first)
+        return text
 
     def changes(self, first: int = 0) -> List[Change]:
-        """The same lines by the numbers of nodes and fields."""
-        return [_change(line) for line in _lines(self._text("make_changes", fits(first, 64)))]
+        """The lines that `trace` gives, by the numbers of nodes and fields. Then forgets those below
+        that number, like `trace`."""
+        text = self._text("make_changes", fits(first, 64))
+        self._forget_read(first)
+        return [_change(line) for line in _lines(text)]
 
     def changed(self, since: int = 0) -> List[Changed]:
         """The fields that inputs after number `since` set, each once, with their current values.
         `since` is 0, or what `applied` was when the world was drawn last. A field that only sends
-        holds no value and is left out."""
+        holds no value and is left out. Then forgets the lines of inputs up to `since` (see
+        `keep_lines`)."""
         self._call("list_changed", fits(since, 64))
         self._status("copy_changed", (RawChange * 1)(), 0, self._wanted)
         size = self._wanted.value
         out = (RawChange * (size + 1))()
         self._call("copy_changed", out, size, self._wanted)
         numbers = self._numbers()
+        self._forget_read(since + 1)
         return [
             Changed(one.node, one.field, _type(one.value_type), numbers[one.first : one.first + one.count])
             for one in out[:size]
         ]
+
+    def _forget_read(self, first: int) -> None:
+        """Forgets the lines below a number that was read from, unless they are kept."""
+        if not self.keep_lines:
+            self._call("forget_below", min(first, self.applied() + 1))
 
     def forget_below(self, below: int) -> None:
         """Forgets the lines of the trace that are of inputs below a number, which is at most that of

@@ -167,6 +167,8 @@ pub enum Fault {
     LogFull,
     /// An append failed, and may be stored: drop the log, and open it again.
     InDoubt,
+    /// The log's first entries are not in its file: `serve --base` dropped them.
+    HasBase,
     /// A status that this crate has no name for, such as one of a later library.
     Other(u8),
 }
@@ -225,6 +227,7 @@ impl Fault {
             77 => Fault::NotEntries,
             78 => Fault::LogFull,
             79 => Fault::InDoubt,
+            80 => Fault::HasBase,
             other => Fault::Other(other),
         })
     }
@@ -283,6 +286,7 @@ impl fmt::Display for Fault {
             Fault::NotEntries => "the bytes are not the next entries of the log",
             Fault::LogFull => "the log is full",
             Fault::InDoubt => "an append failed, and may be stored",
+            Fault::HasBase => "the first entries are not in the file of the log",
         })
     }
 }

@@ -98,8 +98,8 @@ impl Log {
     }
 
     /// Opens the log of a scene's text, of this number of viewers, or of any. Faults, in this
-    /// order: `NoLog`, `LogBusy`, `BadHead`, `WrongScene`, `WrongSeats`, `LogDamaged`, `LogFull`;
-    /// and `Device` and `Memory` at any time.
+    /// order: `NoLog`, `LogBusy`, `BadHead`, `WrongScene`, `WrongSeats`, `LogDamaged`, `HasBase`,
+    /// `LogFull`; and `Device` and `Memory` at any time.
     pub fn open(
         path: impl AsRef<Path>,
         text: &[u8],

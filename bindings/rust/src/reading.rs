@@ -134,15 +134,18 @@ macro_rules! readable {
             }
 
             /// The lines of the trace that are of inputs from a number on; from 0 on it is the
-            /// whole trace.
+            /// whole trace. Then forgets the lines below that number (see `keep_lines`).
             pub fn trace(&mut self, first: u64) -> Result<String, Fault> {
                 Fault::told(unsafe { raw::$make_trace(&mut self.handle, first) })?;
-                Ok(self.string())
+                let text = self.string();
+                self.forget_read(first)?;
+                Ok(text)
             }
 
             /// The fields that inputs after number `since` set, each once, with their current
             /// values. `since` is 0, or the number of inputs that were applied when the world was
-            /// drawn last. A field that only sends holds no value and is left out.
+            /// drawn last. A field that only sends holds no value and is left out. Then forgets the
+            /// lines of inputs up to `since` (see `keep_lines`).
             pub fn changed(&mut self, since: u64) -> Result<ChangedFields, Fault> {
                 let mut changed = ChangedFields::default();
                 self.changed_into(since, &mut changed)?;
@@ -160,15 +163,32 @@ macro_rules! readable {
                     raw::$copy_changed(&mut self.handle, out, room, wanted)
                 });
                 self.listed_into(&mut changed.numbers);
-                Ok(())
+                self.forget_read(since.saturating_add(1))
             }
 
-            /// The same lines by the numbers of nodes and fields.
+            /// The lines that `trace` gives, by the numbers of nodes and fields. Then forgets those
+            /// below that number, like `trace`.
             pub fn changes(&mut self, first: u64) -> Result<Changes, Fault> {
                 Fault::told(unsafe { raw::$make_changes(&mut self.handle, first) })?;
-                Ok(Changes {
-                    text: self.string(),
-                })
+                let text = self.string();
+                self.forget_read(first)?;
+                Ok(Changes { text })
+            }
+
+            /// Keeps the lines that were read, if `keeps`: `trace`, `changes` and `changed` forget
+            /// none from now on. At first each of them forgets the lines below the number it reads
+            /// from, since a program that reads on has read those: so its memory doesn't grow.
+            pub fn keep_lines(&mut self, keeps: bool) {
+                self.keeps_lines = keeps;
+            }
+
+            /// Forgets the lines below a number that was read from, unless they are kept.
+            fn forget_read(&mut self, first: u64) -> Result<(), Fault> {
+                if self.keeps_lines {
+                    return Ok(());
+                }
+                let next = self.applied().saturating_add(1);
+                self.forget_below(first.min(next))
             }
 
             /// Forgets the lines of the trace that are of inputs below a number, which is at most

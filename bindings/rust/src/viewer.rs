@@ -44,6 +44,7 @@ pub enum Gathered {
 /// handle.
 pub struct Viewer {
     handle: RawViewer,
+    keeps_lines: bool,
 }
 
 // SAFETY: what a handle owns may go to another thread: this is proved of `ViewerHandle` (its `Send`, in
@@ -59,6 +60,7 @@ impl Viewer {
             handle: RawViewer {
                 at: ptr::null_mut(),
             },
+            keeps_lines: false,
         };
         let (mut line, mut wanted) = ([0; 64], 0);
         // SAFETY: the handle is null, and the bytes are lent for the call. So it is in each call

@@ -42,6 +42,7 @@ pub enum Kind {
 /// of its handle.
 pub struct World {
     handle: RawWorld,
+    keeps_lines: bool,
 }
 
 // SAFETY: what a handle owns may go to another thread: this is proved of `WorldHandle` (its `Send`, in
@@ -56,6 +57,7 @@ impl World {
             handle: RawWorld {
                 at: ptr::null_mut(),
             },
+            keeps_lines: false,
         };
         let (mut line, mut wanted) = ([0; 64], 0);
         // SAFETY: the handle is null, and the bytes are lent for the call. So it is in each call
@@ -82,6 +84,7 @@ impl World {
             handle: RawWorld {
                 at: ptr::null_mut(),
             },
+            keeps_lines: false,
         };
         let (mut line, mut wanted) = ([0; 64], 0);
         let status = unsafe {

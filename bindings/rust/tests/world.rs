@@ -66,6 +66,28 @@ fn a_world_forgets_old_lines_alone() {
 }
 
 #[test]
+fn reading_on_forgets_what_was_read() {
+    let reads: [fn(&mut World); 3] = [
+        |each| drop(each.trace(3).unwrap()),
+        |each| drop(each.changes(3).unwrap()),
+        |each| drop(each.changed(2).unwrap()),
+    ];
+    for read in reads {
+        let (mut world, mut whole) = (clicked(), clicked());
+        whole.keep_lines(true);
+        let (lines, late) = (whole.trace(0).unwrap(), whole.trace(3).unwrap());
+        assert_eq!(world.trace(0).unwrap(), lines);
+        read(&mut world);
+        read(&mut whole);
+        assert_eq!(world.trace(0).unwrap(), late);
+        assert_eq!(whole.trace(0).unwrap(), lines);
+        assert!(!late.is_empty() && late != lines);
+        world.changes(u64::MAX).unwrap();
+        assert_eq!(world.trace(0).unwrap(), "");
+    }
+}
+
+#[test]
 fn a_line_may_have_another_value_than_its_field() {
     let mut world = World::open(TWICE).unwrap();
     world.clock(1, 1_000_000).unwrap();

@@ -1,34 +1,27 @@
 -- The lines of a log, followed by a scene, are a job of the log's inputs.
-use Rattle.std.proofs.Common.{◌≡◌, ◌⊎◌, inl, inr, ℕ, zero, suc, ◌+◌, ◌^◌, ◌<◌, ◌<ℤ◌, ◌≤ℤ◌, ℤ, pos, negsuc, ◌+ℤ◌, true, List, [], ◌∷◌, ◌++◌, length, map, take, drop, codes}
+use Rattle.std.proofs.Common.{◌≡◌, ◌⊎◌, inl, inr, ℕ, zero, suc, ◌+◌, ◌≤ℤ◌, ℤ, pos, negsuc, ◌+ℤ◌, true, List, [], ◌∷◌, ◌++◌, length, map, take, drop, codes}
 use Rattle.std.proofs.Common.{refl, sym, ap, subst, ◌∙◌, arith, append_assoc, length-append, zero-add}
-use Rattle.std.specs.Prelude.{⊤, int_le, Option, Some, None, Result, Ok, Err, slice_get}
+use Rattle.std.specs.Prelude.{⊤, Ok}
 use Rattle.std.specs.List.{join_with_byte, slice_split}
 use Rattle.std.specs.Str.Lines.{lines}
 use Rattle.std.proofs.lemmas.Bool.{and_parts}
-use Rattle.std.proofs.lemmas.Bool.Decides.{nat_tests}
 use Rattle.std.proofs.lemmas.Int.{ints}
 use Rattle.x3d_numerals.specs.NumberText.{IsLimited, number_text}
 use Rattle.x3d_numerals.proofs.Written.{numeral_of}
 use Rattle.x3d_values.specs.Pointing.{PointerView, is_ray}
-use Rattle.x3d_values.specs.Ranges.{is_input_time, is_viewer, max_inputs, max_time}
+use Rattle.x3d_values.specs.Ranges.{is_viewer, max_time}
 use Rattle.x3d_values.specs.Stamp.{StampedView}
 use Rattle.share_rules.specs.Lines.{behind_line, is_lf}
-use Rattle.share_rules.specs.declared.offers.Standing.{Standing}
-use Rattle.share_rules.specs.declared.offers.Standing.TheVariants as turn
 use Rattle.share_wire.specs.Messages.{OfferView}
 use Rattle.share_entries.specs.Entry.{EntryView}
 use Rattle.share_entries.specs.declared.entry.Source.{Source}
 use Rattle.share_entries.specs.declared.entry.Source.TheVariants.{Clock, Offer}
-use Rattle.share_law.specs.declared.fault.HostFault.{HostFault}
-use Rattle.share_law.specs.declared.fault.NumberFault.{NumberFault}
-use Rattle.share_law.specs.declared.kept.SeatCount.{SeatCount}
-use Rattle.share_law.specs.declared.reply.HostReply.{HostReply}
-use Rattle.share_law.specs.declared.reply.HostReply.TheVariants.{Numbered}
-use Rattle.share_law.specs.Host.{HostState, clocked, last_from, last_time, number_fault, offer_answered, offer_came, offer_numbered, reply_of}
+use Rattle.share_law.specs.Host.{HostState, last_from, last_time}
 use Rattle.laws_hosts.specs.Log.{host_of, inputs_of}
 use Rattle.share_logged.specs.Logged.{entry_at, logged, logged_from}
 use Rattle.share_logged.specs.Making.{AreMade, IsLogOf, MakesOf}
 use Rattle.share_logged.proofs.Making.{list-push, logged-inputs, makes-next}
+use Rattle.share_logged.proofs.Ranges.{makes_none, numbers_none, time_ok}
 use Rattle.app_jobs.specs.Job.{AreSteps, IsClock, IsJobStep, IsPointed, behind_lines, job_lines}
 use Rattle.app_jobs.specs.Points.{IsPoint}
 use Rattle.app_jobs.proofs.JobOnly.{only}
@@ -38,53 +31,10 @@ use Rattle.app_logs.specs.Steps.{steps_text}
 use Rattle.app_logs.proofs.Unbroken.{Unbroken, behind_is, first_is, numeral_is, unbroken_both}
 use Rattle.app_logs.proofs.EntryLines.{bare_of, bare, line_is, point_is}
 
--- ---- what a host numbers
-
-record Numbers (list : List StampedView) (t : ℤ) : Type 0 where
-  few : length list < max_inputs
-  later : last_time list <ℤ t
-  most : t ≤ℤ pos max_time
-
-numbers_none : (list : List StampedView) (t : ℤ) → number_fault list t ≡ None → Numbers list t
-unfolding number_fault
-numbers_none list t none = record { few = grind (arith, nat_tests, ints); later = grind (arith, nat_tests, ints); most = grind (arith, nat_tests, ints) }
-
-clock_none : (h new : HostState) (t : ℤ) (n : ℕ) (f : Option NumberFault) → clocked h t f ≡ (Ok n, new) → f ≡ None
-clock_none h new t n (Some fault) e = let a : Err fault ≡ Ok n = ap (λ (r : Result ℕ NumberFault × HostState). r.0) e in absurd (cc)
-clock_none h new t n None e = refl
-
-offer_none : (h new : HostState) (o : OfferView) (n : ℕ) (f : Option NumberFault) → offer_numbered h o f ≡ (Ok (Numbered n), new) → f ≡ None
-offer_none h new o n (Some fault) e = let a = ap (λ (r : Result HostReply HostFault × HostState). r.0) e in absurd (cc)
-offer_none h new o n None e = refl
-
-answered_none : (h new : HostState) (o : OfferView) (s : Standing) (n : ℕ) → offer_answered h o (reply_of s) ≡ (Ok (Numbered n), new)
-    → number_fault h.list (last_time h.list +ℤ pos 1) ≡ None
-answered_none h new o turn.OldBoot n e = let a = ap (λ (r : Result HostReply HostFault × HostState). r.0) e in absurd (cc)
-answered_none h new o turn.Repeat n e = let a = ap (λ (r : Result HostReply HostFault × HostState). r.0) e in absurd (cc)
-answered_none h new o turn.Ahead n e = let a = ap (λ (r : Result HostReply HostFault × HostState). r.0) e in absurd (cc)
-answered_none h new o turn.Next n e = offer_none h new o n (number_fault h.list (last_time h.list +ℤ pos 1)) e
-
-came_none : (h new : HostState) (o : OfferView) (k : Option SeatCount) (n : ℕ) → offer_came h o k ≡ (Ok (Numbered n), new)
-    → number_fault h.list (last_time h.list +ℤ pos 1) ≡ None
-came_none h new o None n e = let a = ap (λ (r : Result HostReply HostFault × HostState). r.0) e in absurd (cc)
-came_none h new o (Some k) n e = answered_none h new o _ n e
-
-makes_none : (h new : HostState) (t : ℤ) (s : Source) → MakesOf h t s new → number_fault h.list t ≡ None
-makes_none h new t Clock m = clock_none h new t m.0 (number_fault h.list t) m.1
-makes_none h new t (Offer o) m =
-    ap (λ (u : ℤ). number_fault h.list u) m.0 ∙ came_none h new o (slice_get h.kept o.pointer.who) m.1.0 m.1.1
-
 -- ---- one step
 
 abbrev input_of : (number : ℕ) → ℤ → Source → StampedView
 input_of number t s = (entry_at number (record { time = t; source = s })).input
-
-time_ok : (before t : ℤ) → pos 0 ≤ℤ before → before <ℤ t → t ≤ℤ pos max_time → (is_input_time t ≡ true) × (pos 0 ≤ℤ t)
-time_ok before t from later most =
-    let low : int_le (pos 1) t ≡ true = grind (arith, ints) in
-    let high : int_le t (pos (10 ^ 18)) ≡ true = grind (arith, ints) in
-    let next : pos 0 ≤ℤ t = grind (arith, ints) in
-    (rw low (rw high refl), next)
 
 time_limited : (t : ℤ) → pos 0 ≤ℤ t → t ≤ℤ pos max_time → IsLimited t
 time_limited (pos n) from most = grind (arith, ints)

@@ -5,36 +5,42 @@ use Rattle.std.specs.Cmp.Lexicographic.{pointwise}
 use Rattle.share_entries.specs.declared.head.Head.{Head}
 use Rattle.share_entries.specs.declared.head.HeadFault.{HeadFault}
 use Rattle.share_entries.specs.declared.head.HeadFault.TheVariants.{BadViewers, BadSum, BadVersion, BadMagic}
+use Rattle.share_entries.specs.Base.{BaseView}
 use Rattle.share_entries.specs.Entry.{EntryView}
 use Rattle.share_entries.specs.Head.{HeadParts, has_viewers, head_fields, head_in, head_of, head_with, is_viewer_count, sum_of}
 use Rattle.share_log.specs.Frames.{frames_of, size_of}
 use Rattle.share_file.specs.declared.fault.OpenFault.{OpenFault}
 use Rattle.share_file.specs.declared.fault.OpenFault.TheVariants.{BadHead, WrongScene, WrongSeats, LogDamaged}
 use Rattle.share_file.specs.declared.contents.Expected.{Expected}
-use Rattle.share_file.specs.Entries.{entries_from}
-use Rattle.share_file.specs.Contents.{FileView, contents_in, contents_of, ended, ends_well, has_seats, headed}
+use Rattle.share_entries.specs.Start.{start_of}
+use Rattle.share_file.specs.Entries.{base_among, behind_base, entries_from, first_number}
+use Rattle.share_file.specs.Contents.{FileView, based, contents_in, contents_of, ended, ends_well, has_seats, headed}
 
 -- ---- of the file
 
-ended_head : (head : Head) (number : ℕ) (tail : List ℕ) (v : FileView) (r : Result (List EntryView) ℕ) → ended head number tail r ≡ Ok v → v.head ≡ head
-ended_head head number tail v (Err damaged) is = cc
-ended_head head number tail v (Ok entries) is = go (ends_well head entries tail) is
+ended_head : (head : Head) (base : Option BaseView) (number : ℕ) (tail : List ℕ) (v : FileView) (r : Result (List EntryView) ℕ) → ended head base number tail r ≡ Ok v → v.head ≡ head
+ended_head head base number tail v (Err damaged) is = cc
+ended_head head base number tail v (Ok entries) is = go (ends_well (start_of head base) entries tail) is
   where
-    go : (b : Bool) → (if b then Ok (record { head = head; entries = entries; cut = length tail - 1 }) else Err (LogDamaged number)) ≡ Ok v → v.head ≡ head
+    go : (b : Bool) → (if b then Ok (record { head = head; base = base; entries = entries; cut = length tail - 1 }) else Err (LogDamaged number)) ≡ Ok v → v.head ≡ head
     go false is = cc
     go true is =
-        let made : FileView = record { head = head; entries = entries; cut = length tail - 1 } in
+        let made : FileView = record { head = head; base = base; entries = entries; cut = length tail - 1 } in
         let same : made ≡ v = cc in
         ap (λ (x : FileView). x.head) (sym same)
+
+based_head : (head : Head) (frames : List (List ℕ)) (tail : List ℕ) (v : FileView) (r : Result (Option BaseView) ℕ) → based head frames tail r ≡ Ok v → v.head ≡ head
+based_head head frames tail v (Err damaged) is = cc
+based_head head frames tail v (Ok base) is = ended_head head base (length frames + 1) tail v (entries_from (start_of head base) [] (first_number frames) (behind_base frames)) is
 
 headed_head : (expected : Expected) (frames : List (List ℕ)) (tail : List ℕ) (v : FileView) (head : Head) → headed expected frames tail head ≡ Ok v → v.head ≡ head
 headed_head expected frames tail v head is = go (pointwise nat_eq head.mark expected.mark) is
   where
-    within : (b : Bool) → (if b then ended head (length frames + 1) tail (entries_from head.run [] 1 frames) else Err WrongSeats) ≡ Ok v → v.head ≡ head
+    within : (b : Bool) → (if b then based head frames tail (base_among head frames) else Err WrongSeats) ≡ Ok v → v.head ≡ head
     within false is = cc
-    within true is = ended_head head (length frames + 1) tail v (entries_from head.run [] 1 frames) is
+    within true is = based_head head frames tail v (base_among head frames) is
 
-    go : (b : Bool) → (if b then (if has_seats expected.viewers head.viewers then ended head (length frames + 1) tail (entries_from head.run [] 1 frames) else Err WrongSeats) else Err WrongScene) ≡ Ok v → v.head ≡ head
+    go : (b : Bool) → (if b then (if has_seats expected.viewers head.viewers then based head frames tail (base_among head frames) else Err WrongSeats) else Err WrongScene) ≡ Ok v → v.head ≡ head
     go false is = cc
     go true is = within (has_seats expected.viewers head.viewers) is
 

@@ -22,12 +22,12 @@ memory_refused file why fault (inr (inr is)) d (inr same) = inr (inl (why, is, s
 
 module _ (expected : Expected) (file : List ℕ) (v : FileView) (fault : LogFault) (is : contents_of expected file ≡ Ok v) where
   -- a log that was found, and whose entries no host wrote
-  pub not_resumed : IsNotResumed v.head.viewers v.entries fault → IsNotBegun (contents_of expected file) fault
+  pub not_resumed : IsNotResumed v.head.viewers v.base v.entries fault → IsNotBegun (contents_of expected file) fault
   not_resumed (inl memory) = inr (inl memory)
   not_resumed (inr (inl broken)) = inr (inr (inr (v, broken.0, is, broken.1, broken.2)))
   not_resumed (inr (inr bad)) = absurd (true≢false (sym (found_fits expected file v is) ∙ bad.1))
 
-pub not_written : (file : List ℕ) (v : FileView) (fault : LogFault) → log_in file ≡ Ok v → IsNotResumed v.head.viewers v.entries fault
+pub not_written : (file : List ℕ) (v : FileView) (fault : LogFault) → log_in file ≡ Ok v → IsNotResumed v.head.viewers v.base v.entries fault
     → (fault ≡ Memory) ⊎ IsNoLog file fault
 not_written file v fault is (inl memory) = inl memory
 not_written file v fault is (inr (inl broken)) = inr (inr (v, broken.0, is, broken.1, broken.2))

@@ -1,5 +1,5 @@
 -- Turns of a host over a log, one after another.
-use Rattle.std.specs.Prelude.{◌≡◌, ◌⊎◌, ℕ, zero, suc, ◌≤◌, ◌<◌, ℤ, Bool, true, false, IsTrue, List, slice_get}
+use Rattle.std.specs.Prelude.{◌≡◌, ◌⊎◌, ◌++◌, ℕ, zero, suc, ◌≤◌, ◌<◌, ℤ, Bool, true, false, IsTrue, List, slice_get}
 use Rattle.std.specs.Prelude.{Option, is_none, Result, Ok, Err}
 use Rattle.share_entries.specs.Entry.{EntryView}
 use Rattle.share_law.specs.Parts.{HostPart}
@@ -34,14 +34,16 @@ moment host due stored clean passed =
 -- ---- one turn
 
 -- a whole turn: what it stores and sends, and which inputs the host then keeps; each input, ack and
--- floor that it sends is of entries that are then stored; the host stays the one that the log makes
+-- floor that it sends is of entries that are then stored; the host stays the one that the log
+-- makes, of which the entries `below` may be known by a base alone
 pub record IsTaken (mark : List ℕ) (keep : Option ℕ) (clock : Option ℤ) (was_clean clean : Bool)
     (known stored : List EntryView) (a b : Passed) (old new : Hosting) : Type 0 where
   pub turned : IsRestedTurn mark keep clock clean known stored a b old new
-  pub shown : (viewers : ℕ) → IsTrue clean → IsOfLog viewers known old.part
-      → Shows mark viewers stored a.told b.told
-  pub current : (viewers : ℕ) → IsTrue clean → IsOfLog viewers known old.part
-      → IsOfLog viewers stored new.part
+  pub shown : (viewers : ℕ) (below : List EntryView) → IsTrue clean
+      → IsOfLog viewers (below ++ known) old.part
+      → Shows mark viewers (below ++ stored) a.told b.told
+  pub current : (viewers : ℕ) (below : List EntryView) → IsTrue clean
+      → IsOfLog viewers (below ++ known) old.part → IsOfLog viewers (below ++ stored) new.part
   pub cleaner : IsTrue clean → IsTrue was_clean
 
 -- a turn that ended early, after which the port didn't rest
@@ -49,8 +51,9 @@ pub record IsLastTurn (mark : List ℕ) (clock : Option ℤ) (fault : LoggedFaul
     (was_clean clean : Bool) (known stored : List EntryView) (a b : Passed) (old : HostPart) :
     Type 0 where
   pub ended : IsLoggedEnd mark clock fault clean known stored a.told b.told old nobody
-  pub shown : (viewers : ℕ) → IsTrue clean → IsOfLog viewers known old
-      → Shows mark viewers stored a.told b.told
+  pub shown : (viewers : ℕ) (below : List EntryView) → IsTrue clean
+      → IsOfLog viewers (below ++ known) old
+      → Shows mark viewers (below ++ stored) a.told b.told
   pub cleaner : IsTrue clean → IsTrue was_clean
   pub rested : b.rested ≡ a.rested
 

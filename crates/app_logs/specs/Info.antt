@@ -1,10 +1,11 @@
 -- What a log has, in lines (our choice).
-use Rattle.std.specs.Prelude.{ℕ, zero, suc, ℤ, ◌==◌, Bool, true, false, List, [], ◌∷◌, ◌++◌, codes, count_by, decimal, length}
+use Rattle.std.specs.Prelude.{ℕ, zero, suc, ℤ, ◌==◌, Bool, true, false, List, [], ◌∷◌, ◌++◌, ◌+◌, Option, None, Some, codes, count_by, decimal, length}
 use Rattle.hex.specs.Hex.{encode_lower}
 use Rattle.x3d_numerals.specs.NumberText.{number_text}
 use Rattle.share_entries.specs.declared.entry.Source.{Source}
 use Rattle.share_entries.specs.declared.entry.Source.TheVariants.{Clock, Offer}
 use Rattle.share_entries.specs.declared.head.Head.{Head}
+use Rattle.share_entries.specs.Base.{BaseView}
 use Rattle.share_entries.specs.Entry.{EntryView}
 use Rattle.app_logs.specs.Clocks.{last_of}
 
@@ -66,15 +67,25 @@ head_text head =
     number_line (codes "viewers ") head.viewers ++ hex_line (codes "scene ") head.mark
     ++ hex_line (codes "run ") head.run
 
--- the size of the file, how much of it is of an append that wasn't finished, and how many of the
--- entries are clocks
-abbrev pub sizes_text : (size cut : ℕ) → List EntryView → List ℕ
-sizes_text size cut entries =
+-- the number of the last entry below the base, if the log has one
+abbrev pub base_line : Option BaseView → List ℕ
+base_line None = []
+base_line (Some base) = number_line (codes "base ") base.number
+
+abbrev pub below_of : Option BaseView → ℕ
+below_of None = 0
+below_of (Some base) = base.number
+
+-- the size of the file, how much of it is of an append that wasn't finished, how many inputs there
+-- are with those below the base, and how many of these entries are clocks
+abbrev pub sizes_text : (size cut below : ℕ) → List EntryView → List ℕ
+sizes_text size cut below entries =
     number_line (codes "bytes ") size ++ number_line (codes "cut ") cut
-    ++ number_line (codes "inputs ") (length entries)
+    ++ number_line (codes "inputs ") (below + length entries)
     ++ number_line (codes "clocks ") (clock_count entries)
 
-abbrev pub info_text : (size cut : ℕ) → Head → List EntryView → List ℕ
-info_text size cut head entries =
-    head_text head ++ sizes_text size cut entries ++ times_text entries
-    ++ offers_text head.viewers entries
+-- on a log, and on these entries, the first after its base
+abbrev pub info_text : (size cut : ℕ) → Head → Option BaseView → List EntryView → List ℕ
+info_text size cut head base entries =
+    head_text head ++ base_line base ++ sizes_text size cut (below_of base) entries
+    ++ times_text entries ++ offers_text head.viewers entries

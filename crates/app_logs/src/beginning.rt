@@ -1,22 +1,20 @@
 //! A host that makes a log, or goes on with one.
 
-ghost use Rattle.std.specs.Prelude.{◌≡◌, ◌⊎◌, [], IfErr, IfOk, IsTrue, OnOk, Ok, false, pos};
+ghost use Rattle.std.specs.Prelude.{◌≡◌, ◌⊎◌, [], IfErr, IfOk, IsTrue, None, OnOk, Ok, false};
 ghost use Rattle.share_entries.specs.Head.{is_viewer_count};
 ghost use Rattle.share_file.specs.Contents.{contents_of};
 ghost use Rattle.share_file.specs.Keeping.{IsNew};
 ghost use Rattle.share_file.specs.Making.{is_unmade};
 ghost use Rattle.share_log.specs.Frames.{frames_of};
-ghost use Rattle.share_logged.specs.Making.{IsLogOf};
 ghost use Rattle.share_store.specs.OneLog.{Last};
-ghost use Rattle.app_logs.specs.Beginning.{IsNotBegun, IsNotResumed, host_with};
-ghost use Rattle.app_logs.specs.Clocks.{last_of};
+ghost use Rattle.app_logs.specs.Beginning.{AreWritten, GoesOnWith, IsNotBegun, IsNotResumed};
+ghost use Rattle.app_logs.specs.Beginning.{host_with};
 ghost use Rattle.app_logs.specs.declared.fault.LogFault.TheVariants.{Device, Memory, NotEmpty};
 
-use crate::clocks::last_of;
 use crate::fault::{LogFault, open_fault_of};
-use share_entries::{Entry, Head, is_viewer_count};
+use share_entries::{Base, Entry, Head, is_viewer_count};
 use share_file::{Expected, FileLog, Opened, create, open};
-use share_logged::{LoggedHost, ResumeFault, resume};
+use share_logged::{LoggedHost, resume, resume_from};
 use sqlite_disk::Disk;
 use std::alloc::Global;
 
@@ -28,28 +26,33 @@ pub struct Begun<D: Disk> {
     pub head: Head,
     /// How many bytes were cut after the last entry.
     pub cut: u64,
-    /// The time of the last entry in microseconds, or 0.
-    pub last: i64,
-    /// The entries that the log had.
+    /// What stands for its first entries, if it has a base.
+    pub base: Option<Base>,
+    /// The entries that the log had, or those after its base.
     pub entries: Vec<Entry>,
 }
 
-/// Creates the host that the entries of a log with this head make.
+/// Creates the host that the entries of a log with this head make, or its base and the entries
+/// after it.
 ///
 /// Fails with `BadHead` if the head's number of viewers isn't one, with `NotALog` and the number of
 /// the first entry that no host of its viewers wrote there, or with `Memory`.
-pub fn resumed(alloc: Global, head: &Head, entries: &[Entry]) -> Result<LoggedHost, LogFault>
-    ensures host { IfOk result (λ h. h ≡ host_with head.now entries.now) }
-    ensures log { OnOk result (IsLogOf head.now.viewers entries.now) }
-    ensures refused { IfErr result (IsNotResumed head.now.viewers entries.now) }
+pub fn resumed(
+    alloc: Global,
+    head: &Head,
+    base: &Option<Base>,
+    entries: &[Entry],
+) -> Result<LoggedHost, LogFault>
+    ensures host { IfOk result (GoesOnWith head.now base.now entries.now) }
+    ensures log { OnOk result (AreWritten head.now.viewers base.now entries.now) }
+    ensures refused { IfErr result (IsNotResumed head.now.viewers base.now entries.now) }
 {
     if !is_viewer_count(head.viewers) {
         return Err(LogFault::BadHead);
     }
-    match resume(alloc, head.mark, head.viewers, entries) {
-        Ok(hosting) => Ok(hosting),
-        Err(ResumeFault::NotALog(number)) => Err(LogFault::NotALog(number)),
-        Err(ResumeFault::Memory) => Err(LogFault::Memory),
+    match base {
+        None => Ok(resume(alloc, head.mark, head.viewers, entries)?),
+        Some(base) => Ok(resume_from(alloc, head.mark, base, entries)?),
     }
 }
 
@@ -59,36 +62,36 @@ fn with_host<D: Disk>(alloc: Global, opened: Opened<D>) -> Result<Begun<D>, (Log
     ensures log { IfOk result (λ b. b.log ≡ opened.log) }
     ensures head { IfOk result (λ b. b.head ≡ opened.head) }
     ensures cut { IfOk result (λ b. b.cut ≡ opened.cut) }
-    ensures host { IfOk result (λ b. b.hosting ≡ host_with opened.head opened.entries.items) }
-    ensures made { OnOk result (IsLogOf opened.head.viewers opened.entries.items) }
-    ensures last { IfOk result (λ b. b.last ≡ last_of opened.entries.items) }
+    ensures base { IfOk result (λ b. b.base ≡ opened.base) }
+    ensures host { IfOk result
+        (λ b. GoesOnWith opened.head opened.base opened.entries.items b.hosting) }
+    ensures made { OnOk result
+        (AreWritten opened.head.viewers opened.base opened.entries.items) }
     ensures entries { IfOk result (λ b. b.entries.items ≡ opened.entries.items) }
     // Whatever a crash leaves has the entries that the log knows.
     ensures lasts { IfOk result (λ b. IsTrue (⟦<FileLog<D> as share_store::Log>⟧.is_clean b.log)
         → Last (⟦<FileLog<D> as share_store::Log>⟧.may_leave b.log)
         (⟦<FileLog<D> as share_store::Log>⟧.known b.log)) }
     ensures refused { IfErr result
-        (λ f. IsNotResumed opened.head.viewers opened.entries.items f.0) }
+        (λ f. IsNotResumed opened.head.viewers opened.base opened.entries.items f.0) }
     ensures disk { IfErr result (λ f. f.1 ≡ opened.log.log.disk) }
 {
     let Opened {
         log,
         head,
+        base,
         entries,
         cut,
     } = opened;
-    match resumed(alloc, &head, &entries) {
-        Ok(hosting) => {
-            let last = last_of(&entries);
-            Ok(Begun {
-                log,
-                hosting,
-                head,
-                cut,
-                last,
-                entries,
-            })
-        }
+    match resumed(alloc, &head, &base, &entries) {
+        Ok(hosting) => Ok(Begun {
+            log,
+            hosting,
+            head,
+            cut,
+            base,
+            entries,
+        }),
         Err(fault) => {
             drop(entries);
             Err((fault, log.into_disk()))
@@ -97,7 +100,7 @@ fn with_host<D: Disk>(alloc: Global, opened: Opened<D>) -> Result<Begun<D>, (Log
 }
 
 /// Goes on with the log of a file, in whatever state a crash left it: creates the host that its
-/// entries make. What a crash left after them is cut.
+/// entries make, or its base and the entries after it. What a crash left after them is cut.
 ///
 /// Fails with the first fault of the file, with `NotALog` and the number of the first entry that no
 /// host of its viewers wrote there, or with `Device` or `Memory`; and returns the disk.
@@ -111,16 +114,15 @@ pub fn go_on<D: Disk>(
     ensures found { IfOk result (λ b. IsTrue (⟦<FileLog<D> as share_store::Log>⟧.is_clean b.log)
         → contents_of expected.now (D.seen disk) ≡ Ok (record {
           head = b.head;
+          base = b.base;
           entries = ⟦<FileLog<D> as share_store::Log>⟧.known b.log;
           cut = b.cut;
         })) }
-    // The host is the one that the log's entries make, and they are those of a host.
+    // The host goes on with what the log has, and its entries are those of a host.
     ensures host { IfOk result (λ b. IsTrue (⟦<FileLog<D> as share_store::Log>⟧.is_clean b.log)
-        → b.hosting ≡ host_with b.head (⟦<FileLog<D> as share_store::Log>⟧.known b.log)) }
+        → GoesOnWith b.head b.base (⟦<FileLog<D> as share_store::Log>⟧.known b.log) b.hosting) }
     ensures made { IfOk result (λ b. IsTrue (⟦<FileLog<D> as share_store::Log>⟧.is_clean b.log)
-        → IsLogOf b.head.viewers (⟦<FileLog<D> as share_store::Log>⟧.known b.log)) }
-    ensures last { IfOk result (λ b. IsTrue (⟦<FileLog<D> as share_store::Log>⟧.is_clean b.log)
-        → b.last ≡ last_of (⟦<FileLog<D> as share_store::Log>⟧.known b.log)) }
+        → AreWritten b.head.viewers b.base (⟦<FileLog<D> as share_store::Log>⟧.known b.log)) }
     ensures entries { IfOk result (λ b. IsTrue (⟦<FileLog<D> as share_store::Log>⟧.is_clean b.log)
         → b.entries.items ≡ ⟦<FileLog<D> as share_store::Log>⟧.known b.log) }
     // Whatever a crash leaves has the entries that the log knows.
@@ -152,7 +154,7 @@ pub fn make_log<D: Disk>(alloc: Global, disk: D, head: &Head) -> Result<Begun<D>
         → ⟦<FileLog<D> as share_store::Log>⟧.known b.log ≡ []) }
     ensures host { IfOk result (λ b. b.hosting ≡ host_with head.now []) }
     ensures head { IfOk result (λ b. b.head ≡ head.now) }
-    ensures last { IfOk result (λ b. (b.last ≡ pos 0) × (b.cut ≡ 0)) }
+    ensures none { IfOk result (λ b. (b.base ≡ None) × (b.cut ≡ 0)) }
     ensures entries { IfOk result (λ b. b.entries.items ≡ []) }
     // Whatever a crash leaves has the entries that the log knows.
     ensures lasts { IfOk result (λ b. IsTrue (⟦<FileLog<D> as share_store::Log>⟧.is_clean b.log)
@@ -183,7 +185,7 @@ fn with_new_host<D: Disk>(
     ensures log { IfOk result (λ b. b.log ≡ log) }
     ensures host { IfOk result (λ b. b.hosting ≡ host_with head.now []) }
     ensures head { IfOk result (λ b. b.head ≡ head.now) }
-    ensures last { IfOk result (λ b. (b.last ≡ pos 0) × (b.cut ≡ 0)) }
+    ensures none { IfOk result (λ b. (b.base ≡ None) × (b.cut ≡ 0)) }
     ensures entries { IfOk result (λ b. b.entries.items ≡ []) }
     // Whatever a crash leaves has the entries that the log knows.
     ensures lasts { IfOk result (λ b. IsTrue (⟦<FileLog<D> as share_store::Log>⟧.is_clean b.log)
@@ -191,13 +193,13 @@ fn with_new_host<D: Disk>(
         (⟦<FileLog<D> as share_store::Log>⟧.known b.log)) }
     ensures refused { IfErr result (λ f. f.0 ≡ Memory) }
 {
-    match resumed(alloc, head, &[]) {
+    match resumed(alloc, head, &None, &[]) {
         Ok(hosting) => Ok(Begun {
             log,
             hosting,
             head: *head,
             cut: 0,
-            last: 0,
+            base: None,
             entries: Vec::new(alloc),
         }),
         Err(_fault) => Err((LogFault::Memory, log.into_disk())),

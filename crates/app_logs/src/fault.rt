@@ -6,7 +6,7 @@ ghost use Rattle.app_logs.specs.declared.fault.LogFault.TheVariants.{Memory};
 ghost use Rattle.app_logs.specs.declared.fault.RunFault.TheVariants.{Turn};
 
 use share_file::OpenFault;
-use share_logged::LoggedFault;
+use share_logged::{LoggedFault, ResumeFault};
 use share_store::AppendFault;
 use std::alloc::AllocError;
 use thiserror::Error;
@@ -30,6 +30,8 @@ pub enum LogFault {
     LogDamaged(u64),
     #[error("entry {0} is not one that a host wrote there")]
     NotALog(u64),
+    #[error("the log has its entries up to {0} as a base alone")]
+    HasBase(u64),
     #[error("the log is full")]
     LogFull,
     #[error("the log's device failed")]
@@ -43,6 +45,19 @@ impl From<AllocError> for LogFault {
 
     fn from(_refused: AllocError) -> LogFault {
         LogFault::Memory
+    }
+}
+
+impl From<ResumeFault> for LogFault {
+    ghost use Rattle.app_logs.specs.Faults.{resume_fault_of};
+
+    ghost from_gives = { λ why fault. fault ≡ resume_fault_of why };
+
+    fn from(fault: ResumeFault) -> LogFault {
+        match fault {
+            ResumeFault::NotALog(number) => LogFault::NotALog(number),
+            ResumeFault::Memory => LogFault::Memory,
+        }
     }
 }
 

@@ -1,12 +1,14 @@
 //! What a log has, in lines.
 
-ghost use Rattle.std.specs.Prelude.{◌≡◌, ◌++◌, OnOk, decimal};
-ghost use Rattle.app_logs.specs.Info.{clock_count, head_text, hex_line, info_text, is_clock};
+ghost use Rattle.std.specs.Prelude.{◌≡◌, ◌≤◌, ◌++◌, OnOk, decimal};
+ghost use Rattle.x3d_values.specs.Ranges.{max_inputs};
+ghost use Rattle.app_logs.specs.Info.{base_line, below_of, clock_count, head_text, hex_line};
+ghost use Rattle.app_logs.specs.Info.{info_text, is_clock};
 ghost use Rattle.app_logs.specs.Info.{is_offer_of, number_line, offer_count, offer_line, offers_text};
 ghost use Rattle.app_logs.specs.Info.{sizes_text, time_line, times_text};
 
 use crate::clocks::last_of;
-use share_entries::{Entry, Head, Source};
+use share_entries::{Base, Entry, Head, Source};
 use std::alloc::{AllocError, Global};
 use x3d_numerals::push_number;
 
@@ -121,31 +123,63 @@ fn push_head(alloc: Global, head: &Head, out: &mut Vec<u8>) -> Result<(), AllocE
     push_bytes(alloc, "run ", &head.run, out)
 }
 
-/// Appends the lines of the sizes of a file, and of these entries.
-fn push_sizes(size: usize, cut: u64, entries: &[Entry], out: &mut Vec<u8>) -> Result<(), AllocError>
-    ensures { OnOk result (out.new.items ≡ out.old.items ++ sizes_text size cut entries.now) }
+/// Appends the line of a base, if there is one.
+fn push_base(base: &Option<Base>, out: &mut Vec<u8>) -> Result<(), AllocError>
+    ensures { OnOk result (out.new.items ≡ out.old.items ++ base_line base.now) }
+{
+    match base {
+        Some(base) => push_count("base ", base.number(), out),
+        None => Ok(()),
+    }
+}
+
+/// Returns how many entries a base stands for; 0 if there is none.
+pub(crate) fn below_of(base: &Option<Base>) -> u64
+    ensures value { result ≡ below_of base.now }
+    ensures few { result ≤ max_inputs }
+{
+    match base {
+        Some(base) => base.number(),
+        None => 0,
+    }
+}
+
+/// Appends the lines of the sizes of a file, and of these entries, which are after this many
+/// others.
+fn push_sizes(
+    size: usize,
+    cut: u64,
+    below: u64,
+    entries: &[Entry],
+    out: &mut Vec<u8>,
+) -> Result<(), AllocError>
+    requires { below ≤ max_inputs }
+    ensures { OnOk result
+        (out.new.items ≡ out.old.items ++ sizes_text size cut below entries.now) }
 {
     push_count("bytes ", size as u64, out)?;
     push_count("cut ", cut, out)?;
-    push_count("inputs ", entries.len() as u64, out)?;
+    push_count("inputs ", below + entries.len() as u64, out)?;
     push_count("clocks ", clock_count(entries) as u64, out)
 }
 
-/// Appends the lines on a log: on its head, its file, and these entries. On an error, some lines
-/// may be appended.
+/// Appends the lines on a log: on its head, its base, its file, and these entries, which are the
+/// first after the base. On an error, some lines may be appended.
 pub(crate) fn push_info(
     alloc: Global,
     size: usize,
     cut: u64,
     head: &Head,
+    base: &Option<Base>,
     entries: &[Entry],
     out: &mut Vec<u8>,
 ) -> Result<(), AllocError>
     ensures { OnOk result
-        (out.new.items ≡ out.old.items ++ info_text size cut head.now entries.now) }
+        (out.new.items ≡ out.old.items ++ info_text size cut head.now base.now entries.now) }
 {
     push_head(alloc, head, out)?;
-    push_sizes(size, cut, entries, out)?;
+    push_base(base, out)?;
+    push_sizes(size, cut, below_of(base), entries, out)?;
     push_times(entries, out)?;
     push_viewers(head.viewers, entries, out)
 }

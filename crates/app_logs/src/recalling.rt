@@ -1,6 +1,6 @@
 //! A log's file as the steps of a job.
 
-ghost use Rattle.std.specs.Prelude.{◌≡◌, ◌≢◌, ◌⊎◌, IfErr, IfOk, IsTrue, OnOk, Ok};
+ghost use Rattle.std.specs.Prelude.{◌≡◌, ◌≢◌, ◌⊎◌, IfErr, IfOk, IsTrue, None, OnOk, Ok};
 ghost use Rattle.sqlite_disk.specs.Memory.{memory_bytes, memory_is_usable};
 ghost use Rattle.share_entries.specs.Head.{is_viewer_count};
 ghost use Rattle.share_file.specs.Contents.{FileView};
@@ -8,11 +8,11 @@ ghost use Rattle.share_file.specs.Entries.{head_among};
 ghost use Rattle.share_file.specs.declared.fault.OpenFault.TheVariants as open_fault;
 ghost use Rattle.share_log.specs.Frames.{frames_of};
 ghost use Rattle.share_log.specs.Log.{payloads};
-ghost use Rattle.share_logged.specs.Making.{IsLogOf};
-ghost use Rattle.app_logs.specs.Beginning.{IsNotResumed};
+ghost use Rattle.app_logs.specs.Beginning.{AreWritten, IsNotResumed};
 ghost use Rattle.app_logs.specs.Faults.{open_fault_of};
 ghost use Rattle.app_logs.specs.Info.{info_text};
-ghost use Rattle.app_logs.specs.Recalling.{IsInfo, IsNoLog, IsRecalled, first_of, log_in, mark_of};
+ghost use Rattle.app_logs.specs.Recalling.{IsInfo, IsNoLog, IsNoWholeLog, IsRecalled, first_of};
+ghost use Rattle.app_logs.specs.Recalling.{log_in, mark_of, until_after};
 ghost use Rattle.app_logs.specs.Steps.{steps_text};
 ghost use Rattle.app_logs.specs.declared.fault.LogFault.TheVariants.{Memory as NoMemory};
 
@@ -20,7 +20,7 @@ use crate::beginning::resumed;
 use crate::fault::{LogFault, open_fault_of};
 use crate::info::push_info;
 use crate::steps::push_steps;
-use share_entries::{Entry, Head, head_of};
+use share_entries::{Base, Entry, Head, head_of};
 use share_file::{Expected, OpenFault, Opened, open};
 use share_log::look;
 use sqlite_disk::{Disk, Memory};
@@ -30,6 +30,8 @@ use std::alloc::{AllocError, Global};
 #[derive(Drop)]
 pub(crate) struct FoundLog {
     pub(crate) head: Head,
+    pub(crate) base: Option<Base>,
+    /// Those after the base, if there is one.
     pub(crate) entries: Vec<Entry>,
     cut: u64,
 }
@@ -88,7 +90,8 @@ fn find_log(alloc: Global, file: Memory, mark: [u8; 32]) -> Result<FoundLog, Log
     requires usable { IsTrue (memory_is_usable file) }
     requires mark { mark ≡ mark_of (head_among (frames_of (memory_bytes file))) }
     ensures found { IfOk result (λ f. (v : FileView) × (log_in (memory_bytes file) ≡ Ok v)
-        × (v.head ≡ f.head) × (v.entries ≡ f.entries.items) × (v.cut ≡ f.cut)) }
+        × (v.head ≡ f.head) × (v.base ≡ f.base) × (v.entries ≡ f.entries.items)
+        × (v.cut ≡ f.cut)) }
     ensures refused { IfErr result
         (λ fault. (fault ≡ NoMemory) ⊎ IsNoLog (memory_bytes file) fault) }
 {
@@ -101,11 +104,17 @@ fn find_log(alloc: Global, file: Memory, mark: [u8; 32]) -> Result<FoundLog, Log
             let Opened {
                 log,
                 head,
+                base,
                 entries,
                 cut,
             } = found;
             drop(log);
-            Ok(FoundLog { head, entries, cut })
+            Ok(FoundLog {
+                head,
+                base,
+                entries,
+                cut,
+            })
         }
         Err((fault, file)) => {
             drop(file);
@@ -115,9 +124,10 @@ fn find_log(alloc: Global, file: Memory, mark: [u8; 32]) -> Result<FoundLog, Log
 }
 
 /// Finds the log of these bytes.
-fn found_in(alloc: Global, bytes: &[u8]) -> Result<FoundLog, LogFault>
+pub(crate) fn found_in(alloc: Global, bytes: &[u8]) -> Result<FoundLog, LogFault>
     ensures found { IfOk result (λ f. (v : FileView) × (log_in bytes.now ≡ Ok v)
-        × (v.head ≡ f.head) × (v.entries ≡ f.entries.items) × (v.cut ≡ f.cut)) }
+        × (v.head ≡ f.head) × (v.base ≡ f.base) × (v.entries ≡ f.entries.items)
+        × (v.cut ≡ f.cut)) }
     ensures refused { IfErr result (λ fault. (fault ≡ NoMemory) ⊎ IsNoLog bytes.now fault) }
 {
     let mut file = file_of(alloc, bytes)?;
@@ -127,11 +137,12 @@ fn found_in(alloc: Global, bytes: &[u8]) -> Result<FoundLog, LogFault>
 
 /// Checks that a host wrote the entries of a log.
 fn is_written(alloc: Global, found: &FoundLog) -> Result<(), LogFault>
-    ensures log { OnOk result (IsLogOf found.now.head.viewers found.now.entries.items) }
-    ensures refused { IfErr result
-        (λ fault. IsNotResumed found.now.head.viewers found.now.entries.items fault) }
+    ensures log { OnOk result
+        (AreWritten found.now.head.viewers found.now.base found.now.entries.items) }
+    ensures refused { IfErr result (IsNotResumed found.now.head.viewers found.now.base
+        found.now.entries.items) }
 {
-    match resumed(alloc, &found.head, &found.entries) {
+    match resumed(alloc, &found.head, &found.base, &found.entries) {
         Ok(hosting) => {
             drop(hosting);
             Ok(())
@@ -159,6 +170,19 @@ fn text_of(alloc: Global, entries: &[Entry], until: Option<u64>) -> Result<Vec<u
     Ok(text)
 }
 
+/// Returns how many of the entries after a base are among the first `until` of the log.
+fn until_after(base: &Option<Base>, until: Option<u64>) -> Option<u64>
+    ensures { result ≡ until_after base.now until }
+{
+    let Some(base) = base else {
+        return until;
+    };
+    match until {
+        Some(number) => Some(number.saturating_sub(base.number())),
+        None => None,
+    }
+}
+
 /// Returns what a log has, in lines, and of its first entries, or all.
 fn info_of(
     alloc: Global,
@@ -166,20 +190,30 @@ fn info_of(
     found: &FoundLog,
     until: Option<u64>,
 ) -> Result<Vec<u8>, AllocError>
-    ensures { IfOk result (λ v. v.items ≡ info_text size found.now.cut found.now.head
-        (first_of until found.now.entries.items)) }
+    ensures { IfOk result (λ v. v.items
+        ≡ info_text size found.now.cut found.now.head found.now.base
+        (first_of (until_after found.now.base until) found.now.entries.items)) }
 {
     let mut text = Vec::new(alloc);
-    let entries = first_of(&found.entries, until);
-    push_info(alloc, size, found.cut, &found.head, entries, &mut text)?;
+    let entries = first_of(&found.entries, until_after(&found.base, until));
+    push_info(
+        alloc,
+        size,
+        found.cut,
+        &found.head,
+        &found.base,
+        entries,
+        &mut text,
+    )?;
     Ok(text)
 }
 
 /// Finds the log that these bytes are, of entries that a host wrote.
 pub(crate) fn written_in(alloc: Global, bytes: &[u8]) -> Result<FoundLog, LogFault>
     ensures found { IfOk result (λ f. (v : FileView) × (log_in bytes.now ≡ Ok v)
-        × (v.head ≡ f.head) × (v.entries ≡ f.entries.items) × (v.cut ≡ f.cut)) }
-    ensures log { IfOk result (λ f. IsLogOf f.head.viewers f.entries.items) }
+        × (v.head ≡ f.head) × (v.base ≡ f.base) × (v.entries ≡ f.entries.items)
+        × (v.cut ≡ f.cut)) }
+    ensures log { IfOk result (λ f. AreWritten f.head.viewers f.base f.entries.items) }
     ensures refused { IfErr result (λ fault. (fault ≡ NoMemory) ⊎ IsNoLog bytes.now fault) }
 {
     let found = found_in(alloc, bytes)?;
@@ -192,24 +226,44 @@ pub(crate) fn written_in(alloc: Global, bytes: &[u8]) -> Result<FoundLog, LogFau
     }
 }
 
+/// Finds the log that these bytes are, of entries that a host wrote, all from its first on.
+pub(crate) fn whole_in(alloc: Global, bytes: &[u8]) -> Result<FoundLog, LogFault>
+    ensures found { IfOk result (λ f. (v : FileView) × (log_in bytes.now ≡ Ok v)
+        × (v.head ≡ f.head) × (v.base ≡ f.base) × (v.entries ≡ f.entries.items)
+        × (v.cut ≡ f.cut)) }
+    ensures whole { IfOk result (λ f. f.base ≡ None) }
+    ensures log { IfOk result (λ f. AreWritten f.head.viewers f.base f.entries.items) }
+    ensures refused { IfErr result (λ fault. (fault ≡ NoMemory) ⊎ IsNoWholeLog bytes.now fault) }
+{
+    let found = written_in(alloc, bytes)?;
+    if let Some(base) = &found.base {
+        let number = base.number();
+        drop(found);
+        return Err(LogFault::HasBase(number));
+    }
+    Ok(found)
+}
+
 /// Returns the inputs of the log that these bytes are, or the first `until` of them, as the lines
 /// of a job.
 ///
 /// Fails with `BadHead` or `LogDamaged` if the bytes are no log, with `NotALog` and the number of
-/// the first entry that no host wrote there, or with `Memory`.
+/// the first entry that no host wrote there, with `HasBase` and the number of the last entry that
+/// isn't in the log, or with `Memory`.
 pub fn recalled(alloc: Global, bytes: &[u8], until: Option<u64>) -> Result<Vec<u8>, LogFault>
     ensures found { IfOk result (λ text. IsRecalled until bytes.now text.items) }
-    ensures refused { IfErr result (λ fault. (fault ≡ NoMemory) ⊎ IsNoLog bytes.now fault) }
+    ensures refused { IfErr result (λ fault. (fault ≡ NoMemory) ⊎ IsNoWholeLog bytes.now fault) }
 {
-    let found = written_in(alloc, bytes)?;
+    let found = whole_in(alloc, bytes)?;
     Ok(text_of(alloc, &found.entries, until)?)
 }
 
 /// Returns lines on the log that these bytes are, and on its first `until` inputs or all: its head,
-/// the size of the file, how many inputs there are, the times of the first and the last, and how
-/// many each viewer has offered.
+/// the number of its base, the size of the file, how many inputs there are; and of those after the
+/// base how many are clocks, the times of the first and the last, and how many each viewer has
+/// offered.
 ///
-/// Fails like `recalled`.
+/// Fails like `recalled`, but not with `HasBase`.
 pub fn recalled_info(alloc: Global, bytes: &[u8], until: Option<u64>) -> Result<Vec<u8>, LogFault>
     ensures found { IfOk result (λ text. IsInfo until bytes.now text.items) }
     ensures refused { IfErr result (λ fault. (fault ≡ NoMemory) ⊎ IsNoLog bytes.now fault) }

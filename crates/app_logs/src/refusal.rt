@@ -21,6 +21,7 @@ pub fn log_status_of(fault: LogFault) -> u8
         LogFault::WrongSeats => 2,
         LogFault::LogDamaged(_) => 1,
         LogFault::NotALog(_) => 1,
+        LogFault::HasBase(_) => 2,
         LogFault::LogFull => 4,
         LogFault::Device => 4,
         LogFault::Memory => 5,
@@ -40,6 +41,7 @@ fn name_of(fault: LogFault) -> &'static str
         LogFault::WrongSeats => "WrongSeats",
         LogFault::LogDamaged(_) => "LogDamaged",
         LogFault::NotALog(_) => "NotALog",
+        LogFault::HasBase(_) => "HasBase",
         LogFault::LogFull => "LogFull",
         LogFault::Device => "Device",
         LogFault::Memory => "Memory",
@@ -65,6 +67,7 @@ fn push_place(fault: LogFault, text: &mut ArrayString<64>)
     match fault {
         LogFault::LogDamaged(frame) => push_number(" frame ", frame, text),
         LogFault::NotALog(entry) => push_number(" entry ", entry, text),
+        LogFault::HasBase(entry) => push_number(" entry ", entry, text),
         _ => {}
     }
 }

@@ -1,16 +1,16 @@
 //! A log of the first inputs of another.
 
-ghost use Rattle.std.specs.Prelude.{◌≡◌, ◌⊎◌, ◌++◌, ◌≤◌, IfErr, IfOk, IsTrue, OnOk, Ok, length};
+ghost use Rattle.std.specs.Prelude.{◌≡◌, ◌⊎◌, ◌++◌, ◌<◌, ◌≤◌, IfErr, IfOk, IsTrue, OnErr, OnOk, Ok, length};
 ghost use Rattle.share_file.specs.Contents.{FileView};
 ghost use Rattle.share_logged.specs.Making.{IsLogOf};
 ghost use Rattle.share_store.specs.OneLog.{Last, max_entries};
-ghost use Rattle.app_logs.specs.Recalling.{IsNoLog, first_of, log_in};
+ghost use Rattle.app_logs.specs.Recalling.{IsNoWholeLog, first_of, log_in};
 ghost use Rattle.app_logs.specs.declared.fault.LogFault.TheVariants.{BadHead, Device, LogFull};
 ghost use Rattle.app_logs.specs.declared.fault.LogFault.TheVariants.{Memory as NoMemory, NotEmpty};
 
 use crate::beginning::{Begun, make_log};
 use crate::fault::{LogFault, append_fault_of};
-use crate::recalling::{first_of, written_in};
+use crate::recalling::{first_of, whole_in};
 use share_entries::{Entry, Head, MAX_ENTRIES, is_viewer_count};
 use share_file::FileLog;
 use share_store::{AppendFault, Log};
@@ -35,10 +35,11 @@ fn append_some<L: Log>(log: &mut L, entries: &[Entry]) -> Result<(), AppendFault
 }
 
 /// Appends entries to a log, `MAX_ENTRIES` at a time.
-fn append_all<L: Log>(log: &mut L, entries: &[Entry]) -> Result<(), AppendFault>
+pub(crate) fn append_all<L: Log>(log: &mut L, entries: &[Entry]) -> Result<(), AppendFault>
     requires open { IsTrue (L.is_open log.old) }
     ensures stored { OnOk result (IsTrue (L.is_clean log.new)
         → L.known log.new ≡ L.known log.old ++ entries.now) }
+    ensures some { OnErr result (0 < length entries.now) }
     ensures open { OnOk result (IsTrue (L.is_open log.new)) }
     ensures clean { IsTrue (L.is_clean log.new) → IsTrue (L.is_clean log.old) }
     ensures lasts { Last (L.may_leave log.old) (L.known log.old) → IsTrue (L.is_clean log.new)
@@ -114,9 +115,9 @@ pub fn restored<D: Disk + Drop>(
         (⟦<FileLog<D> as share_store::Log>⟧.known log)) }
     ensures refused { IfErr result (λ fault. ((fault ≡ NoMemory) ⊎ ((fault ≡ Device)
         ⊎ ((fault ≡ NotEmpty) ⊎ ((fault ≡ LogFull) ⊎ (fault ≡ BadHead)))))
-        ⊎ IsNoLog bytes.now fault) }
+        ⊎ IsNoWholeLog bytes.now fault) }
 {
-    let found = match written_in(alloc, bytes) {
+    let found = match whole_in(alloc, bytes) {
         Ok(found) => found,
         Err(fault) => {
             drop(disk);

@@ -1,19 +1,18 @@
 -- A document all of whose statements go is a scene without nodes.
-use Rattle.std.proofs.Common.{◌≡◌, ℕ, zero, suc, List, [], ◌∷◌, ◌++◌, Bool, true, false, ◌||◌, ◌==◌, not, Option, Some, None, Result, Ok, Err, map, refl, ap, sym, subst, ◌∙◌, ◌⊎◌, inl, inr, append_assoc, eq-eqb, if◌then◌else◌}
+use Rattle.std.proofs.Common.{◌≡◌, ℕ, zero, suc, List, [], ◌∷◌, ◌++◌, Bool, true, false, ◌||◌, ◌==◌, Option, Some, None, Result, Ok, Err, map, refl, ap, sym, ◌∙◌, ◌⊎◌, inl, inr, append_assoc, eq-eqb, if◌then◌else◌}
 use Rattle.std.specs.Prelude.{option_map}
-use Rattle.std.specs.List.{AllByRecursion, list_any}
+use Rattle.std.specs.List.{AllByRecursion}
 use Rattle.std.specs.Option.{option_to_list}
 use Rattle.classic_tree.specs.declared.tree.BodyItem.{BodyItem}
 use Rattle.classic_tree.specs.declared.tree.Document.{Document}
 use Rattle.classic_tree.specs.declared.tree.NodeText.{NodeText}
 use Rattle.classic_tree.specs.declared.tree.NodeText.TheVariants as node
 use Rattle.classic_tree.specs.declared.tree.ProtoText.{ProtoText, out-ProtoText}
-use Rattle.classic_tree.specs.declared.tree.RouteText.{RouteText}
 use Rattle.classic_tree.specs.declared.tree.Statement.{Statement}
 use Rattle.classic_tree.specs.declared.tree.Statement.TheVariants as statement
 use Rattle.classic_part.specs.declared.knowing.Known.{Known}
 use Rattle.classic_part.specs.Notes.{refuses, refused_in}
-use Rattle.classic_part.specs.Part.{Part, kept_in, item_part, node_part, statement_part, proto_part}
+use Rattle.classic_part.specs.Part.{Part, kept_in, node_part, statement_part, proto_part}
 use Rattle.classic_part.specs.Rounds.{after}
 use Rattle.classic_part.proofs.Equations.{node_part-use, node_part-full, statement_part-node, statement_part-route, statement_part-proto, proto_part_is}
 use Rattle.classic_part.proofs.Trees.{Layers, every}
@@ -24,10 +23,9 @@ use Rattle.scene_core.specs.Numbers.{numbering}
 use Rattle.app_jobs.specs.declared.fault.JobFault.{JobFault}
 use Rattle.app_jobs.specs.declared.fault.JobFault.TheVariants.{Memory}
 use Rattle.app_program.specs.Opening.{opened_document}
-use Rattle.app_program.specs.declared.open.OpenedScene.{OpenedScene}
 use Rattle.scene_faults.specs.declared.blame.Blame.{Blame}
 use Rattle.app_part.specs.Mends.{places}
-use Rattle.app_part.specs.Parts.{IsPart, IsTurnedDown}
+use Rattle.app_part.specs.Parts.{IsTurnedDown}
 use Rattle.app_part.specs.Statements.{all_statements, of_statement, node_line, statement_line}
 use Rattle.app_part.specs.Whole.{IsBare}
 use Rattle.app_part.specs.declared.part.Mends.{Mends}

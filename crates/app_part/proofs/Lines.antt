@@ -1,11 +1,11 @@
 -- The line on which a statement begins, by what it is.
-use Rattle.std.proofs.Common.{◌≡◌, ℕ, List, Option, refl, ap, sym, ◌∙◌}
+use Rattle.std.proofs.Common.{◌≡◌, ℕ, List, Option, ap, sym, ◌∙◌}
 use Rattle.std.proofs.lemmas.Grind.{common_steps}
 use Rattle.classic_tree.specs.declared.tree.BodyItem.{BodyItem}
-use Rattle.classic_tree.specs.declared.tree.BodyItem.TheOpen.{BodyItem-F, NodeText-F, Statement-F, ProtoText-F}
+use Rattle.classic_tree.specs.declared.tree.BodyItem.TheOpen.{NodeText-F, Statement-F}
 use Rattle.classic_tree.specs.declared.tree.NodeText.{NodeText, fold-roll-NodeText}
 use Rattle.classic_tree.specs.declared.tree.NodeText.TheVariants as node
-use Rattle.classic_tree.specs.declared.tree.ProtoText.{ProtoText, out-ProtoText, fold-ProtoText, fold_out-ProtoText}
+use Rattle.classic_tree.specs.declared.tree.ProtoText.{ProtoText, out-ProtoText, fold_out-ProtoText}
 use Rattle.classic_tree.specs.declared.tree.RouteText.{RouteText}
 use Rattle.classic_tree.specs.declared.tree.Statement.{Statement, fold-roll-Statement}
 use Rattle.classic_tree.specs.declared.tree.Statement.TheVariants as statement

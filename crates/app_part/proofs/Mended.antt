@@ -1,6 +1,6 @@
 -- One fault after another, for each of which what is at fault is left out.
-use Rattle.std.proofs.Common.{List, ℕ, ◌+◌, ◌^◌, ◌≡◌, ◌⊎◌, ◌++◌, [], ◌∙◌, Some, None, Result, Ok, Err, IfOk, IfErr, OnOk, inl, inr, refl, ap, sym, subst, map}
-use Rattle.std.specs.Prelude.{Bool, true, false, not, Option, ◌∷◌, if◌then◌else◌}
+use Rattle.std.proofs.Common.{List, ℕ, ◌+◌, ◌^◌, ◌≡◌, ◌⊎◌, ◌++◌, [], ◌∙◌, Some, None, Result, Ok, Err, IfOk, IfErr, OnOk, inl, inr, ap, sym, subst}
+use Rattle.std.specs.Prelude.{Bool, true, false, not, ◌∷◌, if◌then◌else◌}
 use Rattle.std.specs.List.{list_any}
 use Rattle.std.proofs.lemmas.List.{map-append}
 use Rattle.classic_tree.specs.declared.tree.Document.{Document}

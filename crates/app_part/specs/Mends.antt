@@ -1,6 +1,6 @@
 -- Which part of a text is left out for a fault (our choice): the one that begins where the fault
 -- is. In a text with its tokens apart, no other part begins there.
-use Rattle.std.specs.Prelude.{ℕ, Bool, true, false, not, List, [], ◌∷◌, ◌++◌, map, Option, Some, None, is_none, ◌&&◌, ◌==◌, if◌then◌else◌}
+use Rattle.std.specs.Prelude.{ℕ, Bool, true, false, not, List, [], ◌∷◌, map, Option, Some, None, is_none, ◌&&◌, ◌==◌, if◌then◌else◌}
 use Rattle.std.specs.List.{list_any}
 use denote.Enum.Bare.{sameb}
 use Rattle.classic_text.specs.contracts.fault.ReadFaultKind as reads

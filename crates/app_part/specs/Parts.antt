@@ -7,7 +7,7 @@ use Rattle.classic_part.specs.declared.part.Round.{Round}
 use Rattle.classic_part.specs.Rounds.{IsSettled}
 use Rattle.proto_flat.specs.declared.fault.ExpandFaultKind.TheVariants.{TooLarge}
 use Rattle.app_jobs.specs.declared.fault.JobFault.{JobFault}
-use Rattle.app_jobs.specs.declared.fault.JobFault.TheVariants.{Expand, Memory}
+use Rattle.app_jobs.specs.declared.fault.JobFault.TheVariants.{Expand}
 use Rattle.app_program.specs.Opening.{opened_document}
 use Rattle.scene_faults.specs.declared.blame.Blame.{Blame}
 use Rattle.app_part.specs.Judging.{IsToldBad}

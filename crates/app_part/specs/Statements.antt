@@ -1,6 +1,6 @@
 -- The statements of a document, which all go if nothing else makes a scene of its part.
 use Rattle.std.specs.Prelude.{ℕ, List, map}
-use Rattle.classic_tree.specs.declared.tree.BodyItem.TheOpen.{BodyItem-F, NodeText-F, Statement-F, ProtoText-F}
+use Rattle.classic_tree.specs.declared.tree.BodyItem.TheOpen.{NodeText-F, Statement-F, ProtoText-F}
 use Rattle.classic_tree.specs.declared.tree.Document.{Document}
 use Rattle.classic_tree.specs.declared.tree.NodeText.{NodeText, fold-NodeText}
 use Rattle.classic_tree.specs.declared.tree.Statement.{Statement, fold-Statement}

@@ -2,18 +2,26 @@
 
 ghost use Rattle.std.specs.Prelude.{IsTrue};
 
+use crate::basing::NextBase;
 use crate::end::End;
 use crate::files::LogDisk;
 use crate::serving::Serving;
 use crate::stack::Stack;
 use crate::world::Ahead;
-use app_logs::{Beat, FileLog, Log, LoggedFault, LoggedHost, clock_for, due_after, first_due};
+use app_logs::{
+    Beat, FileLog, Head, Log, LoggedFault, LoggedHost, clock_for, due_after, first_due,
+};
 use share_logged::logged_turn;
 
 /// The log of a file, and which clocks its world makes.
 #[derive(Drop)]
 pub struct Alone {
     pub log: FileLog<LogDisk>,
+    pub head: Head,
+    /// The base that the log gets next, if one is ready.
+    pub next: Option<NextBase>,
+    /// How many inputs the log had when its next base was last seen to.
+    pub based: u64,
     /// How many clocks of the job were numbered.
     taken: u64,
     /// The time of the last input when it was opened, in microseconds.
@@ -62,14 +70,22 @@ fn clock_at(clocks: &[i64], place: u64) -> Option<i64> {
 }
 
 impl Alone {
-    /// Returns the log of a file whose last input has this time, in microseconds.
-    pub fn new(log: FileLog<LogDisk>, last: i64, every: Option<u32>) -> Alone {
+    /// Returns the log of a file with this head, whose last input has this time, in microseconds.
+    pub fn new(log: FileLog<LogDisk>, head: Head, last: i64, every: Option<u32>) -> Alone {
         Alone {
             log,
+            head,
+            next: None,
+            based: 0,
             taken: 0,
             base: last,
             due: first_due(every),
         }
+    }
+
+    /// Returns how many inputs the log has, with those below its base.
+    pub fn inputs(&self) -> u64 {
+        self.log.start().below.saturating_add(self.log.len())
     }
 
     /// Reports whether clocks of the job are left.

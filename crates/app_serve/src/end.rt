@@ -19,6 +19,8 @@ pub enum End {
     Log(LogFault),
     /// The last inputs are in the log or not, and no viewer was sent them.
     InDoubt,
+    /// The snapshot of the world at the base of its log is missing, or it is another.
+    NoSnapshot,
     /// A text isn't an address with a port, or the system knows no address of its name.
     NoAddress,
     /// A file of keys can't be opened or read.

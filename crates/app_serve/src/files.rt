@@ -4,10 +4,10 @@ use app_logs::LogFault;
 use app_words::LogUse;
 use sqlite_disk::Files;
 use sqlite_std_file::{FileFrom, OpenError, Wary, open};
-use std::fs::{self, OpenOptions};
+use std::fs::{self, File, OpenOptions};
 use std::hash::{BuildHasher, RandomState};
 use std::io;
-use std::os::unix::fs::OpenOptionsExt;
+use std::os::unix::fs::{MetadataExt, OpenOptionsExt};
 
 /// The file of a log, as a disk. As long as it is there, no other host opens the file.
 pub type LogDisk = FileFrom<Wary>;
@@ -62,6 +62,14 @@ fn remove_beside(rt: &HostRuntime, path: &str) -> io::Result<()> {
     Ok(())
 }
 
+/// Returns which file has this name.
+fn file_named(rt: &HostRuntime, path: &str) -> Result<(u64, u64), LogFault> {
+    match fs::metadata(rt, path) {
+        Ok(found) => Ok((found.dev(), found.ino())),
+        Err(_) => Err(LogFault::Device),
+    }
+}
+
 fn open_fault(error: OpenError) -> LogFault {
     match error {
         OpenError::Busy => LogFault::LogBusy,
@@ -74,19 +82,42 @@ fn open_fault(error: OpenError) -> LogFault {
 /// Opens the file of a log, and locks it for as long as the disk is there. With `Makes` a missing
 /// file is made, with `GoesOn` it is refused.
 ///
-/// Fails with `NoLog`, `LogBusy`, `Device` or `Memory`.
+/// Fails with `NoLog`, `LogBusy`, also if the file is replaced meanwhile, `Device` or `Memory`.
 pub fn disk_at(rt: &HostRuntime, path: &str, log: LogUse) -> Result<LogDisk, LogFault> {
     match log {
         LogUse::Makes => make_private(rt, path)?,
         _ => is_there(rt, path)?,
     }
-    match open(rt, path, Wary) {
+    let before = file_named(rt, path)?;
+    let disk = match open(rt, path, Wary) {
         Ok(files) => {
             let Files { log, db } = files;
             drop(log);
             let _removed = remove_beside(rt, path);
-            Ok(db)
+            db
         }
-        Err(error) => Err(open_fault(error)),
+        Err(error) => return Err(open_fault(error)),
+    };
+    if file_named(rt, path)? != before {
+        drop(disk);
+        return Err(LogFault::LogBusy);
     }
+    Ok(disk)
+}
+
+/// Writes to the disk what a folder says of the file of this name.
+pub(crate) fn sync_folder(rt: &HostRuntime, path: &str) -> io::Result<()> {
+    let mut folder = fs::canonicalize(rt, path)?;
+    folder.pop();
+    File::open(rt, folder.as_str())?.sync_all()
+}
+
+/// Makes a file that only its owner may read. One of this name is removed.
+pub(crate) fn make_anew(rt: &HostRuntime, path: &str) -> io::Result<File> {
+    let _removed = fs::remove_file(rt, path);
+    OpenOptions::new()
+        .write(true)
+        .create_new(true)
+        .mode(0o600)
+        .open(rt, path)
 }

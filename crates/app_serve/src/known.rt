@@ -55,6 +55,8 @@ pub struct Known<'e, 'r> {
     again: Option<u64>,
     /// It was told that its log doesn't answer, and it wasn't opened since.
     is_told: bool,
+    /// A base took inputs that it lacked, so its log in etcd is opened again, and not made.
+    is_overtaken: bool,
     world: Option<Box<World<'e, 'r>>>,
 }
 
@@ -63,6 +65,8 @@ fn may_pass(end: &End) -> bool {
     match end {
         End::EtcdSilent | End::InDoubt => true,
         End::Log(LogFault::Device) => true,
+        // A base may have come between two readings.
+        End::Log(LogFault::LogDamaged(_)) => true,
         _ => false,
     }
 }
@@ -76,6 +80,7 @@ impl<'e, 'r> Known<'e, 'r> {
             stamps: None,
             again: None,
             is_told: false,
+            is_overtaken: false,
             world: None,
         }
     }
@@ -106,6 +111,7 @@ impl<'e, 'r> Known<'e, 'r> {
         }
         self.again = None;
         self.is_told = false;
+        self.is_overtaken = false;
         match Box::new(served.rt.alloc(), world) {
             Ok(world) => {
                 drop(mem::replace(&mut self.world, Some(world)));
@@ -126,7 +132,7 @@ impl<'e, 'r> Known<'e, 'r> {
             return Err(End::EtcdSilent);
         }
         self.stamps = found;
-        let world = open_world(served, &self.name)?;
+        let world = open_world(served, &self.name, !self.is_overtaken)?;
         self.enter(served, world)
     }
 
@@ -144,10 +150,22 @@ impl<'e, 'r> Known<'e, 'r> {
         };
     }
 
+    /// Reports whether a world that runs ended since etcd lacks its next inputs: a base may have
+    /// taken them while the process was held up.
+    fn lags(&self, served: &Served<'_, 'e, 'r>, end: &End) -> bool {
+        served.etcd.is_some() && self.runs() && matches!(end, End::EtcdMalformed)
+    }
+
     /// Tells why the world ended, which isn't opened again until its files change, or a few seconds
-    /// have passed if its log is in etcd and didn't answer.
+    /// have passed if its log is in etcd and didn't answer. If a base took its next inputs it is
+    /// opened again at once.
     pub fn refuse(&mut self, served: &Served<'_, 'e, 'r>, end: &End) {
-        self.tell(served, end);
+        self.is_overtaken = self.lags(served, end);
+        if self.is_overtaken {
+            self.again = Some(served.now);
+        } else {
+            self.tell(served, end);
+        }
         drop(mem::replace(&mut self.world, None));
         self.stamps = stamps_of(served.rt, served.folder, &self.name).ok();
     }
@@ -191,6 +209,7 @@ impl<'e, 'r> Known<'e, 'r> {
         };
         world.turn(served.rt.alloc(), served.serving, served.now)?;
         send_all(world, socket);
+        world.base_if_due(served, &self.name)?;
         Ok(world.moment(served.serving.every, served.now))
     }
 

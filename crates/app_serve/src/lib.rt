@@ -8,6 +8,7 @@
 //! | `opening`, `starting`, `beginning` | how a world is opened, and how its log begins |
 //! | `turning`, `alone`, `shared` | a turn of a world, over the log of a file or of etcd |
 //! | `etcd`, `tails` | etcd, and which worlds have changed there |
+//! | `basing`, `shots` | bases of logs, and the snapshots there |
 //! | `worlds` | the worlds of a folder |
 //! | `folder`, `names`, `stamps` | the files of a folder |
 //! | `looping` | the loop over the socket |
@@ -16,6 +17,7 @@
 #![tactic(auto)]
 
 mod alone;
+mod basing;
 mod beginning;
 mod end;
 mod etcd;
@@ -29,6 +31,7 @@ mod opening;
 mod places;
 mod serving;
 mod shared;
+mod shots;
 mod stack;
 mod stamps;
 mod starting;
@@ -46,4 +49,6 @@ pub use key_files::{drawn_bytes, host_keys, make_keys, viewer_key};
 pub use looping::serve;
 pub use places::{Place, addresses_at, may_be_reached, place_of, world_of};
 pub use serving::{Serving, VIEWERS};
+pub use shots::{stage_at, stage_with};
+pub use starting::parts_of;
 pub use telling::refuse;

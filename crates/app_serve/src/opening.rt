@@ -6,14 +6,16 @@ use crate::known::Served;
 use crate::names::path_of;
 use crate::places::may_be_reached;
 use crate::serving::Serving;
+use crate::shots::{stage_at, stage_with};
 use crate::stack::Stack;
 use crate::starting::{BegunWorld, begun_world};
 use crate::world::World;
 use app_commands::{SharedJob, shared_job};
-use app_logs::{Entry, Head};
+use app_logs::{Base, Entry, Head, LogFault};
 use app_program::{
     JobFault, JobInputs, OpenedScene, RunFault, ShareFault, fresh_stage, read_whole,
 };
+use app_standby::Origin;
 use app_words::{HostOrder, LogUse, Order};
 use cascade_core::Stage;
 use script_boxes::StockScript;
@@ -85,20 +87,40 @@ fn keys_at(rt: &HostRuntime, path: &str) -> Result<Option<Keys>, End> {
     }
 }
 
+/// What the ports of a world begin with.
+#[derive(Clone, Copy)]
+struct Known<'a> {
+    run: HostRun,
+    head: Head,
+    /// That of its log, if it has one.
+    base: Option<&'a Base>,
+    /// Those of its log, or those after its base.
+    entries: &'a [Entry],
+    /// The snapshot of the world at the base, if the log had it.
+    snapshot: Option<&'a [u8]>,
+    /// The path of its log's file.
+    path: &'a str,
+}
+
 /// Returns the port of a host, over one that knows the addresses of its peers.
 fn hosted<P: Port + Placed + Drop>(
     rt: &HostRuntime,
     port: P,
-    run: HostRun,
     peers: usize,
-    entries: &[Entry],
+    known: &Known<'_>,
 ) -> Result<HostPort<GuardedPort<P>>, End> {
     let secret = drawn_bytes(rt)?;
     let seed = drawn_bytes(rt)?;
     let Ok(guarded) = GuardedPort::new(rt.alloc(), port, peers, secret, seed) else {
         return Err(End::from(ShareFault::Memory));
     };
-    match HostPort::begin(rt.alloc(), guarded, run, peers, entries) {
+    let begun = match known.base {
+        Some(base) => {
+            HostPort::begin_from(rt.alloc(), guarded, known.run, peers, base, known.entries)
+        }
+        None => HostPort::begin(rt.alloc(), guarded, known.run, peers, known.entries),
+    };
+    match begun {
         Ok(port) => Ok(port),
         Err(_) => Err(End::from(ShareFault::Memory)),
     }
@@ -107,40 +129,36 @@ fn hosted<P: Port + Placed + Drop>(
 /// Returns the port of a host with keys.
 fn keyed_port(
     rt: &HostRuntime,
-    run: HostRun,
-    viewers: u8,
     keys: Keys,
-    entries: &[Entry],
+    known: &Known<'_>,
 ) -> Result<HostPort<GuardedPort<KeyedPort<WorldPort>>>, End> {
+    let viewers = known.head.viewers;
     let Ok(port) = WorldPort::new(rt.alloc(), viewers) else {
         return Err(End::from(ShareFault::Memory));
     };
     let peers = usize::from(peers_of(viewers));
     match KeyedPort::new(rt.alloc(), port, peers, keys) {
-        Ok(keyed) => hosted(rt, keyed, run, peers, entries),
+        Ok(keyed) => hosted(rt, keyed, peers, known),
         Err(_) => Err(End::from(ShareFault::Memory)),
     }
 }
 
-/// Returns the ports of a world with keys. The log's entries are those of a host, so only memory
-/// may be refused to them.
-fn keyed_stack(
+/// Returns the ports of a world with keys, which keep the world of this stage. The log's entries
+/// are those of a host, so only memory may be refused to them.
+fn keeping_stack(
     rt: &HostRuntime,
-    run: HostRun,
-    head: &Head,
-    keyed: Keyed,
-    entries: &[Entry],
+    keys: Keys,
+    stage: Stage<StockScript>,
+    forget: Option<u64>,
+    known: &Known<'_>,
 ) -> Result<Stack, End> {
-    let Keyed {
-        keys,
-        stage,
-        forget,
-    } = keyed;
-    match keyed_port(rt, run, head.viewers, keys, entries) {
-        Ok(port) => match KeepingPort::begin(port, stage, head.mark, entries, forget) {
-            Ok(keeping) => Ok(Stack::Keyed(keeping)),
-            Err(_refused) => Err(End::from(ShareFault::Memory)),
-        },
+    match keyed_port(rt, keys, known) {
+        Ok(port) => {
+            match KeepingPort::begin(port, stage, known.head.mark, known.entries, forget) {
+                Ok(keeping) => Ok(Stack::Keyed(keeping)),
+                Err(_refused) => Err(End::from(ShareFault::Memory)),
+            }
+        }
         Err(end) => {
             drop(stage);
             Err(end)
@@ -148,31 +166,39 @@ fn keyed_stack(
     }
 }
 
-/// Returns the ports of a world without keys.
-fn open_stack(
-    rt: &HostRuntime,
-    run: HostRun,
-    viewers: u8,
-    entries: &[Entry],
-) -> Result<Stack, End> {
+/// Returns the ports of a world with keys.
+fn keyed_stack(rt: &HostRuntime, keyed: Keyed, known: &Known<'_>) -> Result<Stack, End> {
+    let Keyed {
+        keys,
+        stage,
+        forget,
+    } = keyed;
+    let stage = match (known.base, known.snapshot) {
+        (Some(base), Some(bytes)) => stage_with(stage, &known.head.mark, base, bytes)?,
+        (base, _) => stage_at(rt, stage, &known.head.mark, base, known.path)?,
+    };
+    keeping_stack(rt, keys, stage, forget, known)
+}
+
+/// Returns the ports of a world without keys. The world at a base is kept by a host with keys
+/// alone.
+fn open_stack(rt: &HostRuntime, known: &Known<'_>) -> Result<Stack, End> {
+    if let Some(base) = known.base {
+        return Err(End::Log(LogFault::HasBase(base.number())));
+    }
+    let viewers = known.head.viewers;
     let Ok(port) = WorldPort::new(rt.alloc(), viewers) else {
         return Err(End::from(ShareFault::Memory));
     };
     let peers = usize::from(peers_of(viewers));
-    Ok(Stack::Open(hosted(rt, port, run, peers, entries)?))
+    Ok(Stack::Open(hosted(rt, port, peers, known)?))
 }
 
 /// Returns the ports of a world.
-fn stack_of(
-    rt: &HostRuntime,
-    run: HostRun,
-    head: &Head,
-    keyed: Option<Keyed>,
-    entries: &[Entry],
-) -> Result<Stack, End> {
+fn stack_of(rt: &HostRuntime, keyed: Option<Keyed>, known: &Known<'_>) -> Result<Stack, End> {
     match keyed {
-        Some(keyed) => keyed_stack(rt, run, head, keyed, entries),
-        None => open_stack(rt, run, head.viewers, entries),
+        Some(keyed) => keyed_stack(rt, keyed, known),
+        None => open_stack(rt, known),
     }
 }
 
@@ -230,6 +256,7 @@ fn world_of<'e, 'r>(
     served: &Served<'_, 'e, 'r>,
     begun: BegunWorld<'e, 'r>,
     keyed: Option<Keyed>,
+    path: &str,
 ) -> Result<World<'e, 'r>, End> {
     let BegunWorld {
         log,
@@ -237,12 +264,30 @@ fn world_of<'e, 'r>(
         head,
         run,
         clocks,
+        base,
+        snapshot,
         entries,
     } = begun;
-    let stack = stack_of(served.rt, run, &head, keyed, entries.as_slice())?;
+    let bytes = snapshot.as_deref();
+    let known = Known {
+        run,
+        head,
+        base: base.as_ref(),
+        entries: entries.as_slice(),
+        snapshot: bytes,
+        path,
+    };
+    let stack = stack_of(served.rt, keyed, &known)?;
+    let mark = head.mark;
+    let origin = Origin {
+        mark,
+        viewers: head.viewers,
+        base,
+    };
     Ok(World {
         session: session_of(&head.mark, &head.run),
         log,
+        origin,
         hosting: Some(hosting),
         stack,
         clocks,
@@ -251,14 +296,17 @@ fn world_of<'e, 'r>(
     })
 }
 
-/// Opens the world with this name. Fails with what is wrong with its keys, with `NoKeys`, or with
-/// what is wrong with its job or its log.
+/// Opens the world with this name. If its log isn't in etcd it is made there if `makes` says so.
+/// Fails with what is wrong with its keys, with `NoKeys`, or with what is wrong with its job or its
+/// log.
 pub fn open_world<'e, 'r>(
     served: &Served<'_, 'e, 'r>,
     name: &WorldName,
+    makes: bool,
 ) -> Result<World<'e, 'r>, End> {
+    let path = path_of(served.rt.alloc(), served.folder, name, ".x3dlog")?;
     let job = read(served.rt, served.folder, name, served.serving)?;
-    match begun_world(served, name, job.mark, job.inputs.as_slice()) {
+    match begun_world(served, name, job.mark, job.inputs.as_slice(), makes) {
         Ok(begun) => {
             let Kept {
                 mark: _,
@@ -266,7 +314,7 @@ pub fn open_world<'e, 'r>(
                 keyed,
             } = job;
             drop(inputs);
-            world_of(served, begun, keyed)
+            world_of(served, begun, keyed, path.as_str())
         }
         Err(end) => {
             drop(job);

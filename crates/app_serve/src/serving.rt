@@ -19,6 +19,9 @@ pub struct Serving {
     /// Of how many of the last inputs the world of a host with keys keeps the lines of its trace;
     /// `None` keeps all.
     pub forget: Option<u64>,
+    /// How many of the last inputs, to twice as many, the log of a world with keys keeps; `None`
+    /// keeps all.
+    pub base: Option<u64>,
     /// How many milliseconds pass from one clock that a world makes to the next, once those of its
     /// job are over; `None` for no such clocks.
     pub every: Option<u32>,

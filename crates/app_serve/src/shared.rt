@@ -1,21 +1,22 @@
 //! A log that other processes may have too: that of etcd.
 
-ghost use Rattle.std.specs.Prelude.{◌≡◌, ◌≤◌};
+ghost use Rattle.std.specs.Prelude.{◌≤◌};
 ghost use Rattle.x3d_values.specs.Ranges.{max_viewers};
-ghost use Rattle.app_standby.specs.State.{IsMarked};
 
+use crate::basing::SharedBase;
 use crate::end::End;
 use crate::etcd::EtcdWay;
 use crate::stack::Stack;
 use crate::world::Ahead;
-use app_logs::{Beat, Head, Log, LogFault, LoggedHost, is_viewer_count};
+use app_logs::{Beat, Log, LogFault, LoggedHost, is_viewer_count};
 use app_standby::{
-    Now, Pace, READ_EVERY, SharedFault, SharedPlan, act, must_read, read, stands_in,
+    Now, Origin, Pace, READ_EVERY, SharedFault, SharedPlan, act, must_read, read, stands_in,
 };
 use share_engine::EtcdLog;
 use share_store::Remembers;
 use share_turns::HostPlan;
 use std::alloc::Global;
+use std::mem;
 
 /// For this many milliseconds, and those from one clock of a beat to the next, a world makes no
 /// clocks after one of another process, or after it was opened.
@@ -26,8 +27,10 @@ const STANDBY: u64 = 2_000;
 pub struct Shared<'e, 'r> {
     pub log: EtcdLog<EtcdWay<'e, 'r>>,
     way: EtcdWay<'e, 'r>,
-    mark: [u8; 32],
-    viewers: u8,
+    /// The base that the log gets next, if one is ready.
+    pub next: Option<SharedBase>,
+    /// How many inputs the log had when its next base was last seen to.
+    pub based: u64,
     pace: Pace,
     /// The revision of its tail when etcd was last asked for those of all worlds.
     seen: u64,
@@ -53,33 +56,21 @@ fn host_of(now: Now) -> Option<LoggedHost> {
     }
 }
 
-/// Returns the mark of the host, or else this one.
-fn mark_of(now: &Now, mark: [u8; 32]) -> [u8; 32]
-    ensures { IsMarked result now.now }
-{
-    match now {
-        Now::Hosting(hosting) => hosting.mark(),
-        Now::Behind => mark,
-    }
-}
-
 /// Reads on over the ports of a world.
 fn read_over<L: Remembers>(
     alloc: Global,
-    viewers: u8,
+    origin: &Origin,
     now: Now,
-    mark: [u8; 32],
     pace: &mut Pace,
     log: &mut L,
     stack: &mut Stack,
 ) -> Result<Now, SharedFault>
-    requires some { 1 ≤ viewers }
-    requires most { viewers ≤ max_viewers }
-    requires mark { IsMarked mark now }
+    requires some { 1 ≤ origin.now.viewers }
+    requires most { origin.now.viewers ≤ max_viewers }
 {
     match stack {
-        Stack::Open(port) => read(alloc, mark, viewers, now, pace, log, port),
-        Stack::Keyed(port) => read(alloc, mark, viewers, now, pace, log, port),
+        Stack::Open(port) => read(alloc, origin, now, pace, log, port),
+        Stack::Keyed(port) => read(alloc, origin, now, pace, log, port),
     }
 }
 
@@ -104,25 +95,30 @@ fn standby_of(every: Option<u32>) -> u64 {
 }
 
 impl<'e, 'r> Shared<'e, 'r> {
-    /// Returns the log of a world with this head, whose last input has this time in microseconds,
-    /// and which was opened at `now`.
+    /// Returns the log of a world, whose last input has this time in microseconds, and which was
+    /// opened at `now`.
     pub fn new(
         log: EtcdLog<EtcdWay<'e, 'r>>,
         way: EtcdWay<'e, 'r>,
-        head: &Head,
         beat: Beat,
         now: u64,
     ) -> Shared<'e, 'r> {
         Shared {
             log,
             way,
-            mark: head.mark,
-            viewers: head.viewers,
+            next: None,
+            based: 0,
             pace: Pace::new(beat),
             seen: 0,
             is_stale: false,
             clocked: now,
         }
+    }
+
+    /// Returns how many inputs the log had when it was last read or appended to, with those below
+    /// its base.
+    pub fn inputs(&self) -> u64 {
+        self.log.start().below.saturating_add(self.log.len())
     }
 
     /// Notes the revision of its tail. Returns whether it is another one than before.
@@ -182,7 +178,6 @@ impl<'e, 'r> Shared<'e, 'r> {
             beat: self.pace.beat,
             turns: u64::MAX,
             standby: if makes { 0 } else { u64::MAX },
-            viewers: self.viewers,
         }
     }
 
@@ -198,14 +193,19 @@ impl<'e, 'r> Shared<'e, 'r> {
     }
 
     /// Reads on.
-    fn read(&mut self, alloc: Global, now: Now, stack: &mut Stack) -> Result<Now, End> {
-        if !is_viewer_count(self.viewers) {
+    fn read(
+        &mut self,
+        alloc: Global,
+        origin: &Origin,
+        now: Now,
+        stack: &mut Stack,
+    ) -> Result<Now, End> {
+        if !is_viewer_count(origin.viewers) {
             drop(now);
             return Err(End::Log(LogFault::BadHead));
         }
-        let mark = mark_of(&now, self.mark);
         let pace = &mut self.pace;
-        match read_over(alloc, self.viewers, now, mark, pace, &mut self.log, stack) {
+        match read_over(alloc, origin, now, pace, &mut self.log, stack) {
             Ok(after) => Ok(after),
             Err(fault) => Err(End::from(fault)),
         }
@@ -233,7 +233,7 @@ impl<'e, 'r> Shared<'e, 'r> {
             return Ok(hosting);
         }
         let base = self.pace.beat.base;
-        let after = self.read(ahead.alloc, now_of(hosting), stack)?;
+        let after = self.read(ahead.alloc, ahead.origin, now_of(hosting), stack)?;
         let hosting = host_of(after);
         self.note_read(base, hosting.is_some(), ahead.now);
         Ok(hosting)

@@ -11,11 +11,14 @@ use share_welcomes::HostPort;
 use share_worlds::{Parcel, WorldPort};
 use std::net::SocketAddr;
 
+/// The ports of a world with keys.
+pub type KeyedStack = KeepingPort<StockScript, HostPort<GuardedPort<KeyedPort<WorldPort>>>>;
+
 /// The ports of a world: without keys, or with keys, which keep it.
 #[derive(Drop)]
 pub enum Stack {
     Open(HostPort<GuardedPort<WorldPort>>),
-    Keyed(KeepingPort<StockScript, HostPort<GuardedPort<KeyedPort<WorldPort>>>>),
+    Keyed(KeyedStack),
 }
 
 /// How many bytes of a datagram are received, as a `Port` does it.

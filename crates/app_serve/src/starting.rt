@@ -11,10 +11,10 @@ use crate::serving::{Serving, VIEWERS};
 use crate::shared::Shared;
 use crate::world::WorldLog;
 use app_logs::{
-    Beat, Begun, Entry, Head, LogFault, LoggedHost, is_viewer_count, resumed, times_after,
+    Base, Beat, Begun, Entry, Head, LogFault, LoggedHost, is_viewer_count, resumed, times_after,
 };
 use app_words::LogUse;
-use share_engine::{OpenedWorld, open_world};
+use share_engine::{OpenedWorld, WorldBase, open_world};
 use share_session::{ViewerCount, WorldName};
 use share_store::Remembers;
 use share_welcomes::HostRun;
@@ -31,7 +31,11 @@ pub struct BegunWorld<'e, 'r> {
     pub run: HostRun,
     /// The times of its job's clocks in microseconds that are later than the log's last input.
     pub clocks: Vec<i64>,
-    /// Those of its log.
+    /// That of its log, if it has one.
+    pub base: Option<Base>,
+    /// The snapshot of the world at the base, if the log had it.
+    pub snapshot: Option<Vec<u8>>,
+    /// Those of its log, or those after its base.
     pub entries: Vec<Entry>,
 }
 
@@ -41,7 +45,11 @@ struct BegunLog<'e, 'r> {
     log: WorldLog<'e, 'r>,
     hosting: LoggedHost,
     head: Head,
-    /// Those of the log.
+    /// That of the log, if it has one.
+    base: Option<Base>,
+    /// The snapshot of the world at the base, if the log had it.
+    snapshot: Option<Vec<u8>>,
+    /// Those of the log, or those after its base.
     entries: Vec<Entry>,
 }
 
@@ -82,23 +90,28 @@ fn begun_alone<'e, 'r>(begun: Begun<LogDisk>, every: Option<u32>) -> BegunLog<'e
         hosting,
         head,
         cut: _,
-        last,
+        base,
         entries,
     } = begun;
+    let last = hosting.last();
     BegunLog {
-        log: WorldLog::Alone(Alone::new(log, last, every)),
+        log: WorldLog::Alone(Alone::new(log, head, last, every)),
         hosting,
         head,
+        base,
+        snapshot: None,
         entries,
     }
 }
 
-/// Opens the log of a world in etcd, or makes it with a run drawn at random.
+/// Opens the log of a world in etcd. If there is none it is made, with a run drawn at random, if
+/// `makes` says so.
 fn opened_in<'e, 'r>(
     served: &Served<'_, 'e, 'r>,
     way: EtcdWay<'e, 'r>,
     name: &WorldName,
     mark: [u8; 32],
+    makes: bool,
 ) -> Result<OpenedWorld<EtcdWay<'e, 'r>>, End> {
     let viewers = served.serving.viewers.unwrap_or(VIEWERS);
     let run = drawn_run(served.rt)?;
@@ -106,25 +119,35 @@ fn opened_in<'e, 'r>(
     if !is_viewer_count(viewers) {
         return Err(End::Log(LogFault::BadHead));
     }
-    match open_world(served.rt.alloc(), way, *name, &head, served.serving.viewers) {
+    let viewers = served.serving.viewers;
+    match open_world(served.rt.alloc(), way, *name, &head, viewers, makes) {
         Ok(opened) => Ok(opened),
         Err(fault) => Err(world_end(fault)),
     }
 }
 
-/// Returns entries, and the host that they make.
+/// Returns entries, and the host that they make with those below the base.
 fn host_with(
     alloc: Global,
     head: &Head,
+    base: &Option<Base>,
     entries: &[Entry],
 ) -> Result<(LoggedHost, Vec<Entry>), LogFault> {
-    let hosting = resumed(alloc, head, entries)?;
+    let hosting = resumed(alloc, head, base, entries)?;
     match Vec::from_slice(alloc, entries) {
         Ok(copy) => Ok((hosting, copy)),
         Err(_refused) => {
             drop(hosting);
             Err(LogFault::Memory)
         }
+    }
+}
+
+/// Returns the base of a world in etcd, and the snapshot there.
+pub fn parts_of(based: Option<WorldBase>) -> (Option<Base>, Option<Vec<u8>>) {
+    match based {
+        Some(WorldBase { base, snapshot }) => (Some(base), Some(snapshot)),
+        None => (None, None),
     }
 }
 
@@ -137,12 +160,16 @@ fn begun_shared<'e, 'r>(
     let OpenedWorld {
         log,
         head,
+        based,
         is_new: _,
     } = opened;
-    let (hosting, entries) = match host_with(served.rt.alloc(), &head, log.entries()) {
+    let (base, snapshot) = parts_of(based);
+    let (hosting, entries) = match host_with(served.rt.alloc(), &head, &base, log.entries()) {
         Ok(found) => found,
         Err(fault) => {
             drop(log);
+            drop(base);
+            drop(snapshot);
             return Err(fault);
         }
     };
@@ -151,9 +178,11 @@ fn begun_shared<'e, 'r>(
         base: hosting.last(),
     };
     Ok(BegunLog {
-        log: WorldLog::Shared(Shared::new(log, way, &head, beat, served.now)),
+        log: WorldLog::Shared(Shared::new(log, way, beat, served.now)),
         hosting,
         head,
+        base,
+        snapshot,
         entries,
     })
 }
@@ -163,9 +192,10 @@ fn begun_log<'e, 'r>(
     served: &Served<'_, 'e, 'r>,
     name: &WorldName,
     mark: [u8; 32],
+    makes: bool,
 ) -> Result<BegunLog<'e, 'r>, End> {
     if let Some(way) = served.etcd {
-        let opened = opened_in(served, way, name, mark)?;
+        let opened = opened_in(served, way, name, mark, makes)?;
         return Ok(begun_shared(served, way, opened)?);
     }
     let path = path_of(served.rt.alloc(), served.folder, name, ".x3dlog")?;
@@ -196,21 +226,24 @@ fn run_and_clocks(
     }
 }
 
-/// Begins the log of a world, whose job has this mark and these inputs. Fails with what is wrong
-/// with the log, or with `Memory`.
+/// Begins the log of a world, whose job has this mark and these inputs. If there is none in etcd it
+/// is made if `makes` says so. Fails with what is wrong with the log, or with `Memory`.
 pub fn begun_world<'e, 'r>(
     served: &Served<'_, 'e, 'r>,
     name: &WorldName,
     mark: [u8; 32],
     inputs: &[Stamped],
+    makes: bool,
 ) -> Result<BegunWorld<'e, 'r>, End> {
-    let begun = begun_log(served, name, mark)?;
+    let begun = begun_log(served, name, mark, makes)?;
     match run_and_clocks(served.rt.alloc(), &begun, name, inputs) {
         Ok((run, clocks)) => {
             let BegunLog {
                 log,
                 hosting,
                 head,
+                base,
+                snapshot,
                 entries,
             } = begun;
             Ok(BegunWorld {
@@ -219,6 +252,8 @@ pub fn begun_world<'e, 'r>(
                 head,
                 run,
                 clocks,
+                base,
+                snapshot,
                 entries,
             })
         }

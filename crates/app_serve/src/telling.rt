@@ -76,6 +76,7 @@ fn refuse_by_name<R: Eprint>(rt: &R, world: Option<&WorldName>, end: &End) -> Ex
         End::Instance(failure, _) => refuse_failure(rt, world, failure),
         End::Log(fault) => refuse_log(rt, world, *fault),
         End::InDoubt => refuse_log(rt, world, LogFault::Device),
+        End::NoSnapshot => refuse_words_of(rt, world, "refused NoSnapshot"),
         End::NoAddress => refuse_words_of(rt, world, "refused NoAddress"),
         End::KeyFileOpen => refuse_words_of(rt, world, "refused KeyFileOpen"),
         End::KeyFileShared => refuse_words_of(rt, world, "refused KeyFileOpen"),
@@ -110,6 +111,16 @@ fn tell_more<R: Eprint>(rt: &R, world: Option<&WorldName>, end: &End) {
             rt,
             world,
             "the log is in doubt: start the host again with --log",
+        ),
+        End::NoSnapshot => tell(
+            rt,
+            world,
+            "the snapshot at the base of the log has to be next to it, as NAME.N.x3dw or x3d/NAME/snapshot",
+        ),
+        End::Log(LogFault::HasBase(_)) => tell(
+            rt,
+            world,
+            "a log with a base has only the inputs after it, and takes a host with keys",
         ),
         End::KeyFileShared => tell(rt, world, "others may use the file of keys: chmod 600 it"),
         End::LoginFile => tell(
@@ -164,6 +175,25 @@ impl fmt::Display for Opened {
 /// Prints how many inputs a world has that was opened.
 pub fn tell_opened<R: Eprint>(rt: &R, name: &WorldName, inputs: u64) {
     tell(rt, Some(name), Opened(inputs));
+}
+
+/// That the log of a world was given a base, or not, in words.
+#[derive(Drop)]
+struct Based(Option<u64>);
+
+impl fmt::Display for Based {
+    fn fmt<W: fmt::Write>(&self, f: &mut fmt::Formatter<W>) -> fmt::Result {
+        match self.0 {
+            Some(number) => write!(f, "a base at input {number}"),
+            None => f.write_str("no base could be made"),
+        }
+    }
+}
+
+/// Prints the number of the last input below a base that the log of a world was given, or that none
+/// could be made.
+pub fn tell_based<R: Eprint>(rt: &R, name: &WorldName, number: Option<u64>) {
+    tell(rt, Some(name), Based(number));
 }
 
 /// That a world was closed, and how many of its datagrams were lost for lack of room, in words.

@@ -57,6 +57,7 @@ impl World<'_, '_> {
         let ahead = Ahead {
             alloc,
             serving,
+            origin: &self.origin,
             clocks: self.clocks.as_slice(),
             makes,
             now,

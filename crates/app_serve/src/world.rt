@@ -5,6 +5,7 @@ use crate::serving::Serving;
 use crate::shared::Shared;
 use crate::stack::Stack;
 use app_logs::{Log, LoggedHost};
+use app_standby::Origin;
 use share_session::Session;
 use share_worlds::{Wants, moment_of};
 use std::alloc::Global;
@@ -27,6 +28,8 @@ pub enum WorldLog<'e, 'r> {
 pub struct World<'e, 'r> {
     pub session: Session,
     pub log: WorldLog<'e, 'r>,
+    /// What its host began with, before the entries that the log's handle has.
+    pub origin: Origin,
     /// The host, except after a turn that failed, or that found other entries in the log.
     pub hosting: Option<LoggedHost>,
     pub stack: Stack,
@@ -43,6 +46,7 @@ pub struct World<'e, 'r> {
 pub struct Ahead<'a> {
     pub alloc: Global,
     pub serving: &'a Serving,
+    pub origin: &'a Origin,
     /// The times of the job's clocks in microseconds.
     pub clocks: &'a [i64],
     /// It may make a clock.
@@ -55,8 +59,8 @@ impl WorldLog<'_, '_> {
     /// Returns how many inputs it had when it was last read or appended to.
     pub fn len(&self) -> u64 {
         match self {
-            WorldLog::Alone(alone) => alone.log.len(),
-            WorldLog::Shared(shared) => shared.log.len(),
+            WorldLog::Alone(alone) => alone.inputs(),
+            WorldLog::Shared(shared) => shared.inputs(),
         }
     }
 

@@ -1,6 +1,6 @@
 -- Steps of a run, one after another.
-use Rattle.std.proofs.Common.{◌≡◌, ℕ, zero, suc, List, [], ◌∷◌, ◌++◌, ap, sym, ◌∙◌, append_assoc, append-nil}
-use Rattle.std.specs.Prelude.{Option, Some, None, slice_get}
+use Rattle.std.proofs.Common.{◌≡◌, ℕ, zero, suc, List, [], ◌∷◌, ◌++◌, ap, sym, ◌∙◌, append_assoc, append-nil, subst}
+use Rattle.std.specs.Prelude.{Bool, IsTrue, Option, Some, None, slice_get, ⊤}
 use Rattle.share_entries.specs.Entry.{EntryView}
 use Rattle.share_logged.specs.Shown.{Shows}
 use Rattle.share_store.specs.OneLog.{Begins}
@@ -8,7 +8,7 @@ use Rattle.share_turns.specs.declared.traffic.Datagram.{Datagram}
 use Rattle.share_turns.specs.declared.traffic.Traffic.{Traffic}
 use Rattle.share_turns.specs.declared.traffic.Traffic.TheVariants.{Sent}
 use Rattle.app_standby.specs.Shared.{AreShownOf, IsShownOf, ShowsFirst}
-use Rattle.app_standby.specs.Steps.{Goes, Moment}
+use Rattle.app_standby.specs.Steps.{Goes, Moment, moment}
 
 pub begins-same : (k : List EntryView) → Begins k k
 begins-same k = ([], sym (append-nil k))
@@ -18,6 +18,10 @@ begins-then a b c m n = (m.0 ++ n.0, n.1 ∙ ap (λ (l : List EntryView). l ++ n
 
 pub begins-equal : (k l : List EntryView) → l ≡ k → Begins k l
 begins-equal k l same = ([], same ∙ sym (append-nil k))
+
+-- with the entries below
+pub begins-below : (below a b : List EntryView) → Begins a b → Begins (below ++ a) (below ++ b)
+begins-below below a b m = (m.0, ap (λ (l : List EntryView). below ++ l) m.1 ∙ sym (append_assoc below a m.0))
 
 -- ---- what was sent
 
@@ -50,7 +54,25 @@ shows-first mark v k None b s = tt
 shows-first mark v k (Some x) None s = absurd s
 shows-first mark v k (Some x) (Some y) s = (s.0, s.1, λ n d is. (k, begins-same k, s.2 n d is))
 
+-- nothing was sent
+shows-none : (mark : List ℕ) (v : ℕ) (k : List EntryView) (a : Option (List Traffic)) → ShowsFirst mark v k a a
+shows-none mark v k None = tt
+shows-none mark v k (Some x) = ([], sym (append-nil x), λ n d is. absurd cc)
+
+shows-same : (mark : List ℕ) (v : ℕ) (k : List EntryView) (a b : Option (List Traffic)) → b ≡ a → ShowsFirst mark v k a b
+shows-same mark v k a b same = subst (λ (o : Option (List Traffic)). ShowsFirst mark v k a o) (sym same) (shows-none mark v k a)
+
 -- ---- steps
+
+-- a reading: nothing was sent
+pub read-goes : (mark : List ℕ) (v : ℕ) (below known new all : List EntryView) (p q : Bool) (a b : Option (List Traffic)) (was is : Type 0) → (IsTrue q → IsTrue p) → (IsTrue q → all ≡ known ++ new) → b ≡ a
+    → (IsTrue q → was → is) → Goes mark v (moment (below ++ known) p a) (moment (below ++ all) q b) was is
+read-goes mark v below known new all p q a b was is clean read told stays = record {
+  clean = clean;
+  grows = λ x. begins-below below known all (new, read x);
+  shown = λ x w. shows-same mark v (below ++ all) a b told;
+  stays = stays;
+}
 
 pub goes-then : (mark : List ℕ) (v : ℕ) (a b c : Moment) (was mid is : Type 0) → Goes mark v a b was mid → Goes mark v b c mid is → Goes mark v a c was is
 goes-then mark v a b c was mid is g h = record {
@@ -62,3 +84,14 @@ goes-then mark v a b c was mid is g h = record {
       (h.shown x (g.stays (h.clean x) w));
   stays = λ x w. h.stays x (g.stays (h.clean x) w);
 }
+
+-- what holds besides
+pub goes-under : (mark : List ℕ) (v : ℕ) (a b : Moment) (beside was is : Type 0) → Goes mark v a b was is → Goes mark v a b (beside × was) is
+goes-under mark v a b beside was is g = record { clean = g.clean; grows = g.grows; shown = λ x w. g.shown x w.1; stays = λ x w. g.stays x w.1 }
+
+pub goes-beside : (mark : List ℕ) (v : ℕ) (a b : Moment) (beside was is : Type 0) → Goes mark v a b was is → Goes mark v a b (beside × was) (beside × is)
+goes-beside mark v a b beside was is g = record { clean = g.clean; grows = g.grows; shown = λ x w. g.shown x w.1; stays = λ x w. (w.0, g.stays x w.1) }
+
+-- nothing is said of the host after it
+pub goes-over : (mark : List ℕ) (v : ℕ) (a b : Moment) (was is : Type 0) → Goes mark v a b was is → Goes mark v a b was ⊤
+goes-over mark v a b was is g = record { clean = g.clean; grows = g.grows; shown = g.shown; stays = λ x w. tt }

@@ -1,4 +1,5 @@
 pub mod Pace
 pub mod State
+pub mod Origins
 pub mod Shared
 pub mod Steps

@@ -27,9 +27,13 @@ IsMarked mark (Hosting h) = h.mark ≡ mark
 IsMarked mark Behind = ⊤
 
 -- if there is a host it is the one that these entries make
-abbrev pub IsNowOf : (viewers : ℕ) → List EntryView → Now → Type 0
-IsNowOf viewers known (Hosting h) = IsOfLog viewers known h.part
-IsNowOf viewers known Behind = ⊤
+abbrev pub IsMade : (viewers : ℕ) → List EntryView → Now → Type 0
+IsMade viewers entries (Hosting h) = IsOfLog viewers entries h.part
+IsMade viewers entries Behind = ⊤
+
+-- if there is a host it has this mark, and is the one that these entries make
+abbrev pub IsNowOf : (mark : List ℕ) → (viewers : ℕ) → List EntryView → Now → Type 0
+IsNowOf mark viewers entries now = IsMarked mark now × IsMade viewers entries now
 
 -- A turn ended early. If the log has other entries, or is in doubt, the run goes on without the
 -- host; any other fault ends it.

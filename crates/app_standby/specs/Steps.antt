@@ -5,8 +5,8 @@ use Rattle.share_store.specs.OneLog.{Begins}
 use Rattle.share_turns.specs.declared.traffic.Traffic.{Traffic}
 use Rattle.app_standby.specs.Shared.{ShowsFirst}
 
--- A log and a port at a moment: the entries that the log knows, whether no read of its device has
--- lied, and what the port has recorded.
+-- A log and a port at a moment: the log's entries, those below its base too, whether no read of its
+-- device has lied, and what the port has recorded.
 pub record Moment : Type 0 where
   pub known : List EntryView
   pub clean : Bool

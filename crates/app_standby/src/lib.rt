@@ -3,6 +3,7 @@
 //!
 //! | Modules | Content |
 //! |---|---|
+//! | `origin` | what it begins with: its scene, its viewers, and the log's base |
 //! | `plan`, `fault` | what such a host does, and why it ends |
 //! | `pace` | when it reads on, and which clocks it makes |
 //! | `state` | the host, or that it was dropped |
@@ -12,6 +13,7 @@
 #![tactic(auto)]
 
 mod fault;
+mod origin;
 mod pace;
 mod plan;
 mod reading;
@@ -20,6 +22,7 @@ mod state;
 mod turning;
 
 pub use fault::SharedFault;
+pub use origin::Origin;
 pub use pace::{BUSY, Pace, READ_EVERY, must_read, stands_in};
 pub use plan::SharedPlan;
 pub use reading::read;

@@ -14,6 +14,4 @@ pub struct SharedPlan {
     pub turns: u64,
     /// After how many milliseconds without an entry of another host it makes clocks; 0 at once.
     pub standby: u64,
-    /// The number of viewers: 1 to `MAX_VIEWERS`.
-    pub viewers: u8,
 }

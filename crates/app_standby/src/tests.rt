@@ -1,6 +1,6 @@
 //! A host over a log in memory to which another host appends.
 
-use crate::{SharedPlan, shared_run};
+use crate::{Now, Origin, Pace, SharedPlan, act, read, shared_run};
 use app_logs::Beat;
 use share_entries::{Entry, Source};
 use share_logged::{Learns, LoggedHost, resume};
@@ -95,7 +95,16 @@ fn plan(standby: u64, turns: u64) -> SharedPlan {
         },
         turns,
         standby,
-        viewers: 1,
+    }
+}
+
+/// A port whose rests take 300 milliseconds.
+fn port(alloc: Global) -> Steady<FakePort> {
+    Steady {
+        port: FakePort::failing_at(alloc, 0),
+        millis: 300,
+        rested: 0,
+        learned: 0,
     }
 }
 
@@ -107,18 +116,23 @@ fn run(
     clocks: &[i64],
     plan: &SharedPlan,
 ) -> Result<usize, Fail> {
-    if plan.viewers != 1 {
-        return Err(Fail::from("the host has one viewer"));
-    }
-    let mut port = Steady {
-        port: FakePort::failing_at(alloc, 0),
-        millis: 300,
-        rested: 0,
-        learned: 0,
-    };
     let hosting = begin(alloc)?;
+    let mut port = port(alloc);
+    let origin = Origin {
+        mark: MARK,
+        viewers: 1,
+        base: None,
+    };
     let mut handle = log.handle(0);
-    let ended = shared_run(alloc, hosting, clocks, plan, &mut handle, &mut port);
+    let ended = shared_run(
+        alloc,
+        &origin,
+        hosting,
+        clocks,
+        plan,
+        &mut handle,
+        &mut port,
+    );
     let MemoryHandle { log: _, number: _ } = handle;
     match ended {
         Ok(()) => Ok(port.learned),
@@ -209,5 +223,65 @@ fn makes_a_clock_again_that_was_lost_in_doubt(rt: HostRuntime) -> Result<(), Fai
     let mut log = log(rt.alloc(), Some(Outcome::InDoubtLost))?;
     assert_eq!(rt; run(rt.alloc(), &mut log, &[5], &plan(0, 2))?, 1);
     assert!(rt; has_clocks(&log, &[5]));
+    Ok(())
+}
+
+/// That of a log whose base stands for two clocks, at 5 and 6.
+fn based(alloc: Global) -> Result<Origin, Fail> {
+    let below = [Entry::new(5, Source::Clock), Entry::new(6, Source::Clock)];
+    match resume(alloc, MARK, 1, &below) {
+        Ok(hosting) => Ok(Origin {
+            mark: MARK,
+            viewers: 1,
+            base: hosting.base([0; 16], [0; 32]),
+        }),
+        Err(_fault) => Err(Fail::from("memory was refused")),
+    }
+}
+
+/// Reads on and runs a turn, in which the host makes the next of these clocks.
+fn turn(
+    alloc: Global,
+    origin: &Origin,
+    log: &mut MemoryLog,
+    clocks: &[i64],
+    now: Now,
+) -> Result<Now, Fail> {
+    if origin.viewers != 1 {
+        return Err(Fail::from("the host has one viewer"));
+    }
+    let plan = plan(0, 1);
+    let mut pace = Pace::new(plan.beat);
+    let mut port = port(alloc);
+    let mut handle = log.handle(0);
+    match read(alloc, origin, now, &mut pace, &mut handle, &mut port) {
+        Ok(kept) => match act(clocks, &plan, kept, &mut pace, &mut handle, &mut port) {
+            Ok(after) => Ok(after),
+            Err(_fault) => Err(Fail::from("a turn ended")),
+        },
+        Err(_fault) => Err(Fail::from("a turn ended")),
+    }
+}
+
+fn inputs_of(now: &Now) -> Option<u64> {
+    match now {
+        Now::Hosting(hosting) => Some(hosting.len()),
+        Now::Behind => None,
+    }
+}
+
+/// The base stands for two inputs, so the clock at 8 of the other host is the third.
+#[test]
+fn begins_again_from_its_base(rt: HostRuntime) -> Result<(), Fail> {
+    let origin = based(rt.alloc())?;
+    let mut log = log(rt.alloc(), Some(Outcome::Taken))?;
+    let taken = turn(rt.alloc(), &origin, &mut log, &[7], Now::Behind)?;
+    assert!(rt; inputs_of(&taken).is_none());
+    append(&mut log, 8)?;
+    let again = turn(rt.alloc(), &origin, &mut log, &[7], taken)?;
+    assert!(rt; inputs_of(&again) == Some(3));
+    let on = turn(rt.alloc(), &origin, &mut log, &[7, 9], again)?;
+    assert!(rt; inputs_of(&on) == Some(4));
+    assert!(rt; has_clocks(&log, &[8, 9]));
     Ok(())
 }

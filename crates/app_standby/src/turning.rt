@@ -1,10 +1,11 @@
 //! A turn of a host over a shared log.
 
-ghost use Rattle.std.specs.Prelude.{◌≡◌, ℕ, IfOk, IsTrue, List, OnErr, ⊤};
+ghost use Rattle.std.specs.Prelude.{◌≡◌, ◌++◌, ℕ, IfOk, IsTrue, List, OnErr, ⊤};
+ghost use Rattle.share_entries.specs.Entry.{EntryView};
 ghost use Rattle.share_store.specs.OneLog.{Last};
-ghost use Rattle.share_logged.specs.Making.{IsOfLog};
 ghost use Rattle.app_standby.specs.State.{IsMarked, IsNowOf, after_fault};
 ghost use Rattle.app_standby.specs.Steps.{Goes, moment};
+ghost use Rattle.app_standby.specs.declared.state.Now.TheVariants.{Hosting};
 
 use crate::fault::SharedFault;
 use crate::pace::Pace;
@@ -37,15 +38,17 @@ fn turn<L: Log, P: Learns>(
 ) -> Result<Now, SharedFault>
     requires open { IsTrue (L.is_open log.old) }
     ensures mark { IfOk result (λ after. IsMarked hosting.mark after) }
-    ensures goes { IfOk result (λ after. (viewers : ℕ) → Goes hosting.mark viewers
-        (moment (L.known log.old) (L.is_clean log.old) (P.told port.old))
-        (moment (L.known log.new) (L.is_clean log.new) (P.told port.new))
-        (IsOfLog viewers (L.known log.old) hosting.part)
-        (IsNowOf viewers (L.known log.new) after)) }
-    ensures ended { OnErr result ((viewers : ℕ) → Goes hosting.mark viewers
-        (moment (L.known log.old) (L.is_clean log.old) (P.told port.old))
-        (moment (L.known log.new) (L.is_clean log.new) (P.told port.new))
-        (IsOfLog viewers (L.known log.old) hosting.part) ⊤) }
+    ensures goes { IfOk result (λ after. (mark : List ℕ) (viewers : ℕ) (below : List EntryView)
+        → Goes mark viewers
+        (moment (below ++ L.known log.old) (L.is_clean log.old) (P.told port.old))
+        (moment (below ++ L.known log.new) (L.is_clean log.new) (P.told port.new))
+        (IsNowOf mark viewers (below ++ L.known log.old) (Hosting hosting))
+        (IsNowOf mark viewers (below ++ L.known log.new) after)) }
+    ensures ended { OnErr result ((mark : List ℕ) (viewers : ℕ) (below : List EntryView)
+        → Goes mark viewers
+        (moment (below ++ L.known log.old) (L.is_clean log.old) (P.told port.old))
+        (moment (below ++ L.known log.new) (L.is_clean log.new) (P.told port.new))
+        (IsNowOf mark viewers (below ++ L.known log.old) (Hosting hosting)) ⊤) }
     ensures lasts { Last (L.may_leave log.old) (L.known log.old) → IsTrue (L.is_clean log.new)
         → Last (L.may_leave log.new) (L.known log.new) }
 {
@@ -85,16 +88,17 @@ pub fn act<L: Log, P: Learns>(
 ) -> Result<Now, SharedFault>
     ensures mark { IfOk result
         (λ after. (mark : List ℕ) → IsMarked mark now → IsMarked mark after) }
-    ensures goes { IfOk result (λ after. (mark : List ℕ) (viewers : ℕ) → IsMarked mark now
+    ensures goes { IfOk result (λ after. (mark : List ℕ) (viewers : ℕ) (below : List EntryView)
         → Goes mark viewers
-        (moment (L.known log.old) (L.is_clean log.old) (P.told port.old))
-        (moment (L.known log.new) (L.is_clean log.new) (P.told port.new))
-        (IsNowOf viewers (L.known log.old) now) (IsNowOf viewers (L.known log.new) after)) }
-    ensures ended { OnErr result ((mark : List ℕ) (viewers : ℕ) → IsMarked mark now
+        (moment (below ++ L.known log.old) (L.is_clean log.old) (P.told port.old))
+        (moment (below ++ L.known log.new) (L.is_clean log.new) (P.told port.new))
+        (IsNowOf mark viewers (below ++ L.known log.old) now)
+        (IsNowOf mark viewers (below ++ L.known log.new) after)) }
+    ensures ended { OnErr result ((mark : List ℕ) (viewers : ℕ) (below : List EntryView)
         → Goes mark viewers
-        (moment (L.known log.old) (L.is_clean log.old) (P.told port.old))
-        (moment (L.known log.new) (L.is_clean log.new) (P.told port.new))
-        (IsNowOf viewers (L.known log.old) now) ⊤) }
+        (moment (below ++ L.known log.old) (L.is_clean log.old) (P.told port.old))
+        (moment (below ++ L.known log.new) (L.is_clean log.new) (P.told port.new))
+        (IsNowOf mark viewers (below ++ L.known log.old) now) ⊤) }
     ensures lasts { Last (L.may_leave log.old) (L.known log.old) → IsTrue (L.is_clean log.new)
         → Last (L.may_leave log.new) (L.known log.new) }
 {

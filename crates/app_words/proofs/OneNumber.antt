@@ -76,13 +76,14 @@ one_view rows x y a b =
 
 pub one_serve : (rows : List Row) (x y : ServeOrder) → AsksServe rows x → AsksServe rows y → x ≡ y
 one_serve rows x y a b =
-    ap (λ v. record y { port = v; has_address = x.has_address; is_open = x.is_open; has_etcd = x.has_etcd; has_login = x.has_login; viewers = x.viewers; keep = x.keep; forget = x.forget; every = x.every; verbose = x.verbose }) (one_or_none _ rows _ _ x.port y.port a.port b.port)
-    ∙ ap (λ v. record y { has_address = v; is_open = x.is_open; has_etcd = x.has_etcd; has_login = x.has_login; viewers = x.viewers; keep = x.keep; forget = x.forget; every = x.every; verbose = x.verbose }) (a.has_address ∙ sym b.has_address)
-    ∙ ap (λ v. record y { is_open = v; has_etcd = x.has_etcd; has_login = x.has_login; viewers = x.viewers; keep = x.keep; forget = x.forget; every = x.every; verbose = x.verbose }) (a.is_open ∙ sym b.is_open)
-    ∙ ap (λ v. record y { has_etcd = v; has_login = x.has_login; viewers = x.viewers; keep = x.keep; forget = x.forget; every = x.every; verbose = x.verbose }) (a.has_etcd ∙ sym b.has_etcd)
-    ∙ ap (λ v. record y { has_login = v; viewers = x.viewers; keep = x.keep; forget = x.forget; every = x.every; verbose = x.verbose }) (a.has_login ∙ sym b.has_login)
-    ∙ ap (λ v. record y { viewers = v; keep = x.keep; forget = x.forget; every = x.every; verbose = x.verbose }) (one_or_none _ rows _ _ x.viewers y.viewers a.viewers b.viewers)
-    ∙ ap (λ v. record y { keep = v; forget = x.forget; every = x.every; verbose = x.verbose }) (one_or_none _ rows _ _ x.keep y.keep a.keep b.keep)
-    ∙ ap (λ v. record y { forget = v; every = x.every; verbose = x.verbose }) (one_or_none _ rows _ _ x.forget y.forget a.forget b.forget)
+    ap (λ v. record y { port = v; has_address = x.has_address; is_open = x.is_open; has_etcd = x.has_etcd; has_login = x.has_login; viewers = x.viewers; keep = x.keep; forget = x.forget; base = x.base; every = x.every; verbose = x.verbose }) (one_or_none _ rows _ _ x.port y.port a.port b.port)
+    ∙ ap (λ v. record y { has_address = v; is_open = x.is_open; has_etcd = x.has_etcd; has_login = x.has_login; viewers = x.viewers; keep = x.keep; forget = x.forget; base = x.base; every = x.every; verbose = x.verbose }) (a.has_address ∙ sym b.has_address)
+    ∙ ap (λ v. record y { is_open = v; has_etcd = x.has_etcd; has_login = x.has_login; viewers = x.viewers; keep = x.keep; forget = x.forget; base = x.base; every = x.every; verbose = x.verbose }) (a.is_open ∙ sym b.is_open)
+    ∙ ap (λ v. record y { has_etcd = v; has_login = x.has_login; viewers = x.viewers; keep = x.keep; forget = x.forget; base = x.base; every = x.every; verbose = x.verbose }) (a.has_etcd ∙ sym b.has_etcd)
+    ∙ ap (λ v. record y { has_login = v; viewers = x.viewers; keep = x.keep; forget = x.forget; base = x.base; every = x.every; verbose = x.verbose }) (a.has_login ∙ sym b.has_login)
+    ∙ ap (λ v. record y { viewers = v; keep = x.keep; forget = x.forget; base = x.base; every = x.every; verbose = x.verbose }) (one_or_none _ rows _ _ x.viewers y.viewers a.viewers b.viewers)
+    ∙ ap (λ v. record y { keep = v; forget = x.forget; base = x.base; every = x.every; verbose = x.verbose }) (one_or_none _ rows _ _ x.keep y.keep a.keep b.keep)
+    ∙ ap (λ v. record y { forget = v; base = x.base; every = x.every; verbose = x.verbose }) (one_or_none _ rows _ _ x.forget y.forget a.forget b.forget)
+    ∙ ap (λ v. record y { base = v; every = x.every; verbose = x.verbose }) (one_or_none _ rows _ _ x.base y.base a.base b.base)
     ∙ ap (λ v. record y { every = v; verbose = x.verbose }) (one_or_none _ rows _ _ x.every y.every a.every b.every)
     ∙ ap (λ v. record y { verbose = v }) (a.verbose ∙ sym b.verbose)

@@ -3,7 +3,7 @@ use Rattle.std.specs.Prelude.{List, [], ◌∷◌, codes, true}
 use Rattle.std.specs.List.{fold}
 use Rattle.clap.specs.Words.{App, Rule, Text, new_app, with_rule, with_subcommand}
 use Rattle.clap.specs.Simple.{on_top}
-use Rattle.app_words.specs.Options.{viewers_rule, turns_rule, port_rule, keep_rule, forget_rule}
+use Rattle.app_words.specs.Options.{viewers_rule, turns_rule, port_rule, keep_rule, forget_rule, base_rule}
 use Rattle.app_words.specs.Options.{every_rule, until_rule, standby_rule, etcd_rule, login_rule}
 use Rattle.app_words.specs.Options.{who_rule, boot_rule, exactly_rule, at_rule, give_rule}
 use Rattle.app_words.specs.Options.{give_turns_rule, wire_rule, host_viewers_rule, host_turns_rule}
@@ -66,12 +66,12 @@ view_app = taking (codes "view")
     ∷ give_rule ∷ give_turns_rule ∷ wire_rule ∷ forget_rule ∷ host_rule ∷ key_rule ∷ world_rule
     ∷ open_rule ∷ join_rule ∷ verbose_rule ∷ [])
 
--- `serve FOLDER --port P --viewers K --keep N --forget N --every MS --listen ADDRESS:PORT
--- --etcd ADDRESS:PORT[,..] --login FILE --open -v`
+-- `serve FOLDER --port P --viewers K --keep N --forget N --base N --every MS
+-- --listen ADDRESS:PORT --etcd ADDRESS:PORT[,..] --login FILE --open -v`
 unfoldable pub serve_app : App
 serve_app = taking (codes "serve")
-    (port_rule ∷ host_viewers_rule ∷ keep_rule ∷ forget_rule ∷ every_rule ∷ folder_rule
-    ∷ listen_rule ∷ etcd_rule ∷ login_rule ∷ open_rule ∷ verbose_rule ∷ [])
+    (port_rule ∷ host_viewers_rule ∷ keep_rule ∷ forget_rule ∷ base_rule ∷ every_rule
+    ∷ folder_rule ∷ listen_rule ∷ etcd_rule ∷ login_rule ∷ open_rule ∷ verbose_rule ∷ [])
 
 -- `recall --until N --new-log FILE --info`
 unfoldable pub recall_app : App

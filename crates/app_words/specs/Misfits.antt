@@ -135,7 +135,8 @@ login_misfit o = if o.has_login && not o.has_etcd then Some misfit.LoginWithoutE
 
 -- it has one place, as a host
 abbrev pub serve_misfit : ServeOrder → Option Misfit
-serve_misfit o = or_else (place_misfit misfit.TwoPlaces o.port o.has_address) (login_misfit o)
+serve_misfit o =
+    or_else (place_misfit misfit.TwoPlaces o.port o.has_address) (login_misfit o)
 
 -- `recall` prints what a log has, or makes another
 abbrev pub recall_misfit : (info makes : Bool) → Option Misfit

@@ -113,6 +113,10 @@ keep_rule = ranged (codes "keep") 0 max_inputs
 abbrev pub forget_rule : Rule
 forget_rule = ranged (codes "forget") 0 max_inputs
 
+-- `--base N`, from 100 to 2^48 - 1
+abbrev pub base_rule : Rule
+base_rule = ranged (codes "base") 100 max_inputs
+
 -- `--every MS`, from a millisecond to an hour
 abbrev pub every_rule : Rule
 every_rule = ranged (codes "every") 1 3600000

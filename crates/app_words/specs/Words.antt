@@ -82,6 +82,9 @@ MayHaveKeep rows keep = MayHaveNumberIn (codes "keep") rows 0 max_inputs keep
 abbrev pub MayHaveForget : List Row → Option ℕ → Type 0
 MayHaveForget rows forget = MayHaveNumberIn (codes "forget") rows 0 max_inputs forget
 
+abbrev pub MayHaveBase : List Row → Option ℕ → Type 0
+MayHaveBase rows base = MayHaveNumberIn (codes "base") rows 100 max_inputs base
+
 abbrev pub MayHaveEvery : List Row → Option ℕ → Type 0
 MayHaveEvery rows every = MayHaveNumberIn (codes "every") rows 1 3600000 every
 
@@ -204,6 +207,7 @@ pub record AsksServe (rows : List Row) (o : ServeOrder) : Type 0 where
   pub viewers : MayHaveViewers rows o.viewers
   pub keep : MayHaveKeep rows o.keep
   pub forget : MayHaveForget rows o.forget
+  pub base : MayHaveBase rows o.base
   pub every : MayHaveEvery rows o.every
   pub verbose : o.verbose ≡ is_given (codes "verbose") rows
 
@@ -275,6 +279,8 @@ pub record ServeInRange (o : ServeOrder) : Type 0 where
   pub viewers_high : IfSome o.viewers (λ n. n ≤ max_viewers)
   pub keep_high : IfSome o.keep (λ n. n ≤ max_inputs)
   pub forget_high : IfSome o.forget (λ n. n ≤ max_inputs)
+  pub base_low : IfSome o.base (λ n. 100 ≤ n)
+  pub base_high : IfSome o.base (λ n. n ≤ max_inputs)
   pub every_low : IfSome o.every (λ n. 1 ≤ n)
   pub every_high : IfSome o.every (λ n. n ≤ 3600000)
   pub together : serve_misfit o ≡ None

@@ -16,7 +16,8 @@ use crate::help::{
 };
 use crate::host_options::{
     ETCD, EVERY, HOST_FORGET, HOST_TURNS, HOST_UNTIL, HOST_VIEWERS, KEEP, KEYS, LISTEN, LOG, LOGIN,
-    NEW_LOG, SHARED_WORLD, STANDBY, WORLD_ETCD, WORLD_EVERY, WORLD_FORGET, WORLD_VIEWERS, WORLDS,
+    NEW_LOG, SHARED_WORLD, STANDBY, WORLD_BASE, WORLD_ETCD, WORLD_EVERY, WORLD_FORGET,
+    WORLD_VIEWERS, WORLDS,
 };
 use crate::options::{
     FOLDER, FlagOption, INFO, KEEP_NAMES, LIST, NO_TRACE, NumberOption, OPEN, PORT, RECALL_LOG,
@@ -129,7 +130,14 @@ static FILE_COMMANDS: [CommandWords; 4] = [
         name: "serve",
         about: "Serve the worlds of a folder, over one UDP socket",
         after_help: SERVE_HELP,
-        options: &[PORT, WORLD_VIEWERS, KEEP, WORLD_FORGET, WORLD_EVERY],
+        options: &[
+            PORT,
+            WORLD_VIEWERS,
+            KEEP,
+            WORLD_FORGET,
+            WORLD_BASE,
+            WORLD_EVERY,
+        ],
         texts: &[WORLDS, LISTEN, WORLD_ETCD, LOGIN],
         flags: &[OPEN, VERBOSE],
     },

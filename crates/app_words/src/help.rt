@@ -209,6 +209,10 @@ changes, and dropped when its job goes; its log stays. A world that is refused i
 standard error, with its name, and the others go on.
 Each world is as with `host --log`: it goes on where its log ends. --keep, --forget, --every and
 --viewers are those of each world.
+With --base N the log of a world with keys has its last N to 2N inputs: each N inputs it begins
+anew, after a snapshot of the world in NAME.M.x3dw, where M is the number of its inputs. So it stays
+short, and a world of any age goes on at once. It needs that file, and the keys. With --etcd the
+snapshot is in etcd, beside the log.
 With --etcd ADDRESS:PORT[,..] the logs are in etcd instead, each under the name of its job, as with
 `host --etcd`. The user's name and the password are two lines of the file that --login names.
 Nothing is encrypted on the way to etcd.

@@ -158,6 +158,16 @@ pub const WORLD_FORGET: NumberOption = NumberOption {
     help: "Keeps the trace of the last N inputs of each world, 0 to 281474976710655 [default: all]",
 };
 
+/// The option `--base` of `serve`.
+pub const WORLD_BASE: NumberOption = NumberOption {
+    name: "base",
+    low: 100,
+    high: High::Inputs,
+    unless: Unless::Nothing,
+    value: "N",
+    help: "Keeps the last N to 2N inputs in a log with keys, 100 to 281474976710655 [default: all]",
+};
+
 /// The option `--etcd` of `serve`.
 pub const WORLD_ETCD: TextOption = TextOption {
     name: "etcd",

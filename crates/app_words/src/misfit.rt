@@ -2,7 +2,8 @@
 
 ghost use Rattle.std.specs.Prelude.{◌≡◌};
 ghost use Rattle.app_words.specs.Misfits.{at_misfit, every_misfit, give_misfit, given_misfit};
-ghost use Rattle.app_words.specs.Misfits.{first_misfit, forget_misfit, has_log, host_misfit};
+ghost use Rattle.app_words.specs.Misfits.{first_misfit, forget_misfit, has_log};
+ghost use Rattle.app_words.specs.Misfits.{host_misfit};
 ghost use Rattle.app_words.specs.Misfits.{is_first_boot, is_shared, join_misfit, login_misfit};
 ghost use Rattle.app_words.specs.Misfits.{misfit_of, open_misfit};
 ghost use Rattle.app_words.specs.Misfits.{recall_misfit, sharing_misfit, unshared_misfit};

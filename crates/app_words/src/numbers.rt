@@ -5,7 +5,8 @@ ghost use Rattle.std.specs.Prelude.{option_map};
 ghost use Rattle.clap.specs.Words.{first_of, rows_of, found_of};
 ghost use Rattle.app_words.specs.Words.{HasNumber, HasNumberIn, IsLeftOut, MayHaveNumberIn};
 ghost use Rattle.app_words.specs.Words.{is_given, is_text_given};
-ghost use Rattle.app_words.specs.Words.{IsTurns, IsViewers, MayHaveForget, MayHavePort};
+ghost use Rattle.app_words.specs.Words.{IsTurns, IsViewers, MayHaveBase, MayHaveForget};
+ghost use Rattle.app_words.specs.Words.{MayHavePort};
 ghost use Rattle.app_words.specs.Words.{MayHaveUntil};
 
 use clap::ArgMatches;
@@ -149,6 +150,15 @@ pub fn until_in(found: &ArgMatches<'_>) -> Option<Option<u64>>
         ((o : Option ℕ) → ¬ MayHaveUntil (rows_of (found_of found.now)) o) }
 {
     optional_in(found, "until", 0, MAX_INPUTS)
+}
+
+/// Returns the number of `--base`, or `Some(None)` if it was left out.
+pub fn base_in(found: &ArgMatches<'_>) -> Option<Option<u64>>
+    ensures some { IfSome result (λ o. MayHaveBase (rows_of (found_of found.now)) o) }
+    ensures none { IfNone result
+        ((o : Option ℕ) → ¬ MayHaveBase (rows_of (found_of found.now)) o) }
+{
+    optional_in(found, "base", 100, MAX_INPUTS)
 }
 
 /// Returns the number of `--forget`, or `Some(None)` if it was left out.

@@ -119,6 +119,9 @@ pub struct ServeOrder {
     /// How many of a world's last inputs keep their lines of the trace for viewers that join, 0 to
     /// 2^48 - 1; `None` keeps all.
     pub forget: Option<u64>,
+    /// How many of the last inputs, to twice as many, a log of a world with keys keeps, 100 to
+    /// 2^48 - 1; `None` keeps all.
+    pub base: Option<u64>,
     /// How many milliseconds pass from one clock that a world's host makes to the next, 1 to
     /// 3,600,000, once those of its job are over; `None` for no such clocks.
     pub every: Option<u32>,

@@ -6,7 +6,7 @@ ghost use Rattle.app_words.specs.Words.{AsksServe};
 ghost use Rattle.app_words.specs.declared.order.ServeOrder.{ServeOrder as ServeOf};
 
 use crate::host::{every_in, kept_in, viewers_or_none};
-use crate::numbers::{is_named, is_text_given, port_in};
+use crate::numbers::{base_in, is_named, is_text_given, port_in};
 use crate::order::ServeOrder;
 use clap::ArgMatches;
 
@@ -25,6 +25,9 @@ pub(crate) fn serve_asked(found: &ArgMatches<'_>) -> Option<ServeOrder>
     let Some(kept) = kept_in(found) else {
         return None;
     };
+    let Some(base) = base_in(found) else {
+        return None;
+    };
     let Some(every) = every_in(found) else {
         return None;
     };
@@ -37,6 +40,7 @@ pub(crate) fn serve_asked(found: &ArgMatches<'_>) -> Option<ServeOrder>
         viewers,
         keep: kept.keep,
         forget: kept.forget,
+        base,
         every,
         verbose: is_named(found, "verbose"),
     })

@@ -1,6 +1,6 @@
 -- The lines of the inputs from a number on, where the numbers of the inputs rise.
 use Rattle.std.proofs.Common.{arith, ◌≤◌, ◌<◌, ◌+◌, ◌-◌, ◌&&◌, length, take, drop, zero, suc, ◌≡◌, Bool, true, false, cond, if◌then◌else◌, ℕ, ℤ, List, [], ◌∷◌, ◌++◌, ◌∙◌, ap, sym, subst, refl, Option, Some, None, lt-ltb, ltb-true, leb-true, take-append-drop}
-use Rattle.std.specs.Prelude.{count_by, pos, slice_get, nat_lt, nat_le}
+use Rattle.std.specs.Prelude.{count_by, pos, slice_get, nat_lt}
 use Rattle.std.specs.List.{flat_map}
 use Rattle.std.specs.Option.{option_map_or}
 use Rattle.std.proofs.Math.Seq.{drop-nil}

@@ -8,7 +8,7 @@ use Rattle.cascade_trace.specs.declared.trace.TraceLine.{TraceLine}
 use Rattle.cascade_trace.specs.declared.trace.Entry.{Entry}
 use Rattle.cascade_trace.specs.declared.trace.EntryKind.TheVariants as entry_kind
 use Rattle.std.proofs.lemmas.Int.{to_z-of_z}
-use Rattle.std.proofs.Common.{Option, Some, None}
+use Rattle.std.proofs.Common.{Some}
 use Rattle.x3d_values.specs.declared.value.Value.TheVariants.{SFBool, SFInt32, SFFloat, SFTime, SFString, SFVec2f, SFVec3f, SFColor, SFNode, MFBool, MFInt32, MFFloat, MFTime, MFString, MFVec2f, MFVec3f, MFColor, MFNode}
 use Rattle.cascade_trace.specs.Trace.{lines_of, line, IsPlain, IsWhole, input_entry, plain_entry}
 

@@ -1,14 +1,13 @@
 -- Declarations, and prototypes by how their bodies are read: what is read is spelled so, and what is spelled so is read.
-use Rattle.std.proofs.Common.{◌≡◌, ℕ, ◌<◌, ◌≤◌, List, [], ◌∷◌, length, Bool, true, false, cond, Ok, Err, refl, sym, ap, ◌∙◌, subst, inl, inr, ⊎_elim, arith}
+use Rattle.std.proofs.Common.{◌≡◌, ℕ, ◌<◌, ◌≤◌, List, length, Bool, true, false, cond, Ok, refl, sym, ap, ◌∙◌, subst, inl, inr, ⊎_elim, arith}
 use Rattle.x3d_values.specs.declared.field_type.Access.{Access}
 use Rattle.x3d_values.specs.declared.field_type.Access.TheVariants as access_is
 use Rattle.classic_lex.specs.Lexed.{Tok}
-use Rattle.classic_tree.specs.declared.tree.RawValue.{RawValue}
 use Rattle.classic_tree.specs.declared.tree.Given.{Given}
 use Rattle.classic_tree.specs.declared.tree.Given.TheVariants as given
 use Rattle.classic_tree.specs.declared.tree.Declaration.{Declaration}
 use Rattle.classic_tree.specs.declared.tree.NodeText.{NodeText}
-use Rattle.classic_tree.specs.declared.tree.ProtoText.{ProtoText, roll-ProtoText, out-ProtoText, out-roll-ProtoText, roll-out-ProtoText}
+use Rattle.classic_tree.specs.declared.tree.ProtoText.{ProtoText, out-ProtoText, out-roll-ProtoText, roll-out-ProtoText}
 use Rattle.classic_tree.specs.declared.tree.Statement.{Statement}
 use Rattle.classic_text.specs.declared.terminal.Terminal.TheVariants as t
 use Rattle.classic_text.specs.Terminal.{line}

@@ -1,18 +1,17 @@
 -- Bodies, and nodes and prototypes at each depth: what is read is spelled so, and what is spelled so is read.
-use Rattle.std.proofs.Common.{◌≡◌, ℕ, zero, suc, ◌<◌, ◌≤◌, List, length, Bool, true, false, cond, Option, Some, None, Ok, Err, refl, sym, ap, ◌∙◌, subst, ◌⊎◌, inl, inr, ⊎_elim, arith}
+use Rattle.std.proofs.Common.{◌≡◌, ℕ, zero, suc, ◌<◌, ◌≤◌, List, length, Bool, false, Option, Some, None, Ok, refl, sym, ap, ◌∙◌, subst, ◌⊎◌, inl, inr, ⊎_elim, arith}
 use Rattle.classic_lex.specs.Lexed.{Tok}
 use Rattle.classic_rules.specs.Bounds.{is_script}
 use Rattle.classic_tree.specs.declared.tree.BodyItem.{BodyItem}
 use Rattle.classic_tree.specs.declared.tree.NodeText.{NodeText}
 use Rattle.classic_tree.specs.declared.tree.NodeText.TheVariants as made
 use Rattle.classic_tree.specs.declared.tree.ProtoText.{ProtoText}
-use Rattle.classic_tree.specs.declared.tree.Statement.{Statement}
 use Rattle.classic_text.specs.declared.terminal.Terminal.{Terminal}
 use Rattle.classic_text.specs.declared.terminal.Terminal.TheVariants as t
 use Rattle.classic_text.specs.Terminal.{line}
 use Rattle.classic_text.specs.Input.{Parser, and_then, kind, sees, expect, name}
-use Rattle.classic_text.specs.Grammar.{body, proto_body, def_name, use_node, full_node, node_with, node_at, proto_body_at, proto_at, proto_with}
-use Rattle.classic_text.specs.Spells.{HasDef, IsBody, IsProtoBody, IsLayer, IsProtoBy, IsNode, IsProtoBodyAt, IsProto}
+use Rattle.classic_text.specs.Grammar.{body, proto_body, def_name, use_node, full_node, node_with, node_at, proto_body_at, proto_at}
+use Rattle.classic_text.specs.Spells.{HasDef, IsBody, IsProtoBody, IsLayer, IsNode, IsProtoBodyAt, IsProto}
 use Rattle.classic_text.proofs.Seen.{see, not_see}
 use Rattle.classic_text.proofs.Steps.{ok_is, both, chosen, Is-kind, Is-shorter, IsName-kind, IsName-shorter, found_expect, only_expect, found_name, only_name}
 use Rattle.classic_text.proofs.Values.{Knows, BeginsNode}

@@ -1,5 +1,5 @@
 -- What stands next, by the tests of the reader.
-use Rattle.std.proofs.Common.{◌≡◌, ℕ, List, [], ◌∷◌, true, false, refl, ◌∙◌, sym, arith, rules}
+use Rattle.std.proofs.Common.{◌≡◌, ℕ, List, [], ◌∷◌, true, false, ◌∙◌, sym, rules}
 use denote.Enum.Bare.{same_true, same_false, true_same, false_same}
 use Rattle.std.specs.Str.{bytes_eq}
 use Rattle.std.proofs.lemmas.Bool.{false_from_ne_true}
@@ -10,7 +10,7 @@ use Rattle.classic_text.specs.declared.terminal.Terminal.{Terminal}
 use Rattle.classic_text.specs.declared.terminal.Terminal.TheVariants as t
 use Rattle.classic_text.specs.Terminal.{same}
 use Rattle.classic_text.specs.Input.{kind, spelling, sees, sees_word}
-use Rattle.classic_text.specs.Spells.{NotAhead, NotWordAhead, IsName, IsWord}
+use Rattle.classic_text.specs.Spells.{NotAhead, NotWordAhead, IsName}
 
 -- ---- kinds
 

@@ -1,5 +1,5 @@
 -- Logs in files of the system.
-use Rattle.std.specs.Prelude.{◌≡◌, ◌⊎◌, ℕ, true, false, List, [], Result, Ok, Err}
+use Rattle.std.specs.Prelude.{◌≡◌, ◌⊎◌, ℕ, true, false, List, [], None, Result, Ok, Err}
 use Rattle.share_entries.specs.Head.{is_viewer_count}
 use Rattle.share_file.specs.Contents.{contents_of}
 use Rattle.share_file.specs.declared.contents.Expected.{Expected}
@@ -29,6 +29,7 @@ abbrev pub IsFileOf : Expected → (file : List ℕ) → OpenedFile → Type 0
 IsFileOf expected file o =
     (contents_of expected file ≡ Ok (record {
       head = o.file.log.head;
+      base = None;
       entries = o.file.log.entries.items;
       cut = o.cut;
     })) × (o.file.log.is_open ≡ true)

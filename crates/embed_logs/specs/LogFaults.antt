@@ -6,7 +6,7 @@ use Rattle.embed_disk.specs.declared.fault.FileFault.TheVariants as disk
 use Rattle.share_file.specs.declared.fault.OpenFault.{OpenFault}
 use Rattle.share_file.specs.declared.fault.OpenFault.TheVariants as file
 use Rattle.embed_logs.specs.declared.fault.LogFileFault.{LogFileFault}
-use Rattle.embed_logs.specs.declared.fault.LogFileFault.TheVariants.{Viewers, NoLog, LogBusy, Device, NotEmpty, BadHead, WrongScene, WrongSeats, LogDamaged, NotEntries, LogFull, InDoubt, Memory}
+use Rattle.embed_logs.specs.declared.fault.LogFileFault.TheVariants.{Viewers, NoLog, LogBusy, Device, NotEmpty, BadHead, WrongScene, WrongSeats, LogDamaged, HasBase, NotEntries, LogFull, InDoubt, Memory}
 
 abbrev pub fault_of_file : FileFault → LogFileFault
 fault_of_file disk.Missing = NoLog
@@ -33,6 +33,7 @@ status_of_log_file BadHead = 74
 status_of_log_file WrongScene = 33
 status_of_log_file WrongSeats = 75
 status_of_log_file (LogDamaged frame) = 76
+status_of_log_file HasBase = 80
 status_of_log_file NotEntries = 77
 status_of_log_file LogFull = 78
 status_of_log_file InDoubt = 79

@@ -34,6 +34,8 @@ const LOG_FULL: u8 = 78;
 
 const IN_DOUBT: u8 = 79;
 
+const HAS_BASE: u8 = 80;
+
 /// Why a log in a file doesn't do what it was asked.
 #[derive(Clone, Copy, Debug, Drop, PartialEq, Eq, Error)]
 pub enum LogFileFault {
@@ -55,6 +57,8 @@ pub enum LogFileFault {
     WrongSeats,
     #[error("frame {0} of the log is damaged")]
     LogDamaged(u64),
+    #[error("the log's first entries are known by a base alone")]
+    HasBase,
     #[error("the bytes are not the next entries of the log")]
     NotEntries,
     #[error("the log is full")]
@@ -106,6 +110,7 @@ pub fn status_of_log_file(fault: LogFileFault) -> u8
         LogFileFault::WrongScene => WRONG_SCENE,
         LogFileFault::WrongSeats => WRONG_SEATS,
         LogFileFault::LogDamaged(_) => LOG_DAMAGED,
+        LogFileFault::HasBase => HAS_BASE,
         LogFileFault::NotEntries => NOT_ENTRIES,
         LogFileFault::LogFull => LOG_FULL,
         LogFileFault::InDoubt => IN_DOUBT,

@@ -1,6 +1,7 @@
 //! Making a log in a file, and opening it again.
 
-ghost use Rattle.std.specs.Prelude.{◌≡◌, ◌⊎◌, ◌<◌, [], IfErr, IfOk, IsTrue, Ok, false, length, true};
+ghost use Rattle.std.specs.Prelude.{◌≡◌, ◌⊎◌, ◌<◌, [], IfErr, IfOk, IsTrue, None, OnOk, Ok, false, is_none};
+ghost use Rattle.std.specs.Prelude.{length, true};
 ghost use Rattle.x3d_values.specs.Ranges.{max_inputs};
 ghost use Rattle.share_entries.specs.Head.{is_viewer_count};
 ghost use Rattle.share_file.specs.Contents.{contents_of};
@@ -9,7 +10,8 @@ ghost use Rattle.share_file.specs.Making.{is_unmade};
 ghost use Rattle.share_log.specs.Frames.{frames_of};
 ghost use Rattle.share_store.specs.OneLog.{Last};
 ghost use Rattle.embed_logs.specs.Opening.{IsNotOpened};
-ghost use Rattle.embed_logs.specs.declared.fault.LogFileFault.TheVariants.{Device, LogFull, Memory, NotEmpty};
+ghost use Rattle.embed_logs.specs.declared.fault.LogFileFault.TheVariants.{Device, HasBase, LogFull};
+ghost use Rattle.embed_logs.specs.declared.fault.LogFileFault.TheVariants.{Memory, NotEmpty};
 
 use crate::fault::{LogFileFault, fault_of_open};
 use crate::held::EmbeddedLog;
@@ -57,7 +59,7 @@ pub fn make<D: Disk>(
     }
 }
 
-/// Goes on with a log that was found, unless it has more entries than a world.
+/// Goes on with a log that was found, unless it has a base, or more entries than a world.
 fn with_entries<D: Disk>(opened: Opened<D>) -> Result<OpenedLog<FileLog<D>>, (LogFileFault, D)>
     requires open { opened.log.is_open ≡ true }
     requires known { IsTrue (D.is_clean opened.log.log.disk)
@@ -69,16 +71,22 @@ fn with_entries<D: Disk>(opened: Opened<D>) -> Result<OpenedLog<FileLog<D>>, (Lo
     ensures open { IfOk result (λ o. o.log.is_open ≡ true) }
     ensures lasts { IfOk result (λ o. IsTrue (D.is_clean o.log.log.log.disk)
         → Last (⟦<FileLog<D> as share_store::Log>⟧.may_leave o.log.log) o.log.entries.items) }
-    ensures full { IfErr result (λ f. (f.0 ≡ LogFull)
-        × (max_inputs < length opened.entries.items)) }
+    ensures base { OnOk result (opened.base ≡ None) }
+    ensures refused { IfErr result (λ f. ((f.0 ≡ HasBase) × (is_none opened.base ≡ false))
+        ⊎ ((f.0 ≡ LogFull) × (max_inputs < length opened.entries.items))) }
     ensures disk { IfErr result (λ f. f.1 ≡ opened.log.log.disk) }
 {
     let Opened {
         log,
         head,
+        base,
         entries,
         cut,
     } = opened;
+    if base.is_some() {
+        drop(entries);
+        return Err((LogFileFault::HasBase, log.into_disk()));
+    }
     if entries.len() > MAX_INPUTS as usize {
         drop(entries);
         return Err((LogFileFault::LogFull, log.into_disk()));
@@ -90,8 +98,8 @@ fn with_entries<D: Disk>(opened: Opened<D>) -> Result<OpenedLog<FileLog<D>>, (Lo
 /// Opens the log of a file, in whatever state a crash left it, and cuts what it left after the last
 /// entry.
 ///
-/// Fails with the first fault of the file, with `LogFull` if it has more entries than a world, or
-/// with `Device` or `Memory`; and returns the disk.
+/// Fails with the first fault of the file, with `HasBase` if its first entries are known by a base
+/// alone, with `LogFull` if it has more entries than a world, or with `Device` or `Memory`; and returns the disk.
 pub fn open<D: Disk>(
     alloc: Global,
     disk: D,
@@ -102,6 +110,7 @@ pub fn open<D: Disk>(
     ensures found { IfOk result (λ o. IsTrue (D.is_clean o.log.log.log.disk)
         → contents_of expected.now (D.seen disk) ≡ Ok (record {
           head = o.log.head;
+          base = None;
           entries = o.log.entries.items;
           cut = o.cut;
         })) }

@@ -8,7 +8,7 @@ use Rattle.share_law.specs.declared.fault.HostFault.{HostFault}
 use Rattle.share_law.specs.declared.fault.NumberFault.{NumberFault}
 use Rattle.share_law.specs.declared.reply.HostReply.{HostReply}
 use Rattle.share_pending.specs.Showing.{stored_drop}
-use Rattle.share_pending.specs.Waiting.{WaitingView, begun, is_awaited, stored_by}
+use Rattle.share_pending.specs.Waiting.{WaitingView, is_awaited, stored_by}
 use Rattle.share_pending.specs.Written.{IsAhead, log_after}
 use Rattle.share_pending.specs.declared.answer.AppendAnswer.{AppendAnswer}
 use Rattle.share_pending.specs.declared.answer.AppendAnswer.TheVariants.{InDoubt, Stored, Taken}

@@ -1,9 +1,8 @@
 -- The numbers that C sees for the answers of a host that was resumed.
-use Rattle.std.specs.Prelude.{ℕ, ◌==◌, Bool, Option, None, Some, Result, Ok, Err, if◌then◌else◌}
+use Rattle.std.specs.Prelude.{ℕ, ◌==◌, Option, None, Some, Result, Ok, Err, if◌then◌else◌}
 use Rattle.share_pending.specs.declared.answer.AppendAnswer.{AppendAnswer}
 use Rattle.share_pending.specs.declared.answer.AppendAnswer.TheVariants.{InDoubt, Stored, Taken}
 use Rattle.embed_world.specs.declared.host.EmbeddedHost.{EmbeddedHost}
-use Rattle.embed_world.specs.declared.lasting.Append.{Append}
 use Rattle.embed_world.specs.declared.lasting.AppendFault.{AppendFault}
 use Rattle.embed_world.specs.declared.lasting.AppendFault.TheVariants as append
 use Rattle.embed_world.specs.declared.log_fault.LogFault.{LogFault}

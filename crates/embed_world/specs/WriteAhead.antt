@@ -1,5 +1,5 @@
 -- Write-ahead: what every call on a host that was resumed keeps.
-use Rattle.std.specs.Prelude.{ℕ, ◌+◌, ℤ, Bool, List, ◌++◌, length, Option, Some, Result}
+use Rattle.std.specs.Prelude.{ℕ, ◌+◌, ℤ, Bool, List, ◌++◌, length, Some, Result}
 use Rattle.share_entries.specs.Entry.{EntryView}
 use Rattle.share_law.specs.declared.fault.FloorFault.{FloorFault}
 use Rattle.share_law.specs.declared.fault.HostFault.{HostFault}

@@ -25,11 +25,11 @@ use Rattle.proto_meaning.specs.Limits.{ANode, AField, AnItem, Outcome, item_coun
 use Rattle.proto_meaning.specs.Names.{Name, Field, Braces}
 use Rattle.proto_meaning.specs.Names as names
 use Rattle.proto_meaning.specs.Sight.{Sight, Owner, OfType, OfProto, declared}
-use Rattle.proto_meaning.specs.Flat.{Walk, Does, Node, Item, Stated, Proto, Inside, put_in, give, numbered_from, is_filled, declare_field, field, fields_of, inside, close_node, flat_node, full_node, note_route, item_step, node_step, statement_step, proto_step, declare}
+use Rattle.proto_meaning.specs.Flat.{Walk, Does, Node, Item, Stated, Proto, Inside, put_in, give, numbered_from, is_filled, field, fields_of, close_node, flat_node, full_node, note_route, item_step, node_step, statement_step, proto_step, declare}
 use Rattle.proto_meaning.specs.Flat as walk
 use Rattle.proto_meaning.specs.Flat.{item as item_part, node as node_part}
 use Rattle.proto_meaning.proofs.Induction.{OfGiven}
-use Rattle.laws_documents.specs.Plain.{Reading, PlainRead, ◌>>=◌, pure, refuse, meet, in_turn, last_closed, last_from, wire_route, read_value, Between, ItemReads, open_pair, close_pair, read_node, read_item, read_text}
+use Rattle.laws_documents.specs.Plain.{Reading, PlainRead, ◌>>=◌, pure, refuse, meet, in_turn, last_closed, last_from, wire_route, read_value, Between, ItemReads, close_pair, read_node, read_item, read_text}
 use Rattle.laws_documents.specs.Plain as plains
 use Rattle.laws_documents.proofs.Maps.{mapped}
 use Rattle.laws_documents.proofs.PlainRoutes.{braces_of, wire_pairs, wired, last_same, used_same, wired_more}

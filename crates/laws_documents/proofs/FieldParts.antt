@@ -26,11 +26,11 @@ use Rattle.laws_documents.specs.Signatures.{Signature, signature, signatures}
 use Rattle.proto_meaning.specs.Names.{Name, Field, Filled}
 use Rattle.proto_meaning.specs.Flat.{field, fields_of, numbered_from}
 use Rattle.proto_meaning.proofs.Induction.{OfGiven}
-use Rattle.laws_documents.specs.Plain.{Reading, PlainRead, ◌>>=◌, pure, refuse, meet, in_turn, Between, ItemReads, fill, give, is_filled, flat_field, item_step, read_item, read_text}
+use Rattle.laws_documents.specs.Plain.{Reading, PlainRead, ◌>>=◌, pure, refuse, in_turn, Between, ItemReads, fill, give, is_filled, flat_field, item_step, read_item, read_text}
 use Rattle.laws_documents.specs.Plain as plains
 use Rattle.laws_documents.proofs.PlainTexts as texts
 use Rattle.laws_documents.specs.Uses.{some}
-use Rattle.laws_documents.specs.Fields.{FieldRead, Got, NodeRead, as_read, declares, each, field_read, gives, got_map, node_read, numbering, read_given, read_node, read_one, read_value}
+use Rattle.laws_documents.specs.Fields.{FieldRead, Got, as_read, declares, each, field_read, gives, got_map, node_read, numbering, read_given, read_node, read_one, read_value}
 use Rattle.laws_documents.specs.Fields as fields
 use Rattle.laws_documents.proofs.FieldsParts.{declares-declaration, declares-field, declares-proto, declares-route, read-declaration, read-field, read-item-proto, read-item-route}
 use Rattle.laws_documents.proofs.Names.{opened_of}

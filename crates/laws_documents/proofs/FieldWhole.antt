@@ -19,10 +19,10 @@ use Rattle.laws_documents.specs.Signatures.{Signature, signatures}
 use Rattle.proto_meaning.specs.Names.{Name, Field}
 use Rattle.proto_meaning.specs.Flat.{field_with, fields_of}
 use Rattle.proto_meaning.proofs.Induction.{Layers, every}
-use Rattle.laws_documents.specs.Plain.{Reading, PlainRead, ◌>>=◌, pure, refuse, in_turn, last_closed, Between, ItemReads, flat_field, flat_node, close_pair, node_step, statement_step, read_item, read_text, read_statement}
+use Rattle.laws_documents.specs.Plain.{Reading, PlainRead, ◌>>=◌, pure, refuse, in_turn, last_closed, Between, ItemReads, flat_node, close_pair, node_step, statement_step, read_item, read_text, read_statement}
 use Rattle.laws_documents.specs.Plain as plains
 use Rattle.laws_documents.proofs.PlainTexts as texts
-use Rattle.laws_documents.specs.Fields.{FieldRead, Got, NodeRead, Numbering, closes, declares, each, field_read, gives, interface_of, node_read, numbering, opens, read_full, read_node, read_on}
+use Rattle.laws_documents.specs.Fields.{FieldRead, Got, closes, declares, each, gives, interface_of, node_read, numbering, read_full, read_node, read_on}
 use Rattle.laws_documents.specs.Fields as fields
 use Rattle.laws_documents.proofs.FieldsParts.{all_declared, read-full, read-node-statement, read-proto, read-route, read-use}
 use Rattle.laws_documents.specs.PlainLaws.{FieldsAreRead}

@@ -10,7 +10,7 @@ use Rattle.proto_flat.specs.declared.flat.FlatNode.{FlatNode}
 use Rattle.proto_meaning.specs.Names.{Name}
 use Rattle.laws_documents.specs.Plain.{Pair, Reading, Wire, end_of, route_of}
 use Rattle.laws_documents.specs.Uses.{OpenBraces}
-use Rattle.laws_documents.specs.Routes.{ReadEnd, ReadRoute, closes, end_at, end_shown, node_at, node_of, opens, read_shown, route_shown, steps}
+use Rattle.laws_documents.specs.Routes.{ReadEnd, ReadRoute, closes, end_at, end_shown, node_of, opens, read_shown, route_shown, steps}
 use Rattle.laws_documents.specs.Routes as routes
 use Rattle.laws_documents.specs.Readings.{read_item, read_node, read_statement}
 use Rattle.laws_documents.proofs.Readings.{read-declaration, read-field, read-full, read-item-proto, read-item-route, read-node-statement, read-proto, read-route, read-use}

@@ -9,7 +9,7 @@ use Rattle.std.proofs.lemmas.Option.{none-some}
 use Rattle.std.proofs.lemmas.Slice.Eq.{bytes_eq-Decides}
 use Rattle.x3d_values.specs.Tables.{rows}
 use Rattle.x3d_values.specs.declared.node_type.NodeType.{NodeType}
-use Rattle.laws_documents.specs.Signatures.{Signature, of_declared, of_type, own_interface}
+use Rattle.laws_documents.specs.Signatures.{Signature, of_declared, of_type}
 use Rattle.laws_documents.specs.Signatures as known
 use Rattle.laws_documents.specs.Signatures.{KnownField}
 use Rattle.proto_meaning.specs.Names.{Name, Field, Filled}

@@ -16,7 +16,7 @@ use Rattle.proto_meaning.specs.Limits.{Met, Outcome, follow, and_then}
 use Rattle.proto_meaning.specs.Names.{Field}
 use Rattle.proto_meaning.proofs.Induction.{OfGiven}
 use Rattle.laws_documents.specs.Plain.{Reading, PlainRead, ◌>>=◌, pure, in_turn, read_value, Between, fill, give, read_item, read_text}
-use Rattle.laws_documents.specs.Uses.{closes, named, opens, steps}
+use Rattle.laws_documents.specs.Uses.{steps}
 use Rattle.laws_documents.specs.Uses as uses
 use Rattle.laws_documents.specs.Readings.{each, read_given, read_node}
 use Rattle.laws_documents.specs.Readings as steps_of
@@ -27,7 +27,7 @@ use Rattle.laws_documents.proofs.Keeping.{ItemKeeps, NodeKeeps, held_in}
 use Rattle.laws_documents.proofs.Reading.{Ends, ends_then}
 use Rattle.laws_documents.proofs.SoundFields.{State}
 use Rattle.laws_documents.proofs.SoundNames.{ItemBacks, NodeBacks, each_backs}
-use Rattle.laws_documents.proofs.Uses.{law, opened_as, read_as}
+use Rattle.laws_documents.proofs.Uses.{law}
 use Rattle.laws_documents.proofs.Uses as kept
 
 -- ---- outcomes

@@ -30,7 +30,7 @@ use Rattle.proto_meaning.specs.Limits.{Met, Outcome, follow, and_then, is_within
 use Rattle.proto_meaning.specs.Names.{Name, Field}
 use Rattle.proto_meaning.specs.Flat.{field, fields_of, header_of, numbered_from, comes}
 use Rattle.proto_meaning.proofs.Induction.{OfGiven, Layers, every}
-use Rattle.laws_documents.specs.Plain.{Reading, PlainRead, ◌>>=◌, pure, refuse, in_turn, last_closed, Between, ItemReads, fill, give, is_filled, flat_node, close_pair, item_step, node_step, statement_step, read_all, read_item, read_statement, read_text, route_of, plain}
+use Rattle.laws_documents.specs.Plain.{Reading, PlainRead, ◌>>=◌, pure, refuse, in_turn, last_closed, Between, ItemReads, give, is_filled, flat_node, close_pair, item_step, node_step, statement_step, read_all, read_item, read_statement, read_text, route_of, plain}
 use Rattle.laws_documents.specs.Plain as plains
 use Rattle.laws_documents.proofs.PlainTexts as texts
 use Rattle.laws_documents.proofs.PlainWalk.{plain_documents_are_themselves}
@@ -44,7 +44,6 @@ use Rattle.laws_documents.proofs.Readings.{read-declaration, read-field, read-fu
 use Rattle.laws_documents.specs.Faults.{IsPlain}
 use Rattle.laws_documents.specs.Parts.{Braces, Declares, BraceField, Gives, Joins, TreePart, Prototype, entries, in_given, in_item, in_node, in_statement}
 use Rattle.laws_documents.specs.Parts as parts_of
-use Rattle.laws_documents.specs.Parts.{item as part}
 use Rattle.laws_documents.specs.Sound.{AllNamed, AreOnce, IsFlatOrTooLarge, IsOfType, IsSound, SoundDocumentsAreFlat, entry_number, signed, with_next}
 use Rattle.laws_documents.proofs.Keeping.{NodeKeeps, StatementKeeps, ItemKeeps, held_in, opened}
 use Rattle.laws_documents.proofs.Keeping as keeping
@@ -55,7 +54,7 @@ use Rattle.laws_documents.proofs.Reading.{Ends, ends_then, ends_weaker}
 use Rattle.laws_documents.proofs.SoundFields.{State, declared_next, declared_once, declared_own, declared_read, declared_script, declared_state, given_found, given_name, given_once, given_read, given_state, next_number}
 use Rattle.laws_documents.proofs.SoundNames.{ItemBacks, NodeBacks, StatementBacks, backs, each_backs, inner_named, used_named}
 use Rattle.laws_documents.proofs.SoundParts.{After, AreSound, Comes, IsFilledBy, IsOk, ItemOk, NodeOk, OfItem, OfNode, comes_then, ends_any, ends_both, filled_ends, give_comes, given_comes}
-use Rattle.laws_documents.proofs.Uses.{law, opened_as, read_as}
+use Rattle.laws_documents.proofs.Uses.{law, opened_as}
 use Rattle.laws_documents.proofs.Uses as kept
 
 -- ---- of the nodes in a value

@@ -1,6 +1,6 @@
 -- Two snapshots of one length hold the same trace, whatever was forgotten.
-use Rattle.std.proofs.Common.{◌≡◌, ℕ, ◌+◌, ◌≤◌, ◌<◌, Bool, true, false, List, [], ◌∷◌, ◌++◌, length, take, map, ltb-true, ltb-false, refl, ap, sym, ◌∙◌, subst, arith, length-append}
-use Rattle.std.specs.Prelude.{nat_lt, slice_get, Option, Some}
+use Rattle.std.proofs.Common.{◌≡◌, ℕ, ◌+◌, ◌≤◌, Bool, true, false, List, [], ◌∷◌, ◌++◌, length, take, map, ltb-true, ltb-false, refl, ap, sym, ◌∙◌, arith, length-append}
+use Rattle.std.specs.Prelude.{nat_lt}
 use Rattle.std.specs.Int.{w32, w64}
 use Rattle.std.specs.List.{flat_map}
 use Rattle.std.proofs.lemmas.List.{map-append}
@@ -13,7 +13,6 @@ use Rattle.x3d_values.specs.Stamp.{StampedView}
 use Rattle.scene_core.specs.declared.scene.Route.{Route}
 use Rattle.scene_core.specs.Scene.{SceneView, shapes_of}
 use Rattle.scene_core.specs.Shape.{Shape}
-use Rattle.snapshot_codec.specs.declared.trace.TraceEntry.{TraceEntry}
 use Rattle.snapshot_codec.specs.Head.{front, sealed}
 use Rattle.snapshot_codec.specs.Inputs.{applied_codec, input_codec}
 use Rattle.snapshot_codec.specs.Parts.{states_codec}
@@ -29,7 +28,6 @@ use Rattle.snapshot_core.specs.Shot.{shot}
 use Rattle.snapshot_core.specs.WorldCodec.{buttons_codec, entry_of, lines_codec, lists_in, output_type, parts_codec, world_codec}
 use Rattle.share_law.specs.Cascade.{cascade}
 use Rattle.share_law.specs.Machine.{Machine}
-use Rattle.share_law.specs.Viewer.{Shot}
 use Rattle.laws_forget.specs.Agreement.{ForgetfulBytes, IsLeft, IsSameButOld, ShorterIsEnd}
 use Rattle.laws_forget.specs.Forget.{IsEndOf}
 use Rattle.laws_forget.proofs.Agreement.{forgetful_shots, same_but_old}

@@ -10,7 +10,7 @@ use Rattle.share_wire.specs.declared.message.Body.TheVariants.{Input, Offer, Ask
 use Rattle.share_law.specs.declared.step.Step.{Step}
 use Rattle.share_law.specs.declared.step.Step.TheVariants.{HostClock, HostPacket, HostAck, HostDropBelow, HostFloorPacket, HostTake, ViewerOffer, ViewerResend, ViewerAsk, ViewerTake, ViewerSave, ViewerRewind, PiecePacket, ViewerGather, ViewerJoin, ViewerForget}
 use Rattle.share_law.specs.Machine.{Machine}
-use Rattle.share_law.specs.declared.kept.SeatCount.{SeatCount}
+use Rattle.share_rules.specs.declared.kept.SeatCount.{SeatCount}
 use Rattle.share_law.specs.Host.{HostState, host_clock, host_take, host_packet, input_packet, ack_of, floor_packet, drop_below}
 use Rattle.share_law.specs.Viewer.{ViewerWorld, Spoiled, Running, ViewerState, Shot, offer_packet, take_in, viewer_ask, viewer_resend, viewer_rewind, viewer_take}
 use Rattle.share_law.specs.Pieces.{Gathering, fragment_of, gather, shot_text, shot_with, whole_of}

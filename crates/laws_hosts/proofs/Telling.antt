@@ -9,7 +9,7 @@ use Rattle.x3d_values.specs.Stamp.{StampedView}
 use Rattle.share_wire.specs.Messages.{OfferView}
 use Rattle.share_wire.specs.declared.message.Body.{Body}
 use Rattle.share_wire.specs.declared.message.Body.TheVariants.{Input, Offer, Ask, Ack, Floor, Piece}
-use Rattle.share_law.specs.declared.kept.SeatCount.{SeatCount}
+use Rattle.share_rules.specs.declared.kept.SeatCount.{SeatCount}
 use Rattle.share_law.specs.declared.fault.NumberFault.{NumberFault}
 use Rattle.share_law.specs.declared.fault.FloorFault.{FloorFault}
 use Rattle.share_law.specs.declared.fault.FloorFault.TheVariants.{FloorBack, FloorAhead}

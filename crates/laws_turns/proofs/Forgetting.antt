@@ -1,6 +1,6 @@
 -- A viewer that forgets old lines of its trace.
-use Rattle.std.proofs.Common.{◌≡◌, ◌≤◌, ℕ, ◌+◌, ◌-◌, List, false, refl, ap, sym, ◌∙◌, subst, arith, if◌then◌else◌, le-ltb}
-use Rattle.std.specs.Prelude.{Option, None, Some, nat_lt, slice_get}
+use Rattle.std.proofs.Common.{◌≡◌, ℕ, ◌+◌, ◌-◌, List, false, ap, sym, ◌∙◌, arith, if◌then◌else◌, le-ltb}
+use Rattle.std.specs.Prelude.{Option, nat_lt}
 use Rattle.x3d_values.specs.Stamp.{StampedView}
 use Rattle.cascade_core.specs.Course.{Scripted}
 use Rattle.cascade_core.specs.Forgetting.{forget}

@@ -8,7 +8,7 @@ use Rattle.share_wire.specs.declared.fault.WireFault.{WireFault}
 use Rattle.share_wire.specs.Decoding.{decoded}
 use Rattle.share_wire.specs.declared.message.Body.{Body}
 use Rattle.share_wire.specs.declared.message.Message.{Message}
-use Rattle.share_law.specs.declared.kept.SeatCount.{SeatCount}
+use Rattle.share_rules.specs.declared.kept.SeatCount.{SeatCount}
 use Rattle.share_law.specs.declared.step.Step.{Step}
 use Rattle.share_law.specs.declared.step.Step.TheVariants.{HostAck, HostFloorPacket, HostPacket, ViewerAsk, ViewerResend}
 use Rattle.share_law.specs.Calls.{IsPartTakeOf}
@@ -29,7 +29,6 @@ use Rattle.laws_turns.specs.HostDoings as host
 use Rattle.laws_turns.specs.HostDoings.{HostDoing, IsHostDoing, packet_by}
 use Rattle.share_turns.specs.HostTurn.{datagram_of}
 use Rattle.laws_turns.specs.ViewerDoings as viewer
-use Rattle.laws_turns.specs.ViewerDoings.{IsViewerDoing, ViewerDoing}
 use Rattle.laws_turns.specs.Steps.{HostBrings, HostDoingsAreSteps, SendsBody, ViewerDoingsAreSteps}
 
 -- the body of a datagram that was made

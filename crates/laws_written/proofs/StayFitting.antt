@@ -1,5 +1,5 @@
 -- A state that fits is that of a world that fits, and a world that fits has a state that does.
-use Rattle.std.proofs.Common.{◌≡◌, ◌==◌, ◌≤◌, ℕ, ◌^◌, pos, true, false, ◌&&◌, List, [], ◌∷◌, length, map, Option, None, refl, arith, eqb-true}
+use Rattle.std.proofs.Common.{◌≡◌, ◌==◌, ◌≤◌, ℕ, pos, true, false, ◌&&◌, List, [], ◌∷◌, length, map, Option, None, refl, arith, eqb-true}
 use Rattle.std.specs.Prelude.{replicate}
 use Rattle.std.proofs.lemmas.List.{length-replicate}
 use Rattle.byte_codec.proofs.Laws.{and_true, both}

@@ -6,7 +6,6 @@ use Rattle.classic_tree.specs.declared.tree.Statement.{Statement}
 use Rattle.x3d_lists.specs.Answers.{Gives}
 use Rattle.proto_flat.specs.Fault.{memory}
 use Rattle.proto_flat.specs.declared.fault.ExpandFault.{ExpandFault}
-use Rattle.proto_flat.specs.declared.flat.Flat.{Flat}
 use Rattle.proto_meaning.specs.Flat.{flat, header_of}
 use Rattle.proto_meaning.specs.Limits.{limited}
 use Rattle.proto_meaning.specs.Sight.{Prototype}

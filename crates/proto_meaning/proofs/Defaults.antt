@@ -12,10 +12,10 @@ use Rattle.classic_tree.specs.declared.tree.RawValue.TheVariants as value
 use Rattle.classic_tree.proofs.Mapped.{given_mapped, interface_mapped}
 use Rattle.proto_flat.specs.declared.fault.ExpandFault.{ExpandFault}
 use Rattle.proto_meaning.specs.Names.{Filled, value_of}
-use Rattle.proto_meaning.specs.Sight.{Sight, Look, Names, Prototype, and_see, each, aside, nodes_in}
+use Rattle.proto_meaning.specs.Sight.{Sight, Names, Prototype, and_see, each, aside, nodes_in}
 use Rattle.proto_meaning.specs.Sight as sight
 use Rattle.proto_meaning.specs.Flat as flat
-use Rattle.proto_meaning.specs.Flat.{Walk, Does, ◌>>=◌, pure, see, through, put_in, leave_out, Node}
+use Rattle.proto_meaning.specs.Flat.{Walk, Does, ◌>>=◌, pure, through, put_in, leave_out, Node}
 use Rattle.proto_meaning.proofs.SightLaw.{Any, After, Free, Follows, GoodNode, bare, bared, each_free, then_follows, then_still, see_follows, aside_free}
 use Rattle.proto_meaning.specs.declared.tree.DefaultTree.{DefaultTree}
 use Rattle.proto_meaning.specs.trees.Given.{GivenTree}

@@ -17,9 +17,9 @@ use Rattle.proto_flat.specs.declared.fault.ExpandFaultKind.TheVariants.{BadIs, F
 use Rattle.proto_meaning.specs.Limits.{item_count}
 use Rattle.proto_meaning.specs.Names.{Name, Field, value_of}
 use Rattle.proto_meaning.specs.Sight as sight
-use Rattle.proto_meaning.specs.Sight.{Sight, Look, Prototype, Owner, OfType, OfProto, and_see, each, aside, no_names, nodes_in, taken_by, is_kept}
+use Rattle.proto_meaning.specs.Sight.{Sight, Look, Owner, OfType, OfProto, and_see, each, aside, no_names, nodes_in, taken_by, is_kept}
 use Rattle.proto_meaning.specs.Flat as flat
-use Rattle.proto_meaning.specs.Flat.{Walk, Does, ◌>>=◌, pure, refuse, see, through, put_in, leave_out, Node, Inside, give, give_is, join, fits, fill, met_field, is_node}
+use Rattle.proto_meaning.specs.Flat.{Does, ◌>>=◌, pure, refuse, see, through, put_in, leave_out, Node, Inside, give, give_is, join, fits, fill, met_field, is_node}
 use Rattle.proto_meaning.proofs.SightLaw.{Any, Free, GoodNode, Follows, bared, each_free, aside_free, then_still}
 use Rattle.proto_meaning.specs.trees.Given.{GivenTree}
 use Rattle.proto_meaning.specs.declared.tree.GivenTree.TheVariants as tree

@@ -21,7 +21,7 @@ use Rattle.proto_meaning.specs.Limits.{Met, ANode, AnInstance, AnItem, follow, b
 use Rattle.proto_meaning.specs.Names.{Name, Field, used}
 use Rattle.proto_meaning.specs.Sight.{Sight, Names, Instance, Prototype, Owner, OfType, OfProto, and_see, each, meant, taken_by, is_kept}
 use Rattle.proto_meaning.specs.Flat as flat
-use Rattle.proto_meaning.specs.Flat.{Walk, Does, ◌>>=◌, pure, refuse, meet, note, see, through, close, renamed, Node, Item, Inside, is_one, unless_twice, inside, fields_of, flat_node, close_node, close_instance, full_node, note_route, numbered_from, is_filled, is_script, field, give}
+use Rattle.proto_meaning.specs.Flat.{Walk, Does, ◌>>=◌, pure, refuse, meet, note, see, through, close, renamed, Node, Item, Inside, is_one, unless_twice, inside, fields_of, flat_node, close_node, close_instance, full_node, numbered_from, is_filled, is_script, field, give}
 use Rattle.proto_meaning.proofs.SightLaw.{Any, Owned, After, Follows, GoodItem, bared, still}
 use Rattle.proto_meaning.proofs.Trees.{item-field, item-declaration, item-route, item-proto, node-use, node-full}
 use Rattle.proto_meaning.specs.trees.Given.{GivenTree}

@@ -14,7 +14,7 @@ use Rattle.proto_meaning.specs.Limits.{Met, follow, and_then}
 use Rattle.proto_meaning.specs.Names.{Name, Field, Filled, value_of}
 use Rattle.proto_meaning.specs.Sight.{Put, Sight, Look, Names, Prototype, and_see, each, declared, no_names, opened}
 use Rattle.proto_meaning.specs.Flat as flat
-use Rattle.proto_meaning.specs.Flat.{Walk, Does, ◌>>=◌, pure, note, through, begin, made, field, in_body, Item, Node, Stated, Proto, item_step, node_step, statement_step, proto_step, declare, declare_body, body_sees, body_finds, instance_of, prototype}
+use Rattle.proto_meaning.specs.Flat.{Walk, Does, ◌>>=◌, note, through, begin, made, field, in_body, Item, Node, Stated, Proto, item_step, node_step, statement_step, proto_step, declare, declare_body, body_sees, body_finds, prototype}
 use Rattle.proto_meaning.proofs.SightLaw.{Any, Free, Follows, bared, each_free, then_follows}
 use Rattle.proto_meaning.specs.declared.tree.ProtoTree.{ProtoTree}
 use Rattle.proto_meaning.specs.trees.Meaning.{statement, default}

@@ -9,7 +9,7 @@ use Rattle.proto_flat.specs.declared.fault.ExpandFault.{ExpandFault}
 use Rattle.proto_meaning.specs.Limits.{Outcome, and_then}
 use Rattle.proto_meaning.specs.Sight.{Sight, Look, and_see, each}
 use Rattle.proto_meaning.specs.Flat as flat
-use Rattle.proto_meaning.specs.Flat.{Walk, Does, ◌>>=◌, pure, comes, see, through, part, nothing_found, Node, Stated, Proto, in_body}
+use Rattle.proto_meaning.specs.Flat.{Walk, Does, ◌>>=◌, pure, comes, see, through, Node, Stated, Proto, in_body}
 use Rattle.proto_meaning.proofs.SightLaw.{Any, Follows, GoodStated, bared, then_still}
 use Rattle.proto_meaning.proofs.Trees.{statement-proto}
 use Rattle.proto_meaning.specs.trees.Meaning.{quiet}

@@ -11,7 +11,7 @@ use Rattle.proto_flat.specs.declared.fault.ExpandFault.{ExpandFault}
 use Rattle.proto_flat.specs.declared.flat.FlatField.{FlatField}
 use Rattle.proto_flat.specs.declared.flat.FlatNode.{FlatNode}
 use Rattle.proto_meaning.specs.Flat as flat
-use Rattle.proto_meaning.specs.Flat.{Walk, Does, ◌>>=◌, pure, meet, unless_twice, full_node, in_body, begin, made, close, renamed, through}
+use Rattle.proto_meaning.specs.Flat.{Walk, Does, ◌>>=◌, meet, unless_twice, full_node, begin, made, close, renamed, through}
 use Rattle.proto_meaning.specs.Limits.{ANode, AnInstance, Outcome, and_then}
 use Rattle.proto_meaning.specs.Names.{Name, Field, Filled, Scope}
 use Rattle.proto_meaning.specs.Sight.{Prototype, Put, Instance, OfType, OfProto, and_see, no_names}

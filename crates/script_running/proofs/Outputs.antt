@@ -4,7 +4,7 @@ use Rattle.std.specs.Prelude.{codes, slice_get, nat_eq, ◌==◌, if◌then◌el
 use Rattle.std.specs.Cmp.Lexicographic.{pointwise}
 use Rattle.std.specs.List.{cons_option, filter_map, list_all, list_any, range_with_len}
 use Rattle.std.specs.Option.{option_map, option_map_or}
-use Rattle.std.proofs.lemmas.List.{append_assoc, append-nil}
+use Rattle.std.proofs.lemmas.List.{append_assoc}
 use denote.Enum.Bare.{sameb, same_true}
 use Rattle.x3d_values.specs.contracts.field_type.Access as accesses
 use Rattle.x3d_values.specs.contracts.field_type.FieldType as types

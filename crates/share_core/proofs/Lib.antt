@@ -2,6 +2,7 @@ pub mod Numbering
 pub mod Offers
 pub mod SomeParts
 pub mod Fresh
+pub mod Behind
 pub mod Queues
 pub mod Places
 pub mod Drains

@@ -1,5 +1,5 @@
 -- What a stage makes of the next input of its window.
-use Rattle.std.proofs.Common.{◌≡◌, suc, ◌+◌, ◌^◌, ◌≤◌, ◌⊎◌, inl, inr, true, false, cond, List, [], ◌∷◌, ◌++◌, drop, refl, ap, sym, ◌∙◌, subst, arith}
+use Rattle.std.proofs.Common.{◌≡◌, suc, ◌+◌, ◌≤◌, ◌⊎◌, inl, inr, true, false, cond, List, [], ◌∷◌, ◌++◌, drop, refl, ap, sym, ◌∙◌, subst, arith}
 use Rattle.std.specs.Prelude.{Bool, slice_get, slice_set, IfSome, Option, Some, None, Result, Err, not, int_lt, ◌==◌}
 use Rattle.std.proofs.lemmas.Bool.{false≢true, cond-false, eq-eqb}
 use Rattle.std.proofs.lemmas.Option.{same_Some, none-some}

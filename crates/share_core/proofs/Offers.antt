@@ -6,7 +6,7 @@ use Rattle.x3d_values.specs.Pointing.{PointerView}
 use Rattle.x3d_values.specs.Stamp.{StampedView}
 use Rattle.share_wire.specs.Messages.{OfferView}
 use Rattle.share_wire.specs.declared.message.Body.TheVariants.{Offer}
-use Rattle.share_law.specs.declared.kept.SeatCount.{SeatCount}
+use Rattle.share_rules.specs.declared.kept.SeatCount.{SeatCount}
 use Rattle.share_law.specs.declared.fault.NumberFault.{NumberFault}
 use Rattle.share_law.specs.declared.fault.NumberFault.TheVariants.{Memory}
 use Rattle.share_law.specs.declared.fault.HostFault.{HostFault}

@@ -2,7 +2,7 @@
 use Rattle.std.specs.Prelude.{ℕ, zero, suc, ◌+◌, ◌-◌, ◌≤◌, ℤ, nat_lt, if◌then◌else◌, List, drop}
 use Rattle.std.specs.Prelude.{slice_get, Option, None}
 use Rattle.x3d_values.specs.Stamp.{StampedView}
-use Rattle.share_law.specs.declared.kept.SeatCount.{SeatCount}
+use Rattle.share_rules.specs.declared.kept.SeatCount.{SeatCount}
 use Rattle.share_law.specs.declared.reply.HostReply.{HostReply}
 use Rattle.share_law.specs.declared.reply.HostReply.TheVariants.{Asked}
 use Rattle.share_law.specs.Parts.{HostPart}

@@ -1,16 +1,16 @@
 //! The host: it numbers inputs, and keeps for each viewer how many of its offers are numbered.
 
-ghost use Rattle.std.specs.Prelude.{◌≡◌, ◌<◌, Ok, length, slice_get, slice_set};
+ghost use Rattle.std.specs.Prelude.{◌≡◌, ◌<◌, ◌≤◌, Ok, length, slice_get, slice_set};
 ghost use Rattle.std.specs.Option.{option_map};
-ghost use Rattle.x3d_values.specs.Ranges.{max_inputs};
+ghost use Rattle.x3d_values.specs.Ranges.{max_inputs, max_viewers};
 ghost use Rattle.share_law.specs.Host.{count_for, input_packet, reply_before};
 ghost use Rattle.share_wire.specs.Datagram.{datagram};
 ghost use Rattle.share_wire.specs.Decoding.{decoded};
 
 use crate::inputs::HostInputs;
 use arrayvec::ArrayVec;
-use share_law::{FloorFault, HostFault, HostReply, NumberFault, SeatCount};
-use share_rules::{Standing, span_of, standing_of};
+use share_law::{FloorFault, HostFault, HostReply, NumberFault};
+use share_rules::{SeatCount, Standing, span_of, standing_of};
 use share_wire::{Ack, Ask, Body, Floor, Message, Offer, Packet, decode, encode};
 use std::alloc::Global;
 use std::marker::Model;
@@ -76,6 +76,16 @@ fn set_kept(kept: &mut ArrayVec<SeatCount, SEATS>, who: u8, now: SeatCount)
     kept.as_mut_slice()[who as usize] = now;
 }
 
+/// Returns what is kept of viewers, in its places.
+fn places_of(kept: &[SeatCount]) -> ArrayVec<SeatCount, SEATS>
+    requires { length kept.now ≤ max_viewers }
+    ensures { result.items ≡ kept.now }
+{
+    let mut places = ArrayVec::new();
+    let _fits = places.try_extend_from_slice(kept);
+    places
+}
+
 /// Returns the packet of an input, if there is one.
 fn packet_of(mark: [u8; 32], input: Option<Stamped>) -> Option<Packet>
     ensures bytes { option_map (λ p. p.items) result
@@ -97,13 +107,13 @@ impl Host {
     ghost use Rattle.std.specs.Prelude.{◌≡◌, ◌<◌, ◌≤◌, ◌^◌, Ok, Some, IfOk, length, slice_get};
     ghost use Rattle.std.specs.Prelude.{pos, ◌≤ℤ◌};
     ghost use Rattle.std.specs.Option.{option_map};
-    ghost use Rattle.x3d_values.specs.Ranges.{max_viewers};
+    ghost use Rattle.x3d_values.specs.Ranges.{max_inputs, max_time, max_viewers};
     ghost use Rattle.share_wire.specs.Datagram.{datagram};
     ghost use Rattle.share_wire.specs.Decoding.{decoded};
     ghost use Rattle.share_wire.specs.declared.message.Body.TheVariants as body;
     ghost use Rattle.share_law.specs.Host.{ack_of};
-    ghost use Rattle.share_law.specs.Parts.{new_part, part_ask_came, part_drop_below, part_packet};
-    ghost use Rattle.share_law.specs.Parts.{part_floor_packet};
+    ghost use Rattle.share_law.specs.Parts.{new_part, part_ask_came, part_behind, part_drop_below};
+    ghost use Rattle.share_law.specs.Parts.{part_floor_packet, part_packet};
     ghost use Rattle.share_law.specs.Calls.{IsPartClocked, IsPartTake, IsPartTakeOf};
     ghost use Rattle.share_law.specs.HostCalls.{IsSomePart};
     ghost use Rattle.share_core.specs.Host.{AreNumbered};
@@ -121,6 +131,26 @@ impl Host {
             mark,
             inputs: HostInputs::new(alloc),
             kept,
+        }
+    }
+
+    /// Creates the host of a scene with this mark that has numbered `count` inputs, the last at a
+    /// time in microseconds, and has none of them any more: its floor is the number of the next.
+    /// `kept` is what it keeps of each of its 1 to `MAX_VIEWERS` viewers. Takes no memory; its list
+    /// of inputs grows with `alloc`.
+    pub fn behind(alloc: Global, mark: [u8; 32], kept: &[SeatCount], count: u64, last: i64) -> Host
+        requires some { 1 ≤ length kept.now }
+        requires most { length kept.now ≤ max_viewers }
+        requires few { count ≤ max_inputs }
+        requires from { pos 0 ≤ℤ last }
+        requires to { last ≤ℤ pos max_time }
+        requires none { count ≡ 0 → last ≡ pos 0 }
+        ensures { result ≡ record { mark = mark; part = part_behind count last kept.now } }
+    {
+        Host {
+            mark,
+            inputs: HostInputs::behind(alloc, count, last),
+            kept: places_of(kept),
         }
     }
 
@@ -223,6 +253,14 @@ impl Host {
         ensures { result ≡ length self.now.part.kept }
     {
         self.kept.len() as u8
+    }
+
+    /// Returns what is kept of each viewer.
+    pub fn kept(&self) -> &[SeatCount]
+        ensures value { result.now ≡ self.now.part.kept }
+        ensures most { length result.now ≤ max_viewers }
+    {
+        self.kept.as_slice()
     }
 
     /// Returns the packet that reports to a viewer the boot that is kept of it, and how many offers

@@ -72,6 +72,22 @@ impl HostInputs {
         }
     }
 
+    /// Returns the inputs of a world with this many, the last at a time in microseconds, of which
+    /// none is there. Takes no memory.
+    pub(crate) fn behind(alloc: Global, count: u64, last: i64) -> HostInputs
+        requires few { count ≤ max_inputs }
+        requires from { pos 0 ≤ℤ last }
+        requires to { last ≤ℤ pos max_time }
+        ensures { result ≡ record { floor = count + 1; rest = []; count = count; last = last } }
+    {
+        HostInputs {
+            rest: VecDeque::new(alloc),
+            floor: count + 1,
+            count,
+            last,
+        }
+    }
+
     /// Returns the number of all inputs, including those below the floor.
     pub(crate) fn len(&self) -> u64
         ensures value { result ≡ self.now.count }

@@ -35,6 +35,23 @@ pub enum WorldFault {
     Memory,
 }
 
+/// Why a log gets no base.
+#[derive(Clone, Copy, Debug, Drop, PartialEq, Eq, Error)]
+pub enum BasingFault {
+    /// The base isn't of this place of the log. Nothing was asked.
+    #[error("the base is of another place")]
+    OtherPlace,
+    /// The log has another base since, or other entries: nothing was done.
+    #[error("another host was first")]
+    Taken,
+    /// The base may be there or not. The handle takes no append before it has read on.
+    #[error("the store's answer is missing")]
+    InDoubt,
+    /// Memory was refused. Nothing was asked.
+    #[error("memory was refused")]
+    Memory,
+}
+
 /// Why a log isn't read.
 #[derive(Clone, Copy, PartialEq, Eq)]
 pub(crate) enum ReadingFault {

@@ -1,6 +1,6 @@
 //! A log in etcd, as `Log`.
 
-ghost use Rattle.std.specs.Prelude.{◌≡◌, ◌+◌, ◌<◌, ◌≤◌, ◌^◌, ◌++◌, ℕ, List, Option, true, false, length, Ok, IfOk, IsTrue, IsErrOf, OnErr, OnOk};
+ghost use Rattle.std.specs.Prelude.{◌≡◌, ◌+◌, ◌<◌, ◌≤◌, ◌^◌, ◌++◌, ℕ, List, Option, true, false, length, Ok, IfOk, IsTrue, IsErrOf, OnErr, OnOk, drop};
 ghost use Rattle.share_entries.specs.Chain.{chain_after};
 ghost use Rattle.share_entries.specs.Frame.{frame_in, frame_text};
 ghost use Rattle.share_etcd.specs.declared.outcome.Outcome.TheVariants.{Refused};
@@ -13,8 +13,8 @@ ghost use Rattle.share_engine.specs.Keys.{held, IsKept, MayLeave, outcome_in};
 use crate::asking::ask_for;
 use crate::engine::Engine;
 use crate::known::Known;
-use crate::reading::{Root, read_into};
-use share_entries::{Entry, Head, frame_bytes};
+use crate::reading::read_into;
+use share_entries::{Chain, Entry, Head, Start, frame_bytes};
 use share_etcd::{Revisions, append_bytes};
 use share_session::WorldName;
 use share_store::{AppendFault, Log, ReadFault, Remembers};
@@ -26,20 +26,20 @@ const MAX_NUMBER: u64 = 1 << 48;
 /// Room for etcd's answer to an append, which has some 250 bytes.
 const ANSWER_ROOM: usize = 1024;
 
-/// One handle of a world's log in etcd. It has all entries in memory. Other hosts may append to the
-/// log too.
+/// One handle of a world's log in etcd. It has the entries from its start on in memory. Other hosts
+/// may append to the log too.
 #[derive(Drop)]
 pub struct EtcdLog<E: Engine> {
-    engine: E,
-    alloc: Global,
-    name: WorldName,
-    head: Head,
-    known: Known,
-    /// The revisions of the keys when the last known entry was read or stored.
-    revisions: Revisions,
-    is_open: bool,
+    pub(crate) engine: E,
+    pub(crate) alloc: Global,
+    pub(crate) name: WorldName,
+    pub(crate) head: Head,
+    pub(crate) known: Known,
+    /// The revisions of the keys when this handle last read or changed them.
+    pub(crate) revisions: Revisions,
+    pub(crate) is_open: bool,
     // What the keys may have is what the handle knows, or later.
-    ghost kept: { ∥ IsKept (text_of name) known.run (E.told engine)
+    ghost kept: { ∥ IsKept (text_of name) head.run known.start (E.told engine)
         (held revisions.head revisions.tail known.entries) ∥₁ },
 }
 
@@ -53,7 +53,7 @@ impl<E: Engine> EtcdLog<E> {
         known: Known,
         revisions: Revisions,
     ) -> EtcdLog<E>
-        requires { IsKept (text_of name) known.run (E.told engine)
+        requires { IsKept (text_of name) head.run known.start (E.told engine)
             (held revisions.head revisions.tail known.entries) }
         ensures engine { result.engine ≡ engine }
         ensures name { result.name ≡ name }
@@ -71,6 +71,21 @@ impl<E: Engine> EtcdLog<E> {
             revisions,
             is_open: true,
         }
+    }
+
+    /// Returns where the entries of this handle start.
+    pub fn start(&self) -> Start
+        ensures value { result ≡ self.now.known.start }
+        ensures low { result.below < 2 ^ 48 }
+    {
+        self.known.start()
+    }
+
+    /// Returns the chain after the last known entry.
+    pub fn chain(&self) -> Chain
+        ensures { result ≡ chain_after self.now.known.start.chain self.now.known.entries }
+    {
+        self.known.chain()
     }
 
     /// Returns the engine.
@@ -91,17 +106,18 @@ impl<E: Engine> EtcdLog<E> {
 
     /// Returns the request for an append of these entries.
     fn request(&self, entries: &[Entry]) -> Result<Vec<u8>, AllocError>
-        requires room { length self.now.known.entries < 2 ^ 48 }
+        requires room { self.now.known.start.below + length self.now.known.entries < 2 ^ 48 }
         requires most { length entries.now ≤ max_entries }
         ensures { let k = self.now.known in
-            let first = length k.entries + 1 in
-            let frame = frame_text (chain_after k.run k.entries) first entries.now in
+            let before = k.start.below + length k.entries in
+            let frame = frame_text (chain_after k.start.chain k.entries) (before + 1) entries.now in
             IfOk result (λ v. (v.items ≡ append_text (text_of self.now.name)
-            self.now.revisions.head self.now.revisions.tail first
-            (length k.entries + length entries.now) frame)
-            × (frame_in (chain_after k.run k.entries) first frame ≡ Ok entries.now)) }
+            self.now.revisions.head self.now.revisions.tail (before + 1)
+            (before + length entries.now) frame)
+            × (frame_in (chain_after k.start.chain k.entries) (before + 1) frame
+            ≡ Ok entries.now)) }
     {
-        let before = self.known.len() as u64;
+        let before = self.known.last_number();
         let first = self.known.next_number();
         let last = before + entries.len() as u64;
         let frame = frame_bytes(self.alloc, &self.known.chain(), first, entries)?;
@@ -124,16 +140,18 @@ impl<E: Engine> EtcdLog<E> {
     ) -> Result<(), AppendFault>
         requires open { IsTrue self.old.is_open }
         requires asks { let k = self.old.known in
-            let first = length k.entries + 1 in
+            let before = k.start.below + length k.entries in
             body.now ≡ append_text (text_of self.old.name) self.old.revisions.head
-            self.old.revisions.tail first (length k.entries + length entries.now)
-            (frame_text (chain_after k.run k.entries) first entries.now) }
+            self.old.revisions.tail (before + 1) (before + length entries.now)
+            (frame_text (chain_after k.start.chain k.entries) (before + 1) entries.now) }
         requires again { let k = self.old.known in
-            let first = length k.entries + 1 in
-            frame_in (chain_after k.run k.entries) first
-            (frame_text (chain_after k.run k.entries) first entries.now) ≡ Ok entries.now }
+            let before = k.start.below + length k.entries in
+            frame_in (chain_after k.start.chain k.entries) (before + 1)
+            (frame_text (chain_after k.start.chain k.entries) (before + 1) entries.now)
+            ≡ Ok entries.now }
         ensures name { self.new.name ≡ self.old.name }
-        ensures run { self.new.known.run ≡ self.old.known.run }
+        ensures head { self.new.head ≡ self.old.head }
+        ensures start { self.new.known.start ≡ self.old.known.start }
         ensures stored { OnOk result
             (self.new.known.entries ≡ self.old.known.entries ++ entries.now) }
         ensures open { OnOk result (IsTrue self.new.is_open) }
@@ -174,7 +192,8 @@ impl<E: Engine> EtcdLog<E> {
 impl<E: Engine> Log for EtcdLog<E> {
     ghost known = { λ l. l.known.entries };
 
-    ghost may_leave = { λ l. MayLeave (text_of l.name) l.known.run (E.told l.engine) };
+    ghost may_leave = { λ l.
+        MayLeave (text_of l.name) l.head.run l.known.start (E.told l.engine) };
 
     ghost is_open = { λ l. l.is_open };
 
@@ -189,7 +208,7 @@ impl<E: Engine> Log for EtcdLog<E> {
     }
 
     fn append(&mut self, entries: &[Entry]) -> Result<(), AppendFault> {
-        if self.known.len() as u64 >= MAX_NUMBER {
+        if self.known.last_number() >= MAX_NUMBER {
             return Err(AppendFault::Full);
         }
         let Ok(body) = self.request(entries) else {
@@ -205,15 +224,11 @@ impl<E: Engine> Log for EtcdLog<E> {
     }
 
     fn read_on(&mut self, into: &mut Vec<Entry>) -> Result<(), ReadFault> {
-        let root = Root {
-            head: self.head,
-            revision: self.revisions.head,
-        };
         match read_into(
             self.alloc,
             &mut self.engine,
             &self.name,
-            &root,
+            &self.head,
             &mut self.known,
             into,
         ) {

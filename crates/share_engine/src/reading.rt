@@ -1,12 +1,13 @@
 //! Reading a log until all of it is known.
 
-ghost use Rattle.std.specs.Prelude.{◌≡◌, ◌<◌, ◌^◌, ◌++◌, ℕ, List, length, map, Some, Ok, IfOk, IfSome, IsTrue, MatchOption, OnErr, OnOk};
+ghost use Rattle.std.specs.Prelude.{◌≡◌, ◌+◌, ◌<◌, ◌^◌, ◌++◌, ℕ, List, length, map, Some, Ok, IfOk, IfSome, IsTrue, MatchOption, OnErr, OnOk};
+ghost use Rattle.share_entries.specs.declared.start.Start.{Start};
 ghost use Rattle.share_entries.specs.Entry.{EntryView};
 ghost use Rattle.share_entries.specs.Head.{head_in};
 ghost use Rattle.share_etcd.specs.Keys.{text_of};
 ghost use Rattle.share_etcd.specs.Views.{contents_view, frame_view};
 ghost use Rattle.share_store.specs.OneLog.{Begins};
-ghost use Rattle.share_engine.specs.Keys.{Held, held, Has, Always, IsKept};
+ghost use Rattle.share_engine.specs.Keys.{Held, held, HasFrom, Always, IsKept};
 ghost use Rattle.share_engine.specs.Reading.{entries_from};
 
 use crate::asking::read_from;
@@ -19,47 +20,31 @@ use share_session::WorldName;
 use share_store::ReadFault;
 use std::alloc::Global;
 
-/// The head of a world, and the revision at which it was put.
-#[derive(Clone, Copy)]
-pub(crate) struct Root {
-    pub(crate) head: Head,
-    pub(crate) revision: u64,
-}
-
-/// Reports whether a world still has its head, unchanged.
-fn has_root(contents: &Contents, root: &Root) -> bool
-    ensures revision { IsTrue result → contents.now.head_revision ≡ root.now.revision }
-    ensures head { IsTrue result → head_in contents.now.head.items ≡ Ok root.now.head }
+/// Reports whether a world still has this head. It may have been put again, with a base.
+fn has_head(contents: &Contents, head: &Head) -> bool
+    ensures { IsTrue result → head_in contents.now.head.items ≡ Ok head.now }
 {
-    if contents.head_revision != root.revision {
-        return false;
-    }
     match head_of(&contents.head) {
-        Ok(found) => found == root.head,
+        Ok(found) => found == *head,
         Err(_) => false,
     }
 }
 
-/// Returns the revisions of the keys if all entries are known, and `None` if more of them are known
-/// than before but not all. Fails with `NotNext` otherwise.
-fn progress(
-    contents: &Contents,
-    before: usize,
-    now: usize,
-) -> Result<Option<Revisions>, ReadingFault>
+/// Returns the revisions of the keys if the entries up to number `now` are all, and `None` if they
+/// are not, but more than those up to `before`. Fails with `NotNext` otherwise.
+fn progress(contents: &Contents, before: u64, now: u64) -> Result<Option<Revisions>, ReadingFault>
     ensures { IfOk result (λ o. MatchOption o
         ((before < now) × (now < 2 ^ 64))
         (λ r. (now ≡ contents.now.tail) × (r.head ≡ contents.now.head_revision)
         × (r.tail ≡ contents.now.tail_revision))) }
 {
-    let number = now as u64;
-    if number == contents.tail {
+    if now == contents.tail {
         return Ok(Some(Revisions {
             head: contents.head_revision,
             tail: contents.tail_revision,
         }));
     }
-    if before < now && number < contents.tail {
+    if before < now && now < contents.tail {
         Ok(None)
     } else {
         Err(ReadingFault::NotNext)
@@ -72,19 +57,19 @@ pub(crate) fn add_contents(
     contents: &Contents,
     known: &mut Known,
 ) -> Result<Option<Revisions>, ReadingFault>
-    ensures run { known.new.run ≡ known.old.run }
+    ensures start { known.new.start ≡ known.old.start }
     ensures longer { Begins known.old.entries known.new.entries }
-    ensures read { IfOk result (λ _. entries_from known.old.run known.old.entries
+    ensures read { IfOk result (λ _. entries_from known.old.start known.old.entries
         (map frame_view contents.now.frames.items) ≡ Some known.new.entries) }
     ensures all { IfOk result (λ o. MatchOption o
         ((length known.old.entries < length known.new.entries)
         × (length known.new.entries < 2 ^ 64))
-        (λ r. (length known.new.entries ≡ contents.now.tail)
+        (λ r. (known.old.start.below + length known.new.entries ≡ contents.now.tail)
         × (r.head ≡ contents.now.head_revision) × (r.tail ≡ contents.now.tail_revision))) }
 {
-    let before = known.len();
+    let before = known.last_number();
     known.add_frames(alloc, &contents.frames)?;
-    progress(contents, before, known.len())
+    progress(contents, before, known.last_number())
 }
 
 /// Reads once, and adds what was read. Returns the revisions of the keys if all entries are known,
@@ -93,56 +78,60 @@ fn read_more<E: Engine>(
     alloc: Global,
     engine: &mut E,
     name: &WorldName,
-    root: &Root,
+    head: &Head,
     known: &mut Known,
 ) -> Result<Option<Revisions>, ReadingFault>
-    ensures run { known.new.run ≡ known.old.run }
+    ensures start { known.new.start ≡ known.old.start }
     ensures longer { Begins known.old.entries known.new.entries }
     ensures more { IfOk result (λ o. MatchOption o
         ((length known.old.entries < length known.new.entries)
         × (length known.new.entries < 2 ^ 64)) (λ _. Unit {0})) }
-    ensures stays { (run : List ℕ) (k : Held)
-        → IsKept (text_of name.now) run (E.told engine.old) k
-        → IsKept (text_of name.now) run (E.told engine.new) k }
-    ensures has { IfOk result (λ _. (run : List ℕ) → known.old.run ≡ run
-        → Always (text_of name.now) run (E.told engine.old) (Has known.old.entries)
-        → Always (text_of name.now) run (E.told engine.new) (Has known.new.entries)) }
-    ensures all { IfOk result (λ o. IfSome o (λ r. (run : List ℕ) → known.old.run ≡ run
-        → Always (text_of name.now) run (E.told engine.old) (Has known.old.entries)
-        → IsKept (text_of name.now) run (E.told engine.new)
+    ensures stays { (run : List ℕ) (start : Start) (k : Held)
+        → IsKept (text_of name.now) run start (E.told engine.old) k
+        → IsKept (text_of name.now) run start (E.told engine.new) k }
+    ensures has { IfOk result (λ _. (run : List ℕ)
+        → Always (text_of name.now) run (E.told engine.old)
+        (HasFrom run known.old.start known.old.entries)
+        → Always (text_of name.now) run (E.told engine.new)
+        (HasFrom run known.old.start known.new.entries)) }
+    ensures all { IfOk result (λ o. IfSome o (λ r. (run : List ℕ)
+        → Always (text_of name.now) run (E.told engine.old)
+        (HasFrom run known.old.start known.old.entries)
+        → IsKept (text_of name.now) run known.old.start (E.told engine.new)
         (held r.head r.tail known.new.entries))) }
 {
     let first = known.next_number();
     let Some(contents) = read_from(alloc, engine, name, first)? else {
         return Err(ReadingFault::NotNext);
     };
-    if !has_root(&contents, root) {
+    if !has_head(&contents, head) {
         return Err(ReadingFault::NotNext);
     }
     add_contents(alloc, &contents, known)
 }
 
-/// Reads until all entries of the log are known. The world must have this head, unchanged. Returns
+/// Reads until all entries of the log are known. The world must have this head. Returns
 /// the revisions of its keys. After a failure some more entries may be known.
 pub(crate) fn read_all<E: Engine>(
     alloc: Global,
     engine: &mut E,
     name: &WorldName,
-    root: &Root,
+    head: &Head,
     known: &mut Known,
 ) -> Result<Revisions, ReadingFault>
-    ensures run { known.new.run ≡ known.old.run }
+    ensures start { known.new.start ≡ known.old.start }
     ensures longer { Begins known.old.entries known.new.entries }
-    ensures stays { (run : List ℕ) (k : Held)
-        → IsKept (text_of name.now) run (E.told engine.old) k
-        → IsKept (text_of name.now) run (E.told engine.new) k }
-    ensures all { IfOk result (λ r.
-        Always (text_of name.now) known.old.run (E.told engine.old) (Has known.old.entries)
-        → IsKept (text_of name.now) known.old.run (E.told engine.new)
+    ensures stays { (run : List ℕ) (start : Start) (k : Held)
+        → IsKept (text_of name.now) run start (E.told engine.old) k
+        → IsKept (text_of name.now) run start (E.told engine.new) k }
+    ensures all { IfOk result (λ r. (run : List ℕ)
+        → Always (text_of name.now) run (E.told engine.old)
+        (HasFrom run known.old.start known.old.entries)
+        → IsKept (text_of name.now) run known.old.start (E.told engine.new)
         (held r.head r.tail known.new.entries)) }
 {
     'reading: loop {
-        if let Some(revisions) = read_more(alloc, engine, name, root, known)? {
+        if let Some(revisions) = read_more(alloc, engine, name, head, known)? {
             return Ok(revisions);
         }
     }
@@ -154,27 +143,28 @@ pub(crate) fn read_into<E: Engine>(
     alloc: Global,
     engine: &mut E,
     name: &WorldName,
-    root: &Root,
+    head: &Head,
     known: &mut Known,
     into: &mut Vec<Entry>,
 ) -> Result<Revisions, ReadFault>
-    ensures run { known.new.run ≡ known.old.run }
+    ensures start { known.new.start ≡ known.old.start }
     ensures more { OnOk result ((more : List EntryView)
         × (known.new.entries ≡ known.old.entries ++ more)
         × (into.new.items ≡ into.old.items ++ more)) }
-    ensures stays { (run : List ℕ) (k : Held)
-        → IsKept (text_of name.now) run (E.told engine.old) k
-        → IsKept (text_of name.now) run (E.told engine.new) k }
-    ensures all { IfOk result (λ r.
-        Always (text_of name.now) known.old.run (E.told engine.old) (Has known.old.entries)
-        → IsKept (text_of name.now) known.old.run (E.told engine.new)
+    ensures stays { (run : List ℕ) (start : Start) (k : Held)
+        → IsKept (text_of name.now) run start (E.told engine.old) k
+        → IsKept (text_of name.now) run start (E.told engine.new) k }
+    ensures all { IfOk result (λ r. (run : List ℕ)
+        → Always (text_of name.now) run (E.told engine.old)
+        (HasFrom run known.old.start known.old.entries)
+        → IsKept (text_of name.now) run known.old.start (E.told engine.new)
         (held r.head r.tail known.new.entries)) }
     ensures refused { OnErr result (known.new ≡ known.old) }
     ensures kept { OnErr result (into.new.items ≡ into.old.items) }
 {
     let count = known.len();
     let chain = known.chain();
-    match read_all(alloc, engine, name, root, known) {
+    match read_all(alloc, engine, name, head, known) {
         Ok(revisions) => {
             if into.extend_from_slice(&known.entries()[count..]).is_err() {
                 known.cut(count, chain);

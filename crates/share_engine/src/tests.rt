@@ -1,12 +1,15 @@
 //! Logs over an engine that answers as a plan has it.
 
+mod bases;
 mod by_hand;
+mod openings;
 
 use crate::{EtcdLog, FakeEngine, OpenedWorld, WorldFault, open_world};
 use by_hand::{
-    APPENDED, ERROR, MADE, NOT_APPENDED, NOT_MADE, NOTHING, READ_1, READ_1_NONE, READ_1_TOO_MANY,
-    READ_3, READ_3_FIRST, READ_3_NONE, READ_3_REST, READ_NO_HEAD, READ_OTHER,
+    APPENDED, ERROR, MADE, NOT_APPENDED, NOT_MADE, NOTHING, READ_1, READ_1_NONE, READ_3,
+    READ_3_FIRST, READ_3_NONE, READ_3_REST, READ_OTHER,
 };
+use openings::{NO_WORLD, OPEN_1_TOO_MANY, OPEN_3, OPEN_3_REST, OPEN_NO_HEAD, OPEN_OTHER};
 use share_entries::{Entry, Head, Source, frame_bytes};
 use share_etcd::{Revisions, append_bytes, making_bytes};
 use share_session::WorldName;
@@ -54,7 +57,7 @@ fn opened(
 ) -> Result<Result<OpenedWorld<FakeEngine>, WorldFault>, Fail> {
     let name = door()?;
     let engine = engine(alloc, texts)?;
-    Ok(open_world(alloc, engine, name, &GIVEN, viewers))
+    Ok(open_world(alloc, engine, name, &GIVEN, viewers, true))
 }
 
 /// Makes the world, over answers of which the first two make it.
@@ -118,7 +121,7 @@ const CHAIN: [u8; 16] = [
 #[test]
 fn a_world_is_made(rt: HostRuntime) -> Result<(), Fail> {
     let making = making_bytes(rt.alloc(), &door()?, &GIVEN)?;
-    let log = made(rt.alloc(), &[NOTHING, MADE])?;
+    let log = made(rt.alloc(), &[NO_WORLD, MADE])?;
     assert!(rt; asked(&log, 1, &making));
     assert!(rt; log.len() == 0 && log.takes_appends());
     let engine = log.into_engine();
@@ -130,7 +133,7 @@ fn a_world_is_made(rt: HostRuntime) -> Result<(), Fail> {
 fn each_append_compares_the_last_revision(rt: HostRuntime) -> Result<(), Fail> {
     let first = appending(rt.alloc(), &RUN, 2, 1, 5)?;
     let second = appending(rt.alloc(), &CHAIN, 3, 2, 6)?;
-    let mut log = made(rt.alloc(), &[NOTHING, MADE, APPENDED, APPENDED])?;
+    let mut log = made(rt.alloc(), &[NO_WORLD, MADE, APPENDED, APPENDED])?;
     assert!(rt; append(&mut log, 5) == Ok(()));
     assert!(rt; append(&mut log, 6) == Ok(()));
     assert!(rt; asked(&log, 2, &first) && asked(&log, 3, &second));
@@ -141,7 +144,7 @@ fn each_append_compares_the_last_revision(rt: HostRuntime) -> Result<(), Fail> {
 #[test]
 fn a_handle_that_is_behind_reads_on(rt: HostRuntime) -> Result<(), Fail> {
     let alloc = rt.alloc();
-    let mut log = made(alloc, &[NOTHING, MADE, NOT_APPENDED, READ_1, APPENDED])?;
+    let mut log = made(alloc, &[NO_WORLD, MADE, NOT_APPENDED, READ_1, APPENDED])?;
     assert!(rt; append(&mut log, 6) == Err(AppendFault::Taken));
     assert!(rt; !log.takes_appends());
     assert!(rt; read_on(alloc, &mut log) == Ok(1));
@@ -153,7 +156,7 @@ fn a_handle_that_is_behind_reads_on(rt: HostRuntime) -> Result<(), Fail> {
 #[test]
 fn silence_is_doubt(rt: HostRuntime) -> Result<(), Fail> {
     let alloc = rt.alloc();
-    let mut log = made(alloc, &[NOTHING, MADE, "", "", READ_1])?;
+    let mut log = made(alloc, &[NO_WORLD, MADE, "", "", READ_1])?;
     assert!(rt; append(&mut log, 5) == Err(AppendFault::InDoubt));
     assert!(rt; read_on(alloc, &mut log) == Err(ReadFault::Silent));
     assert!(rt; log.len() == 0 && !log.takes_appends());
@@ -164,7 +167,7 @@ fn silence_is_doubt(rt: HostRuntime) -> Result<(), Fail> {
 
 #[test]
 fn a_malformed_answer_is_doubt(rt: HostRuntime) -> Result<(), Fail> {
-    let mut log = made(rt.alloc(), &[NOTHING, MADE, ERROR])?;
+    let mut log = made(rt.alloc(), &[NO_WORLD, MADE, ERROR])?;
     assert!(rt; append(&mut log, 5) == Err(AppendFault::InDoubt));
     assert!(rt; !log.takes_appends());
     Ok(())
@@ -174,7 +177,7 @@ fn a_malformed_answer_is_doubt(rt: HostRuntime) -> Result<(), Fail> {
 fn another_head_is_a_failure(rt: HostRuntime) -> Result<(), Fail> {
     let alloc = rt.alloc();
     let answers = [
-        NOTHING,
+        NO_WORLD,
         MADE,
         NOT_APPENDED,
         READ_OTHER,
@@ -193,7 +196,7 @@ fn another_head_is_a_failure(rt: HostRuntime) -> Result<(), Fail> {
 #[test]
 fn a_log_is_read_in_parts(rt: HostRuntime) -> Result<(), Fail> {
     let alloc = rt.alloc();
-    let answers = [NOTHING, MADE, READ_3_FIRST, READ_3_REST, READ_3_NONE];
+    let answers = [NO_WORLD, MADE, READ_3_FIRST, READ_3_REST, READ_3_NONE];
     let mut log = made(alloc, &answers)?;
     assert!(rt; read_on(alloc, &mut log) == Ok(3));
     assert!(rt; read_on(alloc, &mut log) == Ok(0));
@@ -204,7 +207,7 @@ fn a_log_is_read_in_parts(rt: HostRuntime) -> Result<(), Fail> {
 #[test]
 fn a_part_that_is_damaged_leaves_what_was_known(rt: HostRuntime) -> Result<(), Fail> {
     let alloc = rt.alloc();
-    let answers = [NOTHING, MADE, READ_3_FIRST, READ_3_NONE, READ_3];
+    let answers = [NO_WORLD, MADE, READ_3_FIRST, READ_3_NONE, READ_3];
     let mut log = made(alloc, &answers)?;
     assert!(rt; read_on(alloc, &mut log) == Err(ReadFault::Device));
     assert!(rt; log.len() == 0 && log.takes_appends());
@@ -223,17 +226,30 @@ fn count(alloc: Global, text: &str, viewers: Option<u8>) -> Result<Result<u64, W
 #[test]
 fn a_world_that_is_there_is_opened(rt: HostRuntime) -> Result<(), Fail> {
     let alloc = rt.alloc();
-    assert!(rt; count(alloc, READ_3, None)? == Ok(3));
-    assert!(rt; count(alloc, READ_3, Some(3))? == Err(WorldFault::WrongSeats));
-    assert!(rt; count(alloc, READ_3_REST, None)? == Err(WorldFault::Damaged(1)));
-    assert!(rt; count(alloc, READ_1_TOO_MANY, None)? == Err(WorldFault::Damaged(4)));
-    assert!(rt; count(alloc, READ_NO_HEAD, None)? == Err(WorldFault::Malformed));
+    assert!(rt; count(alloc, OPEN_3, None)? == Ok(3));
+    assert!(rt; count(alloc, OPEN_3, Some(3))? == Err(WorldFault::WrongSeats));
+    assert!(rt; count(alloc, OPEN_3_REST, None)? == Err(WorldFault::Damaged(1)));
+    assert!(rt; count(alloc, OPEN_1_TOO_MANY, None)? == Err(WorldFault::Damaged(4)));
+    assert!(rt; count(alloc, OPEN_NO_HEAD, None)? == Err(WorldFault::Malformed));
     Ok(())
 }
 
 #[test]
+fn a_world_that_is_gone_is_not_made(rt: HostRuntime) -> Result<(), Fail> {
+    let alloc = rt.alloc();
+    let answers = engine(alloc, &[NO_WORLD, MADE])?;
+    match open_world(alloc, answers, door()?, &GIVEN, None, false) {
+        Ok(_) => Err(Fail::from("a world is made")),
+        Err(fault) => {
+            assert!(rt; fault == WorldFault::Malformed);
+            Ok(())
+        }
+    }
+}
+
+#[test]
 fn another_host_makes_the_world_first(rt: HostRuntime) -> Result<(), Fail> {
-    let answers = [NOTHING, NOT_MADE, READ_OTHER];
+    let answers = [NO_WORLD, NOT_MADE, OPEN_OTHER];
     let Ok(opened) = opened(rt.alloc(), &answers, None)? else {
         return Err(Fail::from("a world isn't opened"));
     };

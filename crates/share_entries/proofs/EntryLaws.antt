@@ -18,7 +18,7 @@ use Rattle.share_entries.specs.declared.entry.Source.{Source}
 use Rattle.share_entries.specs.declared.entry.Source.TheVariants.{Clock, Offer}
 use Rattle.share_entries.specs.Entry.{EntryView, time_codec, offer_fields, offer_with, fields_of, offer_codec, kind_of, source_text, source_fits, offered, source_at, stamp_codec, entry_with, entry_behind, entry_codec}
 
-time_exact : IsExact time_codec
+pub time_exact : IsExact time_codec
 unfolding time_codec
 time_exact = checked_exact is_input_time _ signed64_exact
 

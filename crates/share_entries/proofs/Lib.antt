@@ -4,3 +4,4 @@ pub mod Loops
 pub mod FrameLaws
 pub mod HeadLaws
 pub mod ChainLaws
+pub mod BaseLaws

@@ -42,7 +42,7 @@ pub fn is_viewer_count(viewers: u8) -> bool
     viewers >= 1 && viewers <= MAX_VIEWERS
 }
 
-fn sum_of(bytes: &[u8]) -> [u8; 8]
+pub(crate) fn sum_of(bytes: &[u8]) -> [u8; 8]
     ensures { result ≡ sum_of bytes.now }
 {
     let digest = Sha256::digest(bytes);

@@ -12,7 +12,7 @@ use share_wire::{Offer, vector_of};
 use x3d_values::is_input_time;
 
 #[tactic(auto, unfolding(crate::specs::Entry::time_codec))]
-fn time_of(bytes: &[u8]) -> Option<(i64, &[u8])>
+pub(crate) fn time_of(bytes: &[u8]) -> Option<(i64, &[u8])>
     ensures value { option_map (λ r. (r.0, r.1.now)) result ≡ time_codec.read bytes.now }
     ensures fits { IfSome result (λ r. IsTrue (is_input_time r.0)) }
 {

@@ -9,7 +9,7 @@ use Rattle.base64.specs.declared.decode.DecodeError.{DecodeError}
 use Rattle.serde_json.specs.Data.{Data, Items, no_items, item}
 use Rattle.serde_json.specs.Find.{get, at, as_str, as_array, as_object}
 use Rattle.share_etcd.specs.Numerals.{number_of}
-use Rattle.share_etcd.specs.Keys.{head_key, tail_key, log_front}
+use Rattle.share_etcd.specs.Keys.{head_key, tail_key, base_key, snapshot_key, log_front}
 use Rattle.share_etcd.specs.Answers.{revision_at, outcome_of}
 use Rattle.share_etcd.specs.declared.outcome.Outcome.{Outcome}
 use Rattle.share_etcd.specs.declared.outcome.Outcome.TheVariants.{Stored, Refused, Malformed}
@@ -186,3 +186,53 @@ contents_in world from d =
 abbrev pub contents_of : (world : List ℕ) (from : ℕ) → Option Data → Option (Option ContentsView)
 contents_of world from None = None
 contents_of world from (Some d) = contents_in world from d
+
+-- ---- a world that is opened
+
+-- a base, and the snapshot of the world there
+pub record BasedView : Type 0 where
+  pub base : List ℕ
+  pub snapshot : List ℕ
+
+pub record OpeningView : Type 0 where
+  pub based : Option BasedView
+  pub contents : ContentsView
+
+-- a base with its snapshot, or neither
+abbrev pub based_by : Option ValueView → Option ValueView → Option (Option BasedView)
+based_by None None = Some None
+based_by (Some base) (Some snapshot) =
+    Some (Some (record { base = base.bytes; snapshot = snapshot.bytes }))
+based_by None (Some snapshot) = None
+based_by (Some base) None = None
+
+abbrev pub based_over : Option (Option ValueView) → Option (Option ValueView)
+    → Option (Option BasedView)
+based_over None _ = None
+based_over (Some base) None = None
+based_over (Some base) (Some snapshot) = based_by base snapshot
+
+-- only a world that is there has a base
+abbrev pub opening_by : Option (Option ContentsView) → Option (Option BasedView)
+    → Option (Option OpeningView)
+opening_by None _ = None
+opening_by (Some contents) None = None
+opening_by (Some (Some contents)) (Some based) =
+    Some (Some (record { based = based; contents = contents }))
+opening_by (Some None) (Some None) = Some None
+opening_by (Some None) (Some (Some based)) = None
+
+-- what an answer says of a world that is opened: nothing, if there is no such world
+abbrev pub opening_in : (world : List ℕ) → Data → Option (Option OpeningView)
+opening_in world d =
+    if is_stored (outcome_of (Some d)) then
+    opening_by
+    (contents_over (single (head_key world) (pairs_at 0 d))
+    (single (tail_key world) (pairs_at 1 d)) (log_by (log_front world) 1 (pairs_at 4 d)))
+    (based_over (single (base_key world) (pairs_at 2 d))
+    (single (snapshot_key world) (pairs_at 3 d)))
+    else None
+
+abbrev pub opening_of : (world : List ℕ) → Option Data → Option (Option OpeningView)
+opening_of world None = None
+opening_of world (Some d) = opening_in world d

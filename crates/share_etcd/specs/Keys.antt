@@ -13,6 +13,14 @@ head_key world = codes "x3d/" ++ world ++ codes "/head"
 abbrev pub tail_key : (world : List ℕ) → List ℕ
 tail_key world = codes "x3d/" ++ world ++ codes "/tail"
 
+-- the key of the base, which is there once the first entries were dropped
+abbrev pub base_key : (world : List ℕ) → List ℕ
+base_key world = codes "x3d/" ++ world ++ codes "/base"
+
+-- the key of the snapshot of the world at the base
+abbrev pub snapshot_key : (world : List ℕ) → List ℕ
+snapshot_key world = codes "x3d/" ++ world ++ codes "/snapshot"
+
 -- what the keys of all frames begin with
 abbrev pub log_front : (world : List ℕ) → List ℕ
 log_front world = codes "x3d/" ++ world ++ codes "/log/"

@@ -97,32 +97,36 @@ fn log_in(
     alloc: Global,
     name: &WorldName,
     from: u64,
+    place: usize,
     answer: &Value,
 ) -> Result<Vec<Frame>, AnswerFault>
     ensures { Gives Memory (λ v. map frame_view v.items) result
-        (ok_or (spec.log_by (log_front (text_of name.now)) from (spec.pairs_at 2 (view answer.now)))
+        (ok_or (spec.log_by (log_front (text_of name.now)) from (spec.pairs_at place (view answer.now)))
         Malformed) }
 {
     let front = log_front(alloc, name)?;
-    log_by(alloc, front.as_slice(), from, pairs_at(answer, 2))
+    log_by(alloc, front.as_slice(), from, pairs_at(answer, place))
 }
 
-fn contents_over(
+/// Returns a world's head, its tail and its frames from this number on, which answer the request at
+/// this place.
+pub(crate) fn contents_over(
     alloc: Global,
     name: &WorldName,
     from: u64,
+    place: usize,
     answer: &Value,
 ) -> Result<Option<Contents>, AnswerFault>
     ensures { Gives Memory (option_map contents_view) result
         (ok_or (spec.contents_over
         (spec.single (head_key (text_of name.now)) (spec.pairs_at 0 (view answer.now)))
         (spec.single (tail_key (text_of name.now)) (spec.pairs_at 1 (view answer.now)))
-        (spec.log_by (log_front (text_of name.now)) from (spec.pairs_at 2 (view answer.now))))
+        (spec.log_by (log_front (text_of name.now)) from (spec.pairs_at place (view answer.now))))
         Malformed) }
 {
     let head = head_in(alloc, name, answer)?;
     let tail = tail_in(alloc, name, answer)?;
-    let frames = log_in(alloc, name, from, answer)?;
+    let frames = log_in(alloc, name, from, place, answer)?;
     contents_by(head, tail, frames)
 }
 
@@ -136,7 +140,7 @@ fn contents_in(
         (ok_or (spec.contents_in (text_of name.now) from (view answer.now)) Malformed) }
 {
     match outcome_in(answer) {
-        Outcome::Stored { revision: _ } => contents_over(alloc, name, from, answer),
+        Outcome::Stored { revision: _ } => contents_over(alloc, name, from, 2, answer),
         Outcome::Refused => Err(AnswerFault::Malformed),
         Outcome::Malformed => Err(AnswerFault::Malformed),
     }

@@ -31,6 +31,20 @@ pub fn tail_key(alloc: Global, name: &WorldName) -> Result<Vec<u8>, AllocError>
     key_of(alloc, name, b"/tail")
 }
 
+/// Returns the key of a world's base, which is there once its first entries were dropped.
+pub fn base_key(alloc: Global, name: &WorldName) -> Result<Vec<u8>, AllocError>
+    ensures { IfOk result (λ v. v.items ≡ spec.base_key (spec.text_of name.now)) }
+{
+    key_of(alloc, name, b"/base")
+}
+
+/// Returns the key of the snapshot of a world at its base.
+pub fn snapshot_key(alloc: Global, name: &WorldName) -> Result<Vec<u8>, AllocError>
+    ensures { IfOk result (λ v. v.items ≡ spec.snapshot_key (spec.text_of name.now)) }
+{
+    key_of(alloc, name, b"/snapshot")
+}
+
 /// Returns what the keys of all frames of a world begin with.
 pub(crate) fn log_front(alloc: Global, name: &WorldName) -> Result<Vec<u8>, AllocError>
     ensures { IfOk result (λ v. v.items ≡ spec.log_front (spec.text_of name.now)) }

@@ -28,7 +28,7 @@ const RANGE: &[u8] = b"{\"request_range\":{\"key\":\"";
 
 /// The revisions at which a world's head and tail were last changed, as this host read them: 1 to
 /// 2^63 - 1. After an append that was stored, the head's stays, and the tail's is the revision that
-/// the answer named.
+/// the answer named; after a basing it is the other way round.
 #[derive(Clone, Copy, Debug, PartialEq, Eq)]
 pub struct Revisions {
     pub head: u64,
@@ -46,7 +46,7 @@ fn absent(alloc: Global, key: Vec<u8>) -> Result<Vec<u8>, AllocError>
 }
 
 /// Returns a compare: this key was last changed at this revision.
-fn unchanged(alloc: Global, key: Vec<u8>, revision: u64) -> Result<Vec<u8>, AllocError>
+pub(crate) fn unchanged(alloc: Global, key: Vec<u8>, revision: u64) -> Result<Vec<u8>, AllocError>
     ensures { IfOk result (λ v. v.items ≡ spec.unchanged key.items revision) }
 {
     let key = STANDARD.encode(alloc, key.as_slice())?;
@@ -61,7 +61,7 @@ fn unchanged(alloc: Global, key: Vec<u8>, revision: u64) -> Result<Vec<u8>, Allo
 }
 
 /// Returns an operation: this key gets this value.
-fn put(alloc: Global, key: Vec<u8>, value: &[u8]) -> Result<Vec<u8>, AllocError>
+pub(crate) fn put(alloc: Global, key: Vec<u8>, value: &[u8]) -> Result<Vec<u8>, AllocError>
     ensures { IfOk result (λ v. v.items ≡ spec.put key.items value.now) }
 {
     let key = STANDARD.encode(alloc, key.as_slice())?;
@@ -81,7 +81,7 @@ fn put(alloc: Global, key: Vec<u8>, value: &[u8]) -> Result<Vec<u8>, AllocError>
 }
 
 /// Returns an operation: this key is read.
-fn get_one(alloc: Global, key: Vec<u8>) -> Result<Vec<u8>, AllocError>
+pub(crate) fn get_one(alloc: Global, key: Vec<u8>) -> Result<Vec<u8>, AllocError>
     ensures { IfOk result (λ v. v.items ≡ spec.get_one key.items) }
 {
     let key = STANDARD.encode(alloc, key.as_slice())?;
@@ -91,7 +91,7 @@ fn get_one(alloc: Global, key: Vec<u8>) -> Result<Vec<u8>, AllocError>
 }
 
 /// Returns a key and the end of the range from it on.
-fn up_to(alloc: Global, key: Vec<u8>, end: Vec<u8>) -> Result<Vec<u8>, AllocError>
+pub(crate) fn up_to(alloc: Global, key: Vec<u8>, end: Vec<u8>) -> Result<Vec<u8>, AllocError>
     ensures { IfOk result (λ v. v.items ≡ spec.up_to key.items end.items) }
 {
     let key = STANDARD.encode(alloc, key.as_slice())?;
@@ -105,7 +105,7 @@ fn up_to(alloc: Global, key: Vec<u8>, end: Vec<u8>) -> Result<Vec<u8>, AllocErro
 }
 
 /// Returns an operation: up to 64 keys from this one on are read, below the end.
-fn get_range(alloc: Global, key: Vec<u8>, end: Vec<u8>) -> Result<Vec<u8>, AllocError>
+pub(crate) fn get_range(alloc: Global, key: Vec<u8>, end: Vec<u8>) -> Result<Vec<u8>, AllocError>
     ensures { IfOk result (λ v. v.items ≡ spec.get_range key.items end.items) }
 {
     let range = up_to(alloc, key, end)?;
@@ -118,7 +118,7 @@ fn get_range(alloc: Global, key: Vec<u8>, end: Vec<u8>) -> Result<Vec<u8>, Alloc
 }
 
 /// Returns both with a comma between them.
-fn joined(alloc: Global, this: Vec<u8>, that: Vec<u8>) -> Result<Vec<u8>, AllocError>
+pub(crate) fn joined(alloc: Global, this: Vec<u8>, that: Vec<u8>) -> Result<Vec<u8>, AllocError>
     ensures { IfOk result (λ v. v.items ≡ spec.joined this.items that.items) }
 {
     let mut out = Vec::new(alloc);
@@ -143,7 +143,7 @@ fn guarded(alloc: Global, compares: Vec<u8>, operations: Vec<u8>) -> Result<Vec<
 }
 
 /// Returns the transaction that does both operations where both compares hold.
-fn transaction(
+pub(crate) fn transaction(
     alloc: Global,
     this: Vec<u8>,
     that: Vec<u8>,
@@ -160,7 +160,7 @@ fn transaction(
 }
 
 /// Returns an operation: the world's head is this.
-fn put_head(alloc: Global, name: &WorldName, head: &Head) -> Result<Vec<u8>, AllocError>
+pub(crate) fn put_head(alloc: Global, name: &WorldName, head: &Head) -> Result<Vec<u8>, AllocError>
     requires { IsTrue (is_viewer_count head.now.viewers) }
     ensures { IfOk result (λ v. v.items
         ≡ spec.put (keys.head_key (keys.text_of name.now)) (head_text head.now)) }
@@ -215,7 +215,7 @@ pub fn append_bytes(
 }
 
 /// Returns the transaction of these three operations.
-fn three(
+pub(crate) fn three(
     alloc: Global,
     head: Vec<u8>,
     tail: Vec<u8>,
@@ -238,7 +238,8 @@ fn three(
 }
 
 /// Returns the transaction that reads a world: its head, its tail, and up to 64 frames from this
-/// number on. All are of one revision. Fails if memory is refused.
+/// number on. All are of one revision. If a base stands for this entry, its frame isn't among them,
+/// and the world is to be opened again. Fails if memory is refused.
 pub fn reading_bytes(alloc: Global, name: &WorldName, first: u64) -> Result<Vec<u8>, AllocError>
     ensures { IfOk result (λ v. v.items ≡ spec.reading_text (keys.text_of name.now) first) }
 {

@@ -1,6 +1,8 @@
-//! Requests and answers by hand ([by_hand](by_hand.rt)), and answers that no etcd gives.
+//! Requests and answers by hand ([by_hand](by_hand.rt)), and answers that no etcd gives. Those of a
+//! base, and of a world that is opened, are in [opening](opening.rt).
 
 mod by_hand;
+mod opening;
 
 use crate::{
     AnswerFault, Contents, Outcome, Revisions, append_bytes, contents_of, making_bytes, outcome_of,

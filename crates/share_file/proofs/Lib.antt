@@ -1,6 +1,7 @@
 mod Reading
 mod Adding
 mod Parts
+mod Bases
 mod Keeping
 mod Tails
 mod Ending

@@ -7,21 +7,30 @@ use Rattle.share_entries.specs.Entry.{EntryView}
 use Rattle.share_entries.specs.Chain.{chain_after}
 use Rattle.share_entries.specs.Frame.{frame_in}
 use Rattle.share_entries.specs.Head.{head_in}
+use Rattle.share_entries.specs.Base.{BaseView}
 use Rattle.share_log.specs.Frames.{frames_of, size_of}
 use Rattle.share_file.specs.declared.fault.OpenFault.{OpenFault}
 use Rattle.share_file.specs.declared.fault.OpenFault.TheVariants.{Device, Memory, BadHead, WrongScene, WrongSeats, LogDamaged}
 use Rattle.share_file.specs.declared.contents.Expected.{Expected}
 use Rattle.share_file.specs.declared.contents.Contents.{Contents}
-use Rattle.share_file.specs.Entries.{entries_from}
+use Rattle.share_entries.specs.declared.start.Start.{Start}
+use Rattle.share_entries.specs.Start.{start_of}
+use Rattle.share_file.specs.Entries.{base_among, behind_base, entries_from, first_number}
 
 -- a log, and the number of bytes after its last gate, which are cut
 pub record FileView : Type 0 where
   pub head : Head
+  pub base : Option BaseView
   pub entries : List EntryView
   pub cut : ℕ
 
 abbrev pub view_of : Contents → FileView
-view_of x = record { head = x.head; entries = x.known.entries.items; cut = x.cut }
+view_of x = record {
+  head = x.head;
+  base = x.base;
+  entries = x.known.entries.items;
+  cut = x.cut;
+}
 
 -- ---- the end of the file: the bytes from the gate after the frames on
 
@@ -51,18 +60,27 @@ has_seats None viewers = true
 has_seats (Some expected) viewers = expected == viewers
 
 -- the log ends as an append leaves it
-abbrev pub ends_well : Head → List EntryView → (tail : List ℕ) → Bool
-ends_well head entries tail =
-    begins_shut tail && not (hides_frame (chain_after head.run entries) (length entries + 1) tail)
+abbrev pub ends_well : Start → List EntryView → (tail : List ℕ) → Bool
+ends_well start entries tail =
+    begins_shut tail && not (hides_frame (chain_after start.chain entries)
+    (start.below + length entries + 1) tail)
 
 -- the log of these entries, if it ends well; else its next frame, of this number, is damaged
-abbrev pub ended : Head → (number : ℕ) (tail : List ℕ) → Result (List EntryView) ℕ
-    → Result FileView OpenFault
-ended head number tail (Err damaged) = Err (LogDamaged damaged)
-ended head number tail (Ok entries) =
-    if ends_well head entries tail
-    then Ok (record { head = head; entries = entries; cut = length tail - 1 })
+abbrev pub ended : Head → Option BaseView → (number : ℕ) (tail : List ℕ)
+    → Result (List EntryView) ℕ → Result FileView OpenFault
+ended head base number tail (Err damaged) = Err (LogDamaged damaged)
+ended head base number tail (Ok entries) =
+    if ends_well (start_of head base) entries tail
+    then Ok (record { head = head; base = base; entries = entries; cut = length tail - 1 })
     else Err (LogDamaged number)
+
+-- the log of this head, of this base, and of the frames after the head
+abbrev pub based : Head → (frames : List (List ℕ)) (tail : List ℕ) → Result (Option BaseView) ℕ
+    → Result FileView OpenFault
+based head frames tail (Err damaged) = Err (LogDamaged damaged)
+based head frames tail (Ok base) =
+    ended head base (length frames + 1) tail
+    (entries_from (start_of head base) [] (first_number frames) (behind_base frames))
 
 -- the log of this head and of the frames after it
 abbrev pub headed : Expected → (frames : List (List ℕ)) (tail : List ℕ) → Head
@@ -70,7 +88,7 @@ abbrev pub headed : Expected → (frames : List (List ℕ)) (tail : List ℕ) �
 headed expected frames tail head =
     if pointwise nat_eq head.mark expected.mark then
     (if has_seats expected.viewers head.viewers
-    then ended head (length frames + 1) tail (entries_from head.run [] 1 frames)
+    then based head frames tail (base_among head frames)
     else Err WrongSeats)
     else Err WrongScene
 

@@ -1,6 +1,6 @@
 //! The entries of a log's frames.
 
-ghost use Rattle.std.specs.Prelude.{◌≡◌, ◌⊎◌, [], ◌∷◌, suc, ℕ, List, IfOk, MatchResult, OnOk, Ok, Err};
+ghost use Rattle.std.specs.Prelude.{◌≡◌, ◌⊎◌, ◌<◌, ◌≤◌, ◌^◌, [], ◌∷◌, suc, ℕ, List, IfOk, MatchResult, OnOk, Ok, Err};
 ghost use Rattle.share_entries.specs.declared.frame.FrameFault.TheVariants.{Memory as NoMemory};
 ghost use Rattle.share_entries.specs.Chain.{chain_after};
 ghost use Rattle.share_log.specs.Log.{payloads};
@@ -8,7 +8,7 @@ ghost use Rattle.share_file.specs.declared.fault.OpenFault.TheVariants.{Memory, 
 ghost use Rattle.share_file.specs.Entries.{next_in, entries_from};
 
 use crate::fault::OpenFault;
-use share_entries::{Chain, Entry, FrameFault, chain_after, frame_of};
+use share_entries::{Chain, Entry, FrameFault, Start, chain_after, frame_of};
 use std::alloc::Global;
 
 /// Entries from the first of a log on, and the chain after them.
@@ -31,14 +31,22 @@ fn fault_of(fault: FrameFault, number: u64) -> OpenFault
 
 impl Known {
     /// Returns the entries of the next frame, which has this number.
-    fn next(&self, alloc: Global, number: u64, frame: &[u8]) -> Result<Vec<Entry>, OpenFault>
-        ensures { (run : List ℕ) → self.now.chain ≡ chain_after run self.now.entries.items
-            → MatchResult result
-            (λ v. next_in run self.now.entries.items frame.now ≡ Ok v.items)
+    fn next(
+        &self,
+        alloc: Global,
+        start: &Start,
+        number: u64,
+        frame: &[u8],
+    ) -> Result<Vec<Entry>, OpenFault>
+        requires low { start.now.below < 2 ^ 48 }
+        requires linked { self.now.chain ≡ chain_after start.now.chain self.now.entries.items }
+        ensures { MatchResult result
+            (λ v. next_in start.now self.now.entries.items frame.now ≡ Ok v.items)
             (λ e. (e ≡ Memory) ⊎ ((e ≡ LogDamaged number) × ((frames : List (List ℕ))
-            → entries_from run self.now.entries.items number (frame.now ∷ frames) ≡ Err number))) }
+            → entries_from start.now self.now.entries.items number (frame.now ∷ frames)
+            ≡ Err number))) }
     {
-        let first = self.entries.len() as u64 + 1;
+        let first = start.below + self.entries.len() as u64 + 1;
         match frame_of(alloc, &self.chain, first, frame) {
             Ok(entries) => Ok(entries),
             Err(fault) => Err(fault_of(fault, number)),
@@ -46,17 +54,25 @@ impl Known {
     }
 
     /// Adds the entries of the next frame, which has this number.
-    fn add(&mut self, alloc: Global, number: u64, frame: &[u8]) -> Result<(), OpenFault>
-        ensures chain { (run : List ℕ) → self.old.chain ≡ chain_after run self.old.entries.items
-            → OnOk result (self.new.chain ≡ chain_after run self.new.entries.items) }
-        ensures next { (run : List ℕ) → self.old.chain ≡ chain_after run self.old.entries.items
-            → (frames : List (List ℕ)) → MatchResult result
-            (λ _. entries_from run self.old.entries.items number (frame.now ∷ frames)
-            ≡ entries_from run self.new.entries.items (suc number) frames)
+    fn add(
+        &mut self,
+        alloc: Global,
+        start: &Start,
+        number: u64,
+        frame: &[u8],
+    ) -> Result<(), OpenFault>
+        requires low { start.now.below < 2 ^ 48 }
+        requires linked { self.old.chain ≡ chain_after start.now.chain self.old.entries.items }
+        ensures chain { OnOk result
+            (self.new.chain ≡ chain_after start.now.chain self.new.entries.items) }
+        ensures next { (frames : List (List ℕ)) → MatchResult result
+            (λ _. entries_from start.now self.old.entries.items number (frame.now ∷ frames)
+            ≡ entries_from start.now self.new.entries.items (suc number) frames)
             (λ e. (e ≡ Memory) ⊎ ((e ≡ LogDamaged number)
-            × (entries_from run self.old.entries.items number (frame.now ∷ frames) ≡ Err number))) }
+            × (entries_from start.now self.old.entries.items number (frame.now ∷ frames)
+            ≡ Err number))) }
     {
-        let mut entries = self.next(alloc, number, frame)?;
+        let mut entries = self.next(alloc, start, number, frame)?;
         let chain = chain_after(&self.chain, &entries);
         self.entries.append(&mut entries)?;
         self.chain = chain;
@@ -64,20 +80,27 @@ impl Known {
     }
 }
 
-/// Reads the frames after the head of a log.
-pub(crate) fn entries_of(alloc: Global, run: &Chain, frames: &[Vec<u8>]) -> Result<Known, OpenFault>
-    ensures chain { IfOk result (λ k. k.chain ≡ chain_after run.now k.entries.items) }
+/// Reads frames of entries, the first of a log, of which the first has this number.
+pub(crate) fn entries_of(
+    alloc: Global,
+    start: &Start,
+    number: u64,
+    frames: &[Vec<u8>],
+) -> Result<Known, OpenFault>
+    requires low { start.now.below < 2 ^ 48 }
+    requires number { number ≤ 2 }
+    ensures chain { IfOk result (λ k. k.chain ≡ chain_after start.now.chain k.entries.items) }
     ensures read { MatchResult result
-        (λ k. entries_from run.now [] 1 (payloads frames.now) ≡ Ok k.entries.items)
+        (λ k. entries_from start.now [] number (payloads frames.now) ≡ Ok k.entries.items)
         (λ e. (e ≡ Memory) ⊎ ((n : ℕ) × (e ≡ LogDamaged n)
-        × (entries_from run.now [] 1 (payloads frames.now) ≡ Err n))) }
+        × (entries_from start.now [] number (payloads frames.now) ≡ Err n))) }
 {
     let mut known = Known {
         entries: Vec::new(alloc),
-        chain: *run,
+        chain: start.chain,
     };
     for (i, frame) in frames.iter().enumerate() {
-        if let Err(fault) = known.add(alloc, i as u64 + 1, frame) {
+        if let Err(fault) = known.add(alloc, start, number + i as u64, frame) {
             drop(known);
             return Err(fault);
         }

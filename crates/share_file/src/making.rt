@@ -7,7 +7,8 @@ ghost use Rattle.share_log.specs.Frames.{frames_of};
 ghost use Rattle.share_log.specs.Log.{IsReady};
 ghost use Rattle.share_store.specs.OneLog.{Last};
 ghost use Rattle.share_file.specs.declared.fault.OpenFault.TheVariants.{Device, Memory, NotEmpty};
-ghost use Rattle.share_file.specs.Entries.{entries_among};
+ghost use Rattle.share_entries.specs.Start.{start_of};
+ghost use Rattle.share_file.specs.Entries.{entries_among, start_among};
 ghost use Rattle.share_file.specs.Keeping.{IsNew};
 ghost use Rattle.share_file.specs.Making.{BeginsOrWas, IsBegun, IsGated, is_unmade, made_size};
 
@@ -15,7 +16,7 @@ use crate::append::FileLog;
 use crate::fault::OpenFault;
 use crate::known::Known;
 use crate::opening::read_tail;
-use share_entries::{Head, head_bytes};
+use share_entries::{Head, Start, head_bytes};
 use sqlite_disk::Disk;
 use std::alloc::Global;
 use std::io;
@@ -149,6 +150,7 @@ fn begin<D: Disk>(
         → frames_of (D.seen f.log.disk) ≡ payload.now ∷ []) }
     ensures known { IfOk result (λ f. IsTrue (D.is_clean f.log.disk)
         → ⟦<FileLog<D> as share_store::Log>⟧.known f ≡ []) }
+    ensures start { IfOk result (λ f. f.start ≡ start_of head.now None) }
     ensures open { IfOk result (λ f. f.is_open ≡ true) }
     ensures fault { IfErr result (λ f. (f.0 ≡ Device) ⊎ (f.0 ≡ Memory)) }
     ensures crash { IfErr result (λ f. IsTrue (D.is_clean f.1) → (c : List ℕ) → D.may_leave f.1 c
@@ -167,7 +169,11 @@ fn begin<D: Disk>(
                 entries: Vec::new(alloc),
                 chain: head.run,
             };
-            Ok(FileLog::new(alloc, log, head.run, &known))
+            let start = Start {
+                below: 0,
+                chain: head.run,
+            };
+            Ok(FileLog::new(alloc, log, start, &known))
         }
         Err(fault) => Err((OpenFault::from(fault), log.disk)),
     }
@@ -185,6 +191,7 @@ pub fn create<D: Disk>(alloc: Global, disk: D, head: &Head) -> Result<FileLog<D>
         → IsNew head.now (frames_of (D.seen f.log.disk))) }
     ensures known { IfOk result (λ f. IsTrue (D.is_clean f.log.disk)
         → ⟦<FileLog<D> as share_store::Log>⟧.known f ≡ []) }
+    ensures start { IfOk result (λ f. f.start ≡ start_of head.now None) }
     ensures open { IfOk result (λ f. f.is_open ≡ true) }
     // There was no log in the file, and nothing else; and that alone is refused.
     ensures unmade { IfOk result (λ f. IsTrue (D.is_clean f.log.disk)

@@ -6,13 +6,14 @@ ghost use Rattle.share_log.specs.Frames.{frames_of};
 ghost use Rattle.share_log.specs.Log.{OpensToOrWas};
 ghost use Rattle.share_store.specs.OneLog.{Last};
 ghost use Rattle.share_file.specs.declared.fault.OpenFault.TheVariants.{Device, Memory};
-ghost use Rattle.share_file.specs.Entries.{head_among, run_of, entries_among};
+ghost use Rattle.share_entries.specs.Start.{start_of};
+ghost use Rattle.share_file.specs.Entries.{entries_among, start_among};
 ghost use Rattle.share_file.specs.Contents.{FileView, Refuses, contents_of, view_of};
 
 use crate::append::FileLog;
 use crate::contents::{Contents, Expected, contents_in};
 use crate::fault::OpenFault;
-use share_entries::{Entry, Head};
+use share_entries::{Base, Entry, Head, start_of};
 use share_log::look;
 use sqlite_disk::Disk;
 use std::alloc::Global;
@@ -22,7 +23,9 @@ use std::alloc::Global;
 pub struct Opened<D: Disk> {
     pub log: FileLog<D>,
     pub head: Head,
-    /// All entries, in order.
+    /// What stands for the entries below, if there is a base.
+    pub base: Option<Base>,
+    /// All entries, in order: those after the base.
     pub entries: Vec<Entry>,
     /// The number of bytes that were cut after the last entry.
     pub cut: u64,
@@ -63,11 +66,12 @@ fn examine<D: Disk>(alloc: Global, disk: &mut D, expected: &Expected) -> Result<
         (λ e. IsTrue (D.is_clean disk.new)
         → Refuses (contents_of expected.now (D.seen disk.old)) e) }
     ensures named { IfOk result (λ x. IsTrue (D.is_clean disk.new)
-        → run_of (head_among (frames_of (D.seen disk.old))) ≡ x.head.run) }
+        → start_among (frames_of (D.seen disk.old)) ≡ Ok (start_of x.head x.base)) }
     ensures reads { IfOk result (λ x. IsTrue (D.is_clean disk.new)
-        → entries_among x.head.run (frames_of (D.seen disk.old)) ≡ Ok x.known.entries.items) }
+        → entries_among (start_of x.head x.base) (frames_of (D.seen disk.old))
+        ≡ Ok x.known.entries.items) }
     ensures chain { IfOk result (λ x. x.known.chain
-        ≡ chain_after x.head.run x.known.entries.items) }
+        ≡ chain_after (start_of x.head x.base).chain x.known.entries.items) }
     ensures seen { D.seen disk.new ≡ D.seen disk.old }
     ensures crash { (c : List ℕ) → D.may_leave disk.new c → D.may_leave disk.old c }
     ensures clean { IsTrue (D.is_clean disk.new) → IsTrue (D.is_clean disk.old) }
@@ -81,13 +85,13 @@ fn examine<D: Disk>(alloc: Global, disk: &mut D, expected: &Expected) -> Result<
 fn settle<D: Disk>(alloc: Global, disk: D, contents: Contents) -> Result<Opened<D>, (OpenFault, D)>
     requires usable { IsTrue (D.is_usable disk) }
     requires named { IsTrue (D.is_clean disk)
-        → run_of (head_among (frames_of (D.seen disk))) ≡ contents.head.run }
+        → start_among (frames_of (D.seen disk)) ≡ Ok (start_of contents.head contents.base) }
     requires reads { IsTrue (D.is_clean disk)
-        → entries_among contents.head.run (frames_of (D.seen disk))
+        → entries_among (start_of contents.head contents.base) (frames_of (D.seen disk))
         ≡ Ok contents.known.entries.items }
     requires chain { contents.known.chain
-        ≡ chain_after contents.head.run contents.known.entries.items }
-    ensures view { IfOk result (λ o. (o.head ≡ contents.head)
+        ≡ chain_after (start_of contents.head contents.base).chain contents.known.entries.items }
+    ensures view { IfOk result (λ o. (o.head ≡ contents.head) × (o.base ≡ contents.base)
         × (o.entries.items ≡ contents.known.entries.items) × (o.cut ≡ contents.cut)) }
     ensures known { IfOk result (λ o. IsTrue (D.is_clean o.log.log.disk)
         → ⟦<FileLog<D> as share_store::Log>⟧.known o.log ≡ o.entries.items) }
@@ -103,9 +107,11 @@ fn settle<D: Disk>(alloc: Global, disk: D, contents: Contents) -> Result<Opened<
         Ok(opened) => {
             let share_log::Opened { log, frames } = opened;
             drop(frames);
+            let start = start_of(&contents.head, &contents.base);
             Ok(Opened {
-                log: FileLog::new(alloc, log, contents.head.run, &contents.known),
+                log: FileLog::new(alloc, log, start, &contents.known),
                 head: contents.head,
+                base: contents.base,
                 entries: contents.known.entries,
                 cut: contents.cut,
             })
@@ -128,7 +134,12 @@ pub fn open<D: Disk>(
     // The log is the one that the file has.
     ensures found { IfOk result (λ o. IsTrue (D.is_clean o.log.log.disk)
         → contents_of expected.now (D.seen disk)
-        ≡ Ok (record { head = o.head; entries = o.entries.items; cut = o.cut })) }
+        ≡ Ok (record {
+          head = o.head;
+          base = o.base;
+          entries = o.entries.items;
+          cut = o.cut;
+        })) }
     ensures known { IfOk result (λ o. IsTrue (D.is_clean o.log.log.disk)
         → ⟦<FileLog<D> as share_store::Log>⟧.known o.log ≡ o.entries.items) }
     ensures open { IfOk result (λ o. o.log.is_open ≡ true) }

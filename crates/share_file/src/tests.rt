@@ -7,13 +7,13 @@ use sqlite_disk::{Crash, Disk, Fuse, Memory};
 use std::alloc::Global;
 use std::test::Fail;
 
-const HEAD: Head = Head {
+pub(crate) const HEAD: Head = Head {
     viewers: 2,
     mark: [7; 32],
     run: [9; 16],
 };
 
-const EXPECTED: Expected = Expected {
+pub(crate) const EXPECTED: Expected = Expected {
     mark: [7; 32],
     viewers: None,
 };
@@ -36,7 +36,7 @@ const END: usize = 154;
 const LAST: usize = 106;
 
 /// Returns a file in memory with these bytes, on the disk.
-fn disk_of(alloc: Global, bytes: &[u8]) -> Result<Memory, Fail> {
+pub(crate) fn disk_of(alloc: Global, bytes: &[u8]) -> Result<Memory, Fail> {
     let mut disk = Memory::new(alloc);
     disk.write_at(0, bytes)?;
     disk.sync()?;

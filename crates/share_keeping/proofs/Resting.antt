@@ -1,5 +1,5 @@
 -- A rest, by whether a viewer joins.
-use Rattle.std.proofs.Common.{◌≡◌, ℕ, Bool, true, false, List, refl, sym, ap, subst}
+use Rattle.std.proofs.Common.{◌≡◌, ℕ, Bool, true, false, List, sym, subst}
 use Rattle.std.specs.Prelude.{Option}
 use Rattle.cascade_core.specs.Held.{StageView}
 use Rattle.share_turns.specs.declared.traffic.Traffic.{Traffic}

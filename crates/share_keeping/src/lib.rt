@@ -24,3 +24,4 @@ mod shot;
 pub use forgetting::Forgetting;
 pub use joiners::{Joiner, Joiners};
 pub use port::KeepingPort;
+pub use shot::Shot;

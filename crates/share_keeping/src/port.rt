@@ -12,7 +12,7 @@ use crate::forgetting::{Forgetting, begin_forgetting};
 use crate::giving::give;
 use crate::joiners::Joiners;
 use crate::said::{Said, says};
-use crate::shot::{Shot, note_sent, renew};
+use crate::shot::{Shot, note_sent, renew, taken};
 use cascade_core::{ApplyFault, Stage};
 use script_host::Behaviour;
 use share_entries::Entry;
@@ -86,13 +86,14 @@ impl<B: Behaviour, P: Drop> KeepingPort<B, P> {
 }
 
 impl<B: Behaviour, P> KeepingPort<B, P> {
-    ghost use Rattle.std.specs.Prelude.{◌≡◌};
+    ghost use Rattle.std.specs.Prelude.{◌≡◌, IfSome};
     ghost use Rattle.cascade_core.specs.Held.{spoiled};
     ghost use Rattle.share_turns.specs.Told.{one_more};
     ghost use Rattle.share_wire.specs.Decoding.{decoded};
     ghost use Rattle.share_keeping.specs.Joiners.{are_some};
     ghost use Rattle.share_keeping.specs.Keeping as spec;
     ghost use Rattle.share_keeping.specs.Said.{said_in};
+    ghost use Rattle.share_keeping.specs.Shots.{IsTaken};
 
     /// Returns the inner port.
     pub fn port(&self) -> &P
@@ -118,6 +119,14 @@ impl<B: Behaviour, P> KeepingPort<B, P> {
         ensures { result.now ≡ self.now.stage }
     {
         &self.stage
+    }
+
+    /// Returns a snapshot of the world, of boot 1. Returns `None` if the stage is spoiled, or memory
+    /// is refused.
+    pub fn snapshot(&self) -> Option<Shot>
+        ensures { IfSome result (IsTaken self.now.mark self.now.stage) }
+    {
+        taken(&self.stage, &self.mark)
     }
 
     /// Returns how many rests ended at a send of a piece that failed, up to 2^64 - 1.

@@ -17,9 +17,9 @@ use std::marker::Model;
 /// The boot of the snapshot: a viewer that joins has a later one.
 const BOOT: u32 = 1;
 
-/// A snapshot of a stage.
+/// A snapshot of the world of a host.
 #[derive(Drop)]
-pub(crate) struct Shot {
+pub struct Shot {
     bytes: Vec<u8>,
     /// How many inputs its world has.
     inputs: u64,
@@ -62,14 +62,15 @@ impl Shot {
         }
     }
 
-    pub(crate) fn bytes(&self) -> &[u8]
+    /// Returns its bytes.
+    pub fn bytes(&self) -> &[u8]
         ensures { result.now ≡ self.now.bytes }
     {
         &self.bytes
     }
 
     /// Returns how many inputs its world has.
-    pub(crate) fn inputs(&self) -> u64
+    pub fn inputs(&self) -> u64
         ensures { result ≡ self.now.inputs }
     {
         self.inputs

@@ -20,7 +20,7 @@ use Rattle.share_law.specs.declared.fault.NumberFault.TheVariants as number_faul
 use Rattle.share_rules.specs.declared.offers.Standing.{Standing}
 use Rattle.share_rules.specs.declared.offers.Standing.TheVariants as turn
 use Rattle.share_rules.specs.Offers.{standing_of}
-use Rattle.share_law.specs.declared.kept.SeatCount.{SeatCount}
+use Rattle.share_rules.specs.declared.kept.SeatCount.{SeatCount}
 use Rattle.share_law.specs.declared.reply.HostReply.{HostReply}
 use Rattle.share_law.specs.declared.reply.HostReply.TheVariants as reply
 use Rattle.share_law.specs.Host.{HostState, count_for, host_clock, host_take, reply_before, reply_of}

@@ -9,3 +9,6 @@ pub mod Turning
 pub mod Places
 pub mod Dropping
 pub mod Resting
+pub mod Behind
+pub mod Bases
+pub mod Ranges

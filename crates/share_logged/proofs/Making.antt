@@ -11,7 +11,7 @@ use Rattle.share_entries.specs.declared.entry.Source.{Source}
 use Rattle.share_entries.specs.declared.entry.Source.TheVariants.{Clock, Offer}
 use Rattle.share_law.specs.declared.fault.HostFault.{HostFault}
 use Rattle.share_law.specs.declared.fault.NumberFault.{NumberFault}
-use Rattle.share_law.specs.declared.kept.SeatCount.{SeatCount}
+use Rattle.share_rules.specs.declared.kept.SeatCount.{SeatCount}
 use Rattle.share_law.specs.declared.reply.HostReply.{HostReply}
 use Rattle.share_law.specs.declared.reply.HostReply.TheVariants.{Numbered}
 use Rattle.share_law.specs.Host.{HostState, clocked, last_time, new_host, number_fault, numbered, offer_answered, offer_came, offer_numbered, reply_before, reply_of}
@@ -49,7 +49,7 @@ kept-push kept es e = ap (kept_after kept) (logged_from-push 1 es e) ∙ kept-ap
 
 -- ---- what a host numbers
 
-clocked-ok : (h : HostState) (t : ℤ) (f : Option NumberFault) (n : ℕ) (new : HostState) → clocked h t f ≡ (Ok n, new) → new ≡ record h { list = numbered h.list t cause.Clock }
+pub clocked-ok : (h : HostState) (t : ℤ) (f : Option NumberFault) (n : ℕ) (new : HostState) → clocked h t f ≡ (Ok n, new) → new ≡ record h { list = numbered h.list t cause.Clock }
 clocked-ok h t (Some fault) n new e =
     let a : Err fault ≡ Ok n = ap (λ (r : Result ℕ NumberFault × HostState). r.0) e in absurd (cc)
 clocked-ok h t None n new e = sym (ap (λ (r : Result ℕ NumberFault × HostState). r.1) e)
@@ -74,7 +74,7 @@ answered-ok h o turn.Repeat n new e = let a = ap (λ (r : Result HostReply HostF
 answered-ok h o turn.Ahead n new e = let a = ap (λ (r : Result HostReply HostFault × HostState). r.0) e in absurd (cc)
 answered-ok h o turn.Next n new e = numbered-ok h o (number_fault h.list (last_time h.list +ℤ pos 1)) n new e
 
-came-ok : (h : HostState) (o : OfferView) (k : Option SeatCount) (n : ℕ) (new : HostState) → offer_came h o k ≡ (Ok (Numbered n), new) → new ≡ offered h o
+pub came-ok : (h : HostState) (o : OfferView) (k : Option SeatCount) (n : ℕ) (new : HostState) → offer_came h o k ≡ (Ok (Numbered n), new) → new ≡ offered h o
 came-ok h o None n new e = let a = ap (λ (r : Result HostReply HostFault × HostState). r.0) e in absurd (cc)
 came-ok h o (Some k) n new e = answered-ok h o _ n new e
 

@@ -8,7 +8,7 @@ use Rattle.share_wire.specs.Decoding.{decoded}
 use Rattle.share_wire.specs.declared.message.Body.{Body}
 use Rattle.share_entries.specs.Entry.{EntryView}
 use Rattle.share_law.specs.declared.fault.HostFault.{HostFault}
-use Rattle.share_law.specs.declared.kept.SeatCount.{SeatCount}
+use Rattle.share_rules.specs.declared.kept.SeatCount.{SeatCount}
 use Rattle.share_law.specs.declared.reply.HostReply.{HostReply}
 use Rattle.share_law.specs.declared.reply.HostReply.TheVariants as reply
 use Rattle.share_law.specs.Host.{host_packet, input_packet, new_host}

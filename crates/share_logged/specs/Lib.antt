@@ -3,6 +3,7 @@ pub mod Making
 pub mod Entries
 pub mod Following
 pub mod Resuming
+pub mod Bases
 pub mod Hosting
 pub mod Turn
 pub mod Notes

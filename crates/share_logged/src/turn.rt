@@ -1,7 +1,8 @@
 //! A turn of a host over a log.
 
-ghost use Rattle.std.specs.Prelude.{◌≡◌, ◌≢◌, ◌+◌, ◌-◌, ◌^◌, ◌++◌, ◌≤◌, ℕ, [], Err, IfErr, IfOk, IsTrue};
-ghost use Rattle.std.specs.Prelude.{OnErr, OnOk, is_ok, length, min, pos, ◌≤ℤ◌};
+ghost use Rattle.std.specs.Prelude.{◌≡◌, ◌≢◌, ◌+◌, ◌-◌, ◌^◌, ◌++◌, ◌≤◌, ℕ, List, [], Err, IfErr, IfOk};
+ghost use Rattle.std.specs.Prelude.{IsTrue, OnErr, OnOk, is_ok, length, min, pos, ◌≤ℤ◌};
+ghost use Rattle.share_entries.specs.Entry.{EntryView};
 ghost use Rattle.share_store.specs.OneLog.{Last, max_entries};
 ghost use Rattle.share_core.specs.Host.{AreNumbered};
 ghost use Rattle.share_turns.specs.Exchanges.{AreSent};
@@ -198,14 +199,16 @@ pub fn logged_turn<L: Log, P: Learns>(
     ensures ended { IfErr result (λ fault. IsLoggedEnd hosting.mark clock fault
         (L.is_clean log.new) (L.known log.old) (L.known log.new) (P.told port.old)
         (P.told port.new) hosting.part nobody) }
-    // The host stays the one that the log's entries make.
-    ensures current { IfOk result (λ h. (viewers : ℕ) → IsTrue (L.is_clean log.new)
-        → IsOfLog viewers (L.known log.old) hosting.part
-        → IsOfLog viewers (L.known log.new) h.part) }
+    // The host stays the one that the log's entries make, of which those `below` may be known by a
+    // base alone.
+    ensures current { IfOk result (λ h. (viewers : ℕ) (below : List EntryView)
+        → IsTrue (L.is_clean log.new) → IsOfLog viewers (below ++ L.known log.old) hosting.part
+        → IsOfLog viewers (below ++ L.known log.new) h.part) }
     // Each datagram that was sent is of entries that the log has stored.
-    ensures shown { (viewers : ℕ) → IsTrue (L.is_clean log.new)
-        → IsOfLog viewers (L.known log.old) hosting.part
-        → Shows hosting.mark viewers (L.known log.new) (P.told port.old) (P.told port.new) }
+    ensures shown { (viewers : ℕ) (below : List EntryView) → IsTrue (L.is_clean log.new)
+        → IsOfLog viewers (below ++ L.known log.old) hosting.part
+        → Shows hosting.mark viewers (below ++ L.known log.new) (P.told port.old)
+        (P.told port.new) }
     ensures open { OnOk result (IsTrue (L.is_open log.new)) }
     ensures clean { IsTrue (L.is_clean log.new) → IsTrue (L.is_clean log.old) }
     // Whatever a crash leaves has the entries that the log knows.

@@ -1,6 +1,6 @@
 -- What holds of a table of addresses.
 use Rattle.std.proofs.Common.{◌≡◌, ◌<◌, ◌≤◌, ◌+◌, ◌-◌, ◌%◌, ◌∙◌, ℕ, zero, suc, List, Option, Some, None, true, false, nat_lt, nat_eq, length, replicate}
-use Rattle.std.proofs.Common.{◌⊎◌, get_or, slice_set, refl, sym, ap, subst, arith, inl, inr, ne_eqb}
+use Rattle.std.proofs.Common.{◌⊎◌, slice_set, refl, sym, ap, subst, arith, inl, inr, ne_eqb}
 use Rattle.std.proofs.lemmas.Bool.{cases_Bool, cases_eq, ltb-true, ltb-false}
 use Rattle.std.proofs.lemmas.List.{get_or_past, get_or-set_same, get_or-set_other}
 use Rattle.std.proofs.Math.Nat.{add-mod_right, mod-eq_of_lt}

@@ -1,6 +1,6 @@
 -- A host stays ahead of its log, and the log grows by what is stored.
-use Rattle.std.proofs.Common.{◌≡◌, ℕ, suc, zero, ℤ, ◌+◌, ◌-◌, ◌≤◌, ◌<◌, Bool, true, false, cond, inl, inr, List, [], ◌∷◌, ◌++◌, length, length-append, refl, ap, sym, ◌∙◌, subst, arith, append_assoc, append-nil}
-use Rattle.std.specs.Prelude.{Option, Some, None, Result, Ok, Err, nat_lt, if◌then◌else◌, ◌^◌, min, drop}
+use Rattle.std.proofs.Common.{◌≡◌, ℕ, ℤ, ◌+◌, ◌-◌, ◌≤◌, Bool, true, false, cond, inl, inr, List, [], ◌∷◌, ◌++◌, length, length-append, refl, ap, sym, ◌∙◌, subst, arith, append_assoc, append-nil}
+use Rattle.std.specs.Prelude.{Option, Some, None, Result, Ok, Err, nat_lt, if◌then◌else◌, drop}
 use Rattle.std.proofs.lemmas.Bool.Decides.{nat_tests}
 use Rattle.share_entries.specs.Entry.{EntryView}
 use Rattle.share_wire.specs.declared.message.Body.{Body}
@@ -11,13 +11,13 @@ use Rattle.share_law.specs.declared.fault.FloorFault.{FloorFault}
 use Rattle.share_law.specs.declared.fault.FloorFault.TheVariants.{FloorAhead, FloorBack}
 use Rattle.share_law.specs.declared.fault.HostFault.{HostFault}
 use Rattle.share_law.specs.declared.fault.NumberFault.{NumberFault}
-use Rattle.share_law.specs.declared.kept.SeatCount.{SeatCount}
+use Rattle.share_rules.specs.declared.kept.SeatCount.{SeatCount}
 use Rattle.share_law.specs.declared.reply.HostReply.{HostReply}
 use Rattle.share_law.specs.Host.{new_host}
 use Rattle.share_law.specs.Parts.{HostPart, part_drop_below, part_of}
 use Rattle.share_turns.specs.Ends.{floor_for}
 use Rattle.share_turns.specs.Heard.{lowest}
-use Rattle.laws_hosts.specs.Log.{host_of, inputs_of, kept_after}
+use Rattle.laws_hosts.specs.Log.{host_of, inputs_of}
 use Rattle.share_logged.specs.Logged.{logged}
 use Rattle.share_logged.specs.Making.{IsLogOf, IsOfLog}
 use Rattle.share_logged.specs.Turn.{clock_entries, is_numbered, offer_entries, read_entries}

@@ -1,10 +1,10 @@
 -- What is kept of each viewer, by the entries of a log.
-use Rattle.std.proofs.Common.{◌≡◌, ℕ, zero, suc, ℤ, ◌+◌, ◌-◌, ◌<◌, ◌≤◌, List, [], ◌∷◌, ◌++◌, get_or, length, take, refl, ap, sym, ◌∙◌, arith}
-use Rattle.std.specs.Prelude.{Option, Some, None, IfSome, slice_get, slice_set}
+use Rattle.std.proofs.Common.{◌≡◌, ℕ, zero, suc, ◌+◌, ◌-◌, ◌<◌, ◌≤◌, List, [], ◌∷◌, ◌++◌, get_or, length, take, refl, ap, sym, ◌∙◌, arith}
+use Rattle.std.specs.Prelude.{Option, Some, None, IfSome, slice_get}
 use Rattle.share_entries.specs.Entry.{EntryView}
 use Rattle.share_entries.specs.declared.entry.Source.{Source}
 use Rattle.share_entries.specs.declared.entry.Source.TheVariants.{Clock, Offer}
-use Rattle.share_law.specs.declared.kept.SeatCount.{SeatCount}
+use Rattle.share_rules.specs.declared.kept.SeatCount.{SeatCount}
 use Rattle.laws_hosts.specs.Log as log
 use Rattle.share_logged.specs.Logged.{cause_of, entry_at, logged_from}
 use Rattle.share_logged.proofs.Resuming.{take-push}

@@ -8,7 +8,7 @@ use Rattle.x3d_values.specs.Stamp.{StampedView}
 use Rattle.share_wire.specs.declared.message.Body.{Body}
 use Rattle.share_wire.specs.declared.message.Body.TheVariants.{Floor, Input}
 use Rattle.share_entries.specs.Entry.{EntryView}
-use Rattle.share_law.specs.declared.kept.SeatCount.{SeatCount}
+use Rattle.share_rules.specs.declared.kept.SeatCount.{SeatCount}
 use Rattle.share_law.specs.Host.{ack_of, host_packet, input_packet}
 use Rattle.share_law.specs.Parts.{HostPart, part_packet}
 use Rattle.share_law.proofs.Parts.{part_packet-host}

@@ -1,12 +1,12 @@
 -- What a call on the fields leaves of the whole.
-use Rattle.std.proofs.Common.{◌≡◌, ℕ, ℤ, ◌+◌, ◌-◌, Bool, true, false, List, [], refl, ap, sym, ◌∙◌, subst}
+use Rattle.std.proofs.Common.{◌≡◌, ℕ, ℤ, ◌+◌, ◌-◌, Bool, true, false, List, [], refl, ap, sym, ◌∙◌}
 use Rattle.std.specs.Prelude.{Result, if◌then◌else◌, ◌^◌, min}
 use Rattle.share_entries.specs.Entry.{EntryView}
 use Rattle.share_wire.specs.declared.fault.WireFault.{WireFault}
 use Rattle.share_wire.specs.declared.message.Message.{Message}
 use Rattle.share_law.specs.declared.fault.HostFault.{HostFault}
 use Rattle.share_law.specs.declared.fault.NumberFault.{NumberFault}
-use Rattle.share_law.specs.declared.kept.SeatCount.{SeatCount}
+use Rattle.share_rules.specs.declared.kept.SeatCount.{SeatCount}
 use Rattle.share_law.specs.declared.reply.HostReply.{HostReply}
 use Rattle.share_law.specs.Parts.{HostPart}
 use Rattle.share_pending.specs.Kept.{kept_with}

@@ -3,7 +3,7 @@ use Rattle.std.specs.Prelude.{ℕ, List, [], ◌∷◌, replicate, slice_set}
 use Rattle.share_entries.specs.Entry.{EntryView}
 use Rattle.share_entries.specs.declared.entry.Source.{Source}
 use Rattle.share_entries.specs.declared.entry.Source.TheVariants.{Clock, Offer}
-use Rattle.share_law.specs.declared.kept.SeatCount.{SeatCount}
+use Rattle.share_rules.specs.declared.kept.SeatCount.{SeatCount}
 
 abbrev pub kept_by : List SeatCount → Source → List SeatCount
 kept_by kept Clock = kept

@@ -1,5 +1,5 @@
 -- The entries that bytes have, one after another.
-use Rattle.std.specs.Prelude.{◌≡◌, ◌≢◌, ◌⊎◌, ℕ, ◌+◌, ◌≤◌, List, [], ◌++◌, length, Option, None, ⊤}
+use Rattle.std.specs.Prelude.{◌≡◌, ◌≢◌, ◌⊎◌, ℕ, ◌+◌, ◌≤◌, List, [], ◌++◌, length, None, ⊤}
 use Rattle.std.specs.List.{flat_map}
 use Rattle.x3d_values.specs.Ranges.{max_inputs}
 use Rattle.share_entries.specs.Entry.{EntryView, entry_codec}

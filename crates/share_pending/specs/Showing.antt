@@ -6,7 +6,7 @@ use Rattle.share_wire.specs.declared.message.Body.{Body}
 use Rattle.share_law.specs.declared.fault.FloorFault.{FloorFault}
 use Rattle.share_law.specs.declared.fault.FloorFault.TheVariants.{FloorAhead}
 use Rattle.share_law.specs.declared.fault.HostFault.{HostFault}
-use Rattle.share_law.specs.declared.kept.SeatCount.{SeatCount}
+use Rattle.share_rules.specs.declared.kept.SeatCount.{SeatCount}
 use Rattle.share_law.specs.declared.reply.HostReply.{HostReply}
 use Rattle.share_law.specs.declared.reply.HostReply.TheVariants as reply
 use Rattle.share_law.specs.Host.{ack_of}

@@ -6,7 +6,7 @@ ghost use Rattle.share_pending.specs.Kept.{kept_by, kept_with, none_kept};
 
 use arrayvec::ArrayVec;
 use share_entries::{Entry, Source};
-use share_law::SeatCount;
+use share_rules::SeatCount;
 use x3d_values::MAX_VIEWERS;
 
 /// The largest number of viewers of a host.

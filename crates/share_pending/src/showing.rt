@@ -11,7 +11,8 @@ ghost use Rattle.share_pending.specs.Showing.{shown_reply, shown_run, stored_dro
 use crate::kept::Kept;
 use crate::waiting::Waiting;
 use share_core::Host;
-use share_law::{FloorFault, HostFault, HostReply, SeatCount};
+use share_law::{FloorFault, HostFault, HostReply};
+use share_rules::SeatCount;
 use share_turns::{Heard, floor_for};
 use share_wire::{Ack, Body, Message, Packet, encode};
 

@@ -17,7 +17,7 @@ use Rattle.snapshot_core.specs.declared.fault.SaveFault.TheVariants as save_faul
 use Rattle.snapshot_core.specs.Shot.{shot}
 use Rattle.snapshot_core.specs.declared.head.ShotHead.{ShotHead}
 use Rattle.snapshot_core.proofs.ShotHeads.{head_of_shot}
-use Rattle.share_law.specs.declared.kept.SeatCount.{SeatCount}
+use Rattle.share_rules.specs.declared.kept.SeatCount.{SeatCount}
 use Rattle.share_law.specs.declared.step.Step.{Step}
 use Rattle.share_law.specs.declared.step.Step.TheVariants.{HostClock, HostPacket, HostAck, HostTake, HostDropBelow, HostFloorPacket, PiecePacket, ViewerOffer, ViewerResend, ViewerAsk, ViewerTake, ViewerSave, ViewerRewind, ViewerGather, ViewerJoin, ViewerForget}
 use Rattle.share_law.specs.Calls.{IsPartClocked, IsPartTakeOf}

@@ -18,7 +18,7 @@ use Rattle.share_law.specs.declared.fault.JoinFault.{JoinFault}
 use Rattle.share_law.specs.declared.fault.NumberFault.{NumberFault}
 use Rattle.share_law.specs.declared.fault.HostFault.{HostFault}
 use Rattle.share_law.specs.declared.fault.TakeFault.{TakeFault}
-use Rattle.share_law.specs.declared.kept.SeatCount.{SeatCount}
+use Rattle.share_rules.specs.declared.kept.SeatCount.{SeatCount}
 use Rattle.share_law.specs.declared.reply.Gathered.{Gathered}
 use Rattle.share_law.specs.declared.reply.HostReply.{HostReply}
 use Rattle.share_law.specs.declared.reply.Taken.{Taken}

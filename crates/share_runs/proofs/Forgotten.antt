@@ -1,12 +1,8 @@
 -- Chains of a log that stay are still of that log.
-use Rattle.std.proofs.Common.{arith, ◌≡◌, ◌≤◌, ◌+◌, ◌-◌, ℕ, zero, suc, Bool, true, false, List, [], ◌∷◌, drop, Option, Some, None, refl, sym, ap, ◌∙◌, leb-true, le-leb, if◌then◌else◌}
+use Rattle.std.proofs.Common.{arith, ◌≡◌, ◌≤◌, ◌+◌, ◌-◌, ℕ, zero, suc, Bool, true, false, List, [], ◌∷◌, drop, Some, None, refl, sym, ap, ◌∙◌, leb-true, le-leb, if◌then◌else◌}
 use Rattle.std.specs.Prelude.{nat_le, slice_get}
-use Rattle.share_entries.specs.Chain.{chain_after}
-use Rattle.share_entries.specs.Entry.{EntryView}
-use Rattle.share_runs.specs.declared.known.KnownList.{KnownList}
-use Rattle.share_runs.specs.Forgetting.{Forgets, StaysOfLog}
+use Rattle.share_runs.specs.Forgetting.{StaysOfLog}
 use Rattle.share_runs.specs.Known.{chain_in}
-use Rattle.share_runs.specs.Laws.{AreOfLog}
 
 get-drop : {X : Type 0} (k : ℕ) (xs : List X) (i : ℕ) → slice_get (drop k xs) i ≡ slice_get xs (k + i)
 get-drop zero xs i = ap (slice_get xs) (sym (omega arith))

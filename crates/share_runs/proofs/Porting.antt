@@ -23,7 +23,7 @@ use Rattle.share_runs.specs.declared.view_port.Handing.{Handing}
 use Rattle.share_runs.specs.declared.view_port.Handing.TheVariants.{Dropped}
 use Rattle.share_runs.specs.declared.viewer_run.Early.{Early}
 use Rattle.share_runs.specs.declared.viewer_run.ViewerRun.{ViewerRun}
-use Rattle.share_runs.specs.Hearing.{MayHold, IsDue, IsDueInput, IsHeard, IsReleased, IsTaken, KnowsMore, early_of, is_due, is_needed, kept_of}
+use Rattle.share_runs.specs.Hearing.{MayHold, IsDue, IsDueInput, IsHeard, IsReleased, IsTaken, KnowsMore, early_of, is_due, is_needed}
 use Rattle.share_runs.specs.Port.{HasCome, HaveCome, IsRecorded, Hears, IsBytesTaken, handed_in, handed_of}
 use Rattle.share_runs.specs.Steps.{said_step, step_of}
 use Rattle.share_runs.proofs.Knowing.{is_heard, keeps}

@@ -21,14 +21,19 @@ start_at starts n = option_map (λ p. p.chain) (find (starts_at n) starts)
 abbrev pub chain_at : (from : ℕ) → List (List ℕ) → List Prefix → ℕ → Option (List ℕ)
 chain_at from chains starts n = option_or (chain_in from chains n) (start_at starts n)
 
--- a viewer that knows no chains and asks for the input after n starts from the chain there
-abbrev pub start_from : (from : ℕ) → Option (List ℕ) → ℕ → ℕ × List (List ℕ)
-start_from from None n = (from, [])
-start_from from (Some chain) n = (n, chain ∷ [])
+-- a viewer that asks for the input after n starts from the chain there, if it may
+abbrev pub start_from : (from : ℕ) → List (List ℕ) → Option (List ℕ) → ℕ → ℕ × List (List ℕ)
+start_from from chains None n = (from, chains)
+start_from from chains (Some chain) n = (n, chain ∷ [])
+
+-- unless the chain after n inputs is among those that it knows
+abbrev pub begun_at : (known : Option (List ℕ)) → (from : ℕ) → List (List ℕ) → List Prefix → ℕ
+    → ℕ × List (List ℕ)
+begun_at None from chains starts n = start_from from chains (start_at starts n) n
+begun_at (Some chain) from chains starts n = (from, chains)
 
 abbrev pub begun : (from : ℕ) → List (List ℕ) → List Prefix → ℕ → ℕ × List (List ℕ)
-begun from [] starts n = start_from from (start_at starts n) n
-begun from (c ∷ cs) starts n = (from, c ∷ cs)
+begun from chains starts n = begun_at (chain_in from chains n) from chains starts n
 
 -- an input with a number after the next one
 abbrev pub is_early : (from : ℕ) → List (List ℕ) → ℕ → Bool

@@ -158,9 +158,9 @@ impl KnownList {
         Ok(())
     }
 
-    /// Notes that the viewer asks for the input after `n`. If it knows no chains, it starts from
-    /// the chain after `n` inputs, if it may start there. Fails if memory is refused; then nothing
-    /// changes.
+    /// Notes that the viewer asks for the input after `n`. Unless it knows the chain after `n` inputs
+    /// it starts from the chain there, if it may: so does a viewer that joins, whatever it asked for
+    /// before. Fails if memory is refused; then nothing changes.
     pub(crate) fn begin(&mut self, n: u64) -> Result<(), AllocError>
         ensures starts { self.new.starts ≡ self.old.starts }
         ensures ok { OnOk result ((self.new.from, self.new.chains.items)
@@ -168,13 +168,29 @@ impl KnownList {
         ensures err { OnErr result ((self.new.from ≡ self.old.from)
             × (self.new.chains.items ≡ self.old.chains.items)) }
     {
-        if !self.chains.is_empty() {
+        if self.chain_in(n).is_some() {
             return Ok(());
         }
-        let Some(chain) = start_at(&self.starts, n) else {
-            return Ok(());
-        };
-        self.chains.push(chain)?;
+        match start_at(&self.starts, n) {
+            Some(chain) => self.begin_with(n, chain),
+            None => Ok(()),
+        }
+    }
+
+    /// Knows the chain after `n` inputs alone. Fails if memory is refused; then nothing changes.
+    fn begin_with(&mut self, n: u64, chain: Chain) -> Result<(), AllocError>
+        ensures starts { self.new.starts ≡ self.old.starts }
+        ensures ok { OnOk result
+            ((self.new.from ≡ n) × (self.new.chains.items ≡ chain ∷ [])) }
+        ensures err { OnErr result ((self.new.from ≡ self.old.from)
+            × (self.new.chains.items ≡ self.old.chains.items)) }
+    {
+        if self.chains.is_empty() {
+            self.chains.push(chain)?;
+        } else {
+            self.chains.truncate(1);
+            self.chains[0] = chain;
+        }
         self.from = n;
         Ok(())
     }

@@ -1,5 +1,5 @@
 -- A log in memory: one list, and how far each of its handles has read.
-use Rattle.std.specs.Prelude.{◌≡◌, ◌⊎◌, ◌++◌, ℕ, Bool, true, false, List, map, take, slice_get, Option, None, Some, Result, IsTrue, IsErrOf, OnOk, OnErr}
+use Rattle.std.specs.Prelude.{◌≡◌, ◌⊎◌, ◌++◌, ℕ, Bool, false, List, map, take, slice_get, Option, None, Some, Result, IsTrue, IsErrOf, OnOk, OnErr}
 use Rattle.share_entries.specs.Entry.{EntryView}
 use Rattle.share_store.specs.OneLog.{Begins}
 use Rattle.share_store.specs.declared.fault.AppendFault.{AppendFault}

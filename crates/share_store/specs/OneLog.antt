@@ -1,6 +1,6 @@
 -- The log is one list: what each of its handles knows is a prefix of the list that the log is. What
 -- one handle stored or read stays there, at its number, for every other.
-use Rattle.std.specs.Prelude.{◌≡◌, ℕ, List, ◌++◌, slice_get, Option, Some}
+use Rattle.std.specs.Prelude.{◌≡◌, ℕ, List, ◌++◌, slice_get, Some}
 use Rattle.share_entries.specs.Entry.{EntryView}
 
 -- `longer` is `known` and then zero or more entries

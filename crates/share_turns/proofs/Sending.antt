@@ -8,7 +8,7 @@ use Rattle.std.proofs.lemmas.List.{map-append}
 use Rattle.std.proofs.lemmas.Option.{none-some, same_Some, slice_get_past}
 use Rattle.share_wire.specs.Datagram.{datagram}
 use Rattle.share_wire.specs.declared.message.Body.{Body}
-use Rattle.share_law.specs.declared.kept.SeatCount.{SeatCount}
+use Rattle.share_rules.specs.declared.kept.SeatCount.{SeatCount}
 use Rattle.share_law.specs.Host.{ack_of}
 use Rattle.share_law.specs.Parts.{HostPart, part_packet}
 use Rattle.share_turns.specs.declared.port.PortFault.{PortFault}

@@ -1,5 +1,5 @@
 -- Turns of a viewer, one after another.
-use Rattle.std.proofs.Common.{◌≡◌, ℕ, suc, ◌+◌, ◌<◌, ◌++◌, Bool, List, refl, ap, ◌∙◌, subst, arith}
+use Rattle.std.proofs.Common.{◌≡◌, ℕ, suc, ◌+◌, ◌<◌, ◌++◌, Bool, List, refl, ap, subst, arith}
 use Rattle.std.specs.Prelude.{Option, Result, Ok, Err, slice_get}
 use Rattle.x3d_values.specs.declared.pointing.Point.{Point}
 use Rattle.cascade_core.specs.declared.fault.TextFault.{TextFault}

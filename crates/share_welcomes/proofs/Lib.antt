@@ -1,4 +1,5 @@
 mod Links
 mod OfLog
+mod Boots
 mod Telling
 mod Unheard

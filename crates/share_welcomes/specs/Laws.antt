@@ -1,7 +1,9 @@
 -- What a port sends is of the log whose entries it learns, whatever it has dropped.
 use Rattle.std.specs.Prelude.{◌≡◌, ◌≤◌, ℕ, List, [], ◌++◌, IfSome, length, take, ⊤}
+use Rattle.share_entries.specs.Base.{BaseView}
 use Rattle.share_entries.specs.Entry.{EntryView}
 use Rattle.share_entries.specs.Chain.{chain_after}
+use Rattle.share_logged.specs.Bases.{IsBaseOf}
 use Rattle.share_session.specs.Follows.{IsOfLog}
 use Rattle.share_session.specs.declared.message.Body2.{Body2}
 use Rattle.share_session.specs.declared.message.Body2.TheVariants.{Input, Offer, Ask, Ack, Floor, Piece}
@@ -9,7 +11,7 @@ use Rattle.share_session.specs.declared.message.Message2.{Message2}
 use Rattle.share_session.specs.declared.message.Message2.TheVariants.{Said, Hello, Welcome}
 use Rattle.share_welcomes.specs.declared.host_run.HostRun.{HostRun}
 use Rattle.share_welcomes.specs.Answers.{in_two}
-use Rattle.share_welcomes.specs.Learned.{LearnedView, boots_after, dropped_below, learned_more, no_boots, none_learned}
+use Rattle.share_welcomes.specs.Learned.{LearnedView, base_learned, boots_after, dropped_below, learned_more, no_boots, none_learned}
 
 -- what a port knows of the log of its run with these entries; `old` are those that it dropped
 pub record IsLearnedOf (log : List EntryView) (l : LearnedView) : Type 0 where
@@ -23,6 +25,12 @@ pub record IsLearnedOf (log : List EntryView) (l : LearnedView) : Type 0 where
 
 abbrev pub BeginsOfLog : Type 0
 BeginsOfLog = (run : List ℕ) → IsLearnedOf [] (none_learned run)
+
+-- a port that begins with the base of entries of its run's log
+abbrev pub BaseIsOfLog : Type 0
+BaseIsOfLog =
+    (run : List ℕ) (viewers : ℕ) (below : List EntryView) (base : BaseView)
+    → IsBaseOf run viewers below base → IsLearnedOf below (base_learned run base)
 
 abbrev pub LearnsOfLog : Type 0
 LearnsOfLog =

@@ -1,6 +1,8 @@
 -- The entries of a log that a port has learned and may still send, with their chains.
 use Rattle.std.specs.Prelude.{ℕ, ◌+◌, ◌-◌, ◌++◌, ◌&&◌, Bool, List, [], ◌∷◌, length, map, min, take, drop, replicate, nat_le, nat_lt, slice_get, slice_set, get_or, Option, None, Some, if◌then◌else◌}
 use Rattle.std.specs.List.{fold}
+use Rattle.share_rules.specs.declared.kept.SeatCount.{SeatCount}
+use Rattle.share_entries.specs.Base.{BaseView}
 use Rattle.share_entries.specs.Entry.{EntryView}
 use Rattle.share_entries.specs.declared.entry.Source.{Source}
 use Rattle.share_entries.specs.declared.entry.Source.TheVariants.{Clock, Offer}
@@ -74,6 +76,20 @@ last_boot who l = get_or l.boots who 0
 abbrev pub none_learned : (run : List ℕ) → LearnedView
 none_learned run =
     record { run = run; dropped = 0; before = run; entries = []; boots = no_boots }
+
+-- the boots that a base keeps of its viewers
+abbrev pub boots_of : List SeatCount → List ℕ
+boots_of kept = take 64 (map (λ (k : SeatCount). k.boot) kept ++ no_boots)
+
+-- what is known of a run whose log has this base and no entries after it
+abbrev pub base_learned : (run : List ℕ) → BaseView → LearnedView
+base_learned run base = record {
+  run = run;
+  dropped = base.number;
+  before = base.chain;
+  entries = [];
+  boots = boots_of base.kept;
+}
 
 abbrev pub learned_more : LearnedView → List EntryView → LearnedView
 learned_more l es =

@@ -1,10 +1,16 @@
 //! Laws of what a port has learned of a log: it stays that of the log, and so is what it sends.
 
-ghost use Rattle.share_welcomes.specs.Laws.{BeginsOfLog, DropsOfLog, LearnsOfLog, SendsOfLog};
+ghost use Rattle.share_welcomes.specs.Laws.{BaseIsOfLog, BeginsOfLog, DropsOfLog, LearnsOfLog};
+ghost use Rattle.share_welcomes.specs.Laws.{SendsOfLog};
 
 /// What is known of a run that has no entries is that of the empty log.
 pub fn nothing_is_of_the_log()
     ensures { BeginsOfLog }
+{}
+
+/// What is known of a log's base is that of the entries for which it stands.
+pub fn a_base_is_of_the_log()
+    ensures { BaseIsOfLog }
 {}
 
 /// What is known after the log's next entries were learned is that of the log with these.

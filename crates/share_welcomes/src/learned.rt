@@ -1,12 +1,14 @@
 //! The entries of a log that a port has learned and may still send, with their chains.
 
-ghost use Rattle.std.specs.Prelude.{◌≡◌, ◌-◌, ℕ, List, min};
+ghost use Rattle.std.specs.Prelude.{◌≡◌, ◌≤◌, ◌-◌, ℕ, List, length, min};
+ghost use Rattle.x3d_values.specs.Ranges.{max_viewers};
 ghost use Rattle.share_entries.specs.Chain.{chain_after};
 ghost use Rattle.share_entries.specs.Entry.{EntryView};
 ghost use Rattle.share_welcomes.specs.Learned.{linked};
 ghost use Rattle.share_welcomes.specs.Learned as spec;
 
-use share_entries::{Chain, Entry, Source, link};
+use share_entries::{Base, Chain, Entry, Source, link};
+use share_rules::SeatCount;
 use share_session::{Input2, Number, Run};
 use std::alloc::{AllocError, Global};
 use std::marker::Model;
@@ -71,6 +73,18 @@ fn note_boot(boots: &mut [u32; PLACES], entry: &Entry)
     boots[who as usize] = offer.boot();
 }
 
+/// Returns the boots that a base keeps of its viewers.
+fn boots_of(kept: &[SeatCount]) -> [u32; PLACES]
+    requires { length kept.now ≤ max_viewers }
+    ensures { result ≡ spec.boots_of kept.now }
+{
+    let mut boots = [0; PLACES];
+    for (place, seat) in kept.iter().enumerate() {
+        boots[place] = seat.boot;
+    }
+    boots
+}
+
 /// Returns how many entries are below the number of an input, if `dropped` others were dropped and
 /// `kept` are kept.
 fn gone_below(floor: u64, dropped: u64, kept: usize) -> usize
@@ -115,6 +129,20 @@ impl Learned {
             links: Vec::new(alloc),
             next: run,
             boots: [0; PLACES],
+        }
+    }
+
+    /// Returns what is known of a run whose log has this base and no entries after it.
+    pub fn from_base(alloc: Global, run: Run, base: &Base) -> Learned
+        ensures { result ≡ spec.base_learned run base.now }
+    {
+        Learned {
+            run,
+            dropped: base.number(),
+            before: base.chain(),
+            links: Vec::new(alloc),
+            next: base.chain(),
+            boots: boots_of(base.kept()),
         }
     }
 

@@ -21,7 +21,7 @@ mod versions;
 
 pub use host_run::{Coming, HostRun};
 pub use laws::{
-    dropping_keeps_the_log, learning_keeps_the_log, nothing_is_of_the_log,
+    a_base_is_of_the_log, dropping_keeps_the_log, learning_keeps_the_log, nothing_is_of_the_log,
     what_is_sent_is_of_the_log,
 };
 pub use learned::Learned;

@@ -1,20 +1,17 @@
 //! The port of a host in its run.
 
-ghost use Rattle.std.specs.Prelude.{◌≡◌, ℕ, IfOk, false, length};
+ghost use Rattle.std.specs.Prelude.{◌≡◌};
 ghost use Rattle.share_turns.specs.Told.{one_more};
-ghost use Rattle.share_welcomes.specs.Laws.{IsLearnedOf};
-ghost use Rattle.share_welcomes.specs.Learned.{learned_more, none_learned};
-ghost use Rattle.share_welcomes.specs.Versions.{is_two};
+
+mod beginning;
 
 use crate::answering::{in_two, is_plain};
 use crate::front::put_message;
 use crate::host_run::{Coming, HostRun};
 use crate::learned::Learned;
 use crate::versions::Versions;
-use share_entries::Entry;
 use share_session::{Hello, Message2, encode as encode_two};
 use share_turns::{Port, PortFault, RECEIVED};
-use std::alloc::{AllocError, Global};
 
 /// The port of a host in its run. Above it all is in version 1. What came in version 2 is handed
 /// on in version 1, if it is of the host's session, and the peer's answers are then sent in version
@@ -33,38 +30,6 @@ pub struct HostPort<P> {
     pub(crate) learned: Learned,
     versions: Versions,
     failed: u64,
-}
-
-impl<P: Drop> HostPort<P> {
-    /// Returns the port of a host that begins with these entries of its run's log. The numbers of
-    /// its peers are below `peers`; another peer is answered in version 1. Fails if memory is
-    /// refused.
-    pub fn begin(
-        alloc: Global,
-        port: P,
-        run: HostRun,
-        peers: usize,
-        entries: &[Entry],
-    ) -> Result<HostPort<P>, AllocError>
-        ensures port { IfOk result (λ p. p.port ≡ port) }
-        ensures run { IfOk result (λ p. p.run ≡ run) }
-        ensures learned { IfOk result
-            (λ p. p.learned ≡ learned_more (none_learned run.run) entries.now) }
-        ensures log { IfOk result (λ p. IsLearnedOf entries.now p.learned) }
-        ensures versions { IfOk result (λ p. (peer : ℕ) → is_two p.versions peer ≡ false) }
-        ensures peers { IfOk result (λ p. length p.versions ≡ peers) }
-    {
-        let mut learned = Learned::none(alloc, run.run);
-        learned.learn(entries)?;
-        let versions = Versions::unheard(alloc, peers)?;
-        Ok(HostPort {
-            port,
-            run,
-            learned,
-            versions,
-            failed: 0,
-        })
-    }
 }
 
 impl<P> HostPort<P> {

@@ -1,8 +1,9 @@
 //! A host's port over a port in memory.
 
 use crate::{HostPort, HostRun};
-use share_entries::{Chain, Entry, Source, link};
+use share_entries::{Base, Chain, Entry, Source, link};
 use share_logged::Learns;
+use share_rules::SeatCount;
 use share_session::{
     Ask2, Body2, Hello, Message2, Number, Run, SeatNumber, ViewerCount, WorldName, decode, encode,
     session_of,
@@ -268,5 +269,35 @@ fn keeps_the_boots_of_dropped_offers(rt: HostRuntime) -> Result<(), Fail> {
     assert!(rt; hands_on(&mut port, packet.as_slice()));
     let welcome = hello.welcome([0; 8], RUN, ViewerCount::new(2), 7);
     assert!(rt; has_sent(&port, encode(&Message2::Welcome(welcome)).as_slice()));
+    Ok(())
+}
+
+/// The chain after the entries below `base`.
+const BELOW: Chain = [3; 16];
+
+/// A base of 5 entries of a log of two viewers, the first of which has boot 7.
+fn base() -> Base {
+    let seats = [
+        SeatCount { boot: 7, count: 3 },
+        SeatCount { boot: 0, count: 0 },
+    ];
+    Base::new(&seats, 5, 5, BELOW, [4; 32])
+}
+
+#[test]
+fn begins_from_a_base(rt: HostRuntime) -> Result<(), Fail> {
+    let inner = FakePort::failing_at(rt.alloc(), 0);
+    let later = [Entry::new(6, Source::Clock)];
+    let Ok(port) = HostPort::begin_from(rt.alloc(), inner, host_run()?, 10, &base(), &later) else {
+        return Err(Fail::from("memory was refused"));
+    };
+    let known = &port.learned;
+    assert!(rt; known.boot(0) == 7 && known.boot(1) == 0);
+    assert!(rt; known.chain(5) == Some(BELOW) && known.chain(4).is_none());
+    assert!(rt; known.input(5).is_none());
+    let Some(input) = known.input(6) else {
+        return Err(Fail::from("input 6 isn't known"));
+    };
+    assert!(rt; input.chain == BELOW && input.number.get() == 6);
     Ok(())
 }

@@ -1,5 +1,5 @@
 -- A datagram is for the world of its message, whatever seal follows.
-use Rattle.std.proofs.Common.{◌≡◌, ℕ, Bool, true, eqb, ltb, List, ◌∷◌, ◌++◌, length, Option, Some, Result, Ok, refl, sym, ap, ◌∙◌, arith, append_assoc, length-append}
+use Rattle.std.proofs.Common.{◌≡◌, ℕ, true, eqb, ltb, List, ◌∷◌, ◌++◌, length, Option, Some, Result, refl, ap, ◌∙◌, arith, append_assoc, length-append}
 use Rattle.std.specs.Prelude.{◌&&◌, codes}
 use Rattle.std.proofs.lemmas.Bool.{eqb-true, eq-eqb}
 use Rattle.byte_codec.specs.Codec.{fixed}
@@ -14,13 +14,11 @@ use Rattle.share_session.specs.declared.message.Message2.TheVariants as message
 use Rattle.share_session.specs.Names.{is_name}
 use Rattle.share_session.specs.Fields.{head_codec, seat_codec, name_codec, hello_codec}
 use Rattle.share_session.specs.Datagram.{body_tag, tag_of, body_text, rest_text, datagram, message_fits, body_fits}
-use Rattle.share_session.specs.Decoding.{decoded}
 use Rattle.share_session.proofs.DatagramLaws.{datagram_again}
 use Rattle.share_session.proofs.FieldLaws.{head_exact}
 use Rattle.share_worlds.specs.Laws.{WorldsAreTold}
 use Rattle.share_worlds.specs.Wanted.{by_head, by_tag, for_message, named, name_in, session_in, world_of}
-use Rattle.share_worlds.specs.declared.wanted.For.{For}
-use Rattle.share_worlds.specs.declared.wanted.For.TheVariants.{Session, Name, Nothing}
+use Rattle.share_worlds.specs.declared.wanted.For.TheVariants.{Session, Name}
 
 -- ---- a Hello has 128 bytes
 

@@ -1,5 +1,5 @@
 -- The port of a world, over two queues.
-use Rattle.std.specs.Prelude.{◌≡◌, ◌⊎◌, ℕ, ◌+◌, ◌-◌, ◌^◌, ◌*◌, ◌<◌, min, Bool, true, false, List, ◌++◌, ◌∷◌, [], length, take, Option, None, Some, Result, Ok, Err}
+use Rattle.std.specs.Prelude.{◌≡◌, ◌⊎◌, ℕ, ◌+◌, ◌-◌, ◌^◌, ◌*◌, ◌<◌, min, List, ◌++◌, ◌∷◌, [], length, take, Option, None, Some, Result, Ok, Err}
 use Rattle.std.specs.declared.net.socket_addr.SocketAddr.{SocketAddr}
 use Rattle.share_peers.specs.Table.{AllKept, IsAt, Table, count_of}
 use Rattle.share_turns.specs.Told.{one_more}

@@ -1,5 +1,5 @@
 -- The events that were sent, as bytes (our choice).
-use Rattle.std.specs.Prelude.{ℕ, ◌^◌, ◌++◌, ◌&&◌, ℤ, pos, Bool, false, List, Option, Some, None, int_le}
+use Rattle.std.specs.Prelude.{ℕ, ◌++◌, ◌&&◌, ℤ, pos, Bool, false, List, Option, Some, None, int_le}
 use Rattle.std.specs.Int.{w16, w32, w64}
 use Rattle.x3d_values.specs.Ranges.{max_time}
 use Rattle.byte_codec.specs.Codec.{Codec, named, depends, pair, counted, number, signed}

@@ -1,6 +1,6 @@
 -- The values of fields as bytes (our choice). Every value has defined bytes. A value is read back,
 -- by the type of its field, if it is in the range of that type.
-use Rattle.std.specs.Prelude.{ℕ, ◌^◌, ℤ, Bool, false, List, [], Option, Some, None, nat_le, unsigned_abs}
+use Rattle.std.specs.Prelude.{ℕ, ℤ, Bool, false, List, [], Option, Some, None, nat_le, unsigned_abs}
 use Rattle.std.specs.Int.{w32, w64}
 use Rattle.std.specs.Str.{is_utf8}
 use Rattle.x3d_values.specs.Ranges.{max_coordinate, max_time}

@@ -70,7 +70,7 @@ length8 : (n : ℕ) → length (number_text w64 n) ≡ 8
 unfolding number_text
 length8 n = wide64.len n
 
--- whether a version has a number for so many inputs
+-- whether a version can write this number of inputs
 abbrev has_number : Version → ℕ → Bool
 has_number version applied = (input_codec (numbers_of version)).fits applied
 

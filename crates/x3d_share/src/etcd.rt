@@ -10,9 +10,11 @@ use crate::hosts::{Starting, Turning, plan_of, read_clocks};
 use crate::logs::turns_over_log;
 use crate::reached::run_at;
 use crate::turns::HostTurns;
-use app_logs::{Entry, Head, LogFault, is_viewer_count, resumed, times_after};
-use app_serve::{End, drawn_run, etcd_at, world_end, world_of};
+use app_logs::{Base, Entry, Head, LogFault, is_viewer_count, resumed, times_after};
+use app_serve::{End, drawn_run, etcd_at, parts_of, stage_with, world_end, world_of};
 use app_words::{HostOrder, Order, OrderFault};
+use cascade_core::Stage;
+use script_boxes::StockScript;
 use share_engine::{EtcdLog, OpenedWorld, open_world};
 use share_http::EtcdEngine;
 use share_session::WorldName;
@@ -70,7 +72,7 @@ fn opened_world<'a>(
     if !is_viewer_count(viewers) {
         return Err(End::Log(LogFault::BadHead));
     }
-    match open_world(rt.alloc(), etcd, world, &head, asked.viewers) {
+    match open_world(rt.alloc(), etcd, world, &head, asked.viewers, true) {
         Ok(opened) => Ok(opened),
         Err(fault) => Err(world_end(fault)),
     }
@@ -85,16 +87,17 @@ fn entries_of(alloc: Global, log: &WorldLog<'_>) -> Result<Vec<Entry>, LogFault>
     }
 }
 
-/// Returns what the host of a job begins with over a log of this head, but for its stage.
+/// Returns what the host of a job begins with over a log of this head and base, but for its stage.
 fn starting_of(
     rt: &HostRuntime,
     job: &HostJob,
     asked: &HostOrder,
     head: Head,
+    base: Option<Base>,
     log: &WorldLog<'_>,
 ) -> Result<Starting, LogFault> {
     let entries = entries_of(rt.alloc(), log)?;
-    let hosting = resumed(rt.alloc(), &head, &entries)?;
+    let hosting = resumed(rt.alloc(), &head, &base, &entries)?;
     let last = hosting.last();
     let Ok(clocks) = times_after(rt.alloc(), last, job.inputs.as_slice()) else {
         drop(hosting);
@@ -103,7 +106,6 @@ fn starting_of(
     let turns = HostTurns {
         plan: plan_of(asked, last, turns_over_log(asked)),
         standby: asked.standby.unwrap_or(0),
-        viewers: head.viewers,
     };
     Ok(Starting {
         turning: Turning {
@@ -111,11 +113,49 @@ fn starting_of(
             hosting,
             clocks,
             turns,
+            base,
             forget: asked.forget,
         },
         entries,
         stage: None,
     })
+}
+
+/// Returns the stage of a host that keeps its world, as the world is at the base of its log, which
+/// has this snapshot. Fails with `HasBase` if there is a base and the host doesn't keep its world.
+fn stage_of(
+    stage: Option<Stage<StockScript>>,
+    mark: &[u8; 32],
+    base: Option<&Base>,
+    snapshot: Option<Vec<u8>>,
+) -> Result<Option<Stage<StockScript>>, End> {
+    let Some(base) = base else {
+        return Ok(stage);
+    };
+    let Some(stage) = stage else {
+        return Err(End::Log(LogFault::HasBase(base.number())));
+    };
+    let Some(bytes) = snapshot else {
+        drop(stage);
+        return Err(End::NoSnapshot);
+    };
+    Ok(Some(stage_with(stage, mark, base, &bytes)?))
+}
+
+/// Has a host begin with the world at the base of its log, if it keeps the world.
+fn at_base(
+    starting: Starting,
+    mark: &[u8; 32],
+    stage: Option<Stage<StockScript>>,
+    snapshot: Option<Vec<u8>>,
+) -> Result<Starting, End> {
+    match stage_of(stage, mark, starting.turning.base.as_ref(), snapshot) {
+        Ok(stage) => Ok(starting.with_stage(stage)),
+        Err(end) => {
+            drop(starting);
+            Err(end)
+        }
+    }
 }
 
 /// Runs the host of a job over a log that was opened, at a door.
@@ -129,18 +169,17 @@ fn run_over_world(
     let OpenedWorld {
         mut log,
         head,
+        based,
         is_new: _,
     } = opened;
-    match starting_of(rt, &job, asked, head, &log) {
+    let mark = job.mark;
+    let (base, snapshot) = parts_of(based);
+    match starting_of(rt, &job, asked, head, base, &log) {
         Ok(starting) => {
-            let starting = starting.with_stage(job.into_stage());
-            tell_log(
-                rt,
-                asked.verbose,
-                log.entries().len() as u64,
-                0,
-                starting.turning.clocks.len(),
-            );
+            let starting = at_base(starting, &mark, job.into_stage(), snapshot)?;
+            let inputs = starting.turning.hosting.len();
+            let clocks = starting.turning.clocks.len();
+            tell_log(rt, asked.verbose, inputs, 0, clocks);
             run_at(rt, starting, asked.verbose, &mut log, door)
         }
         Err(fault) => {

@@ -11,11 +11,12 @@ use crate::reached::run_at;
 use crate::turns::{HostLog, HostTurns};
 use app_commands::{PatientPort, Peer, SharedJob, TellingPort, Watch, shared_job};
 use app_logs::{
-    Beat, Entry, Head, LogFault, LogPlan, LoggedHost, MemoryLog, is_viewer_count, resume,
+    Base, Beat, Entry, Head, LogFault, LogPlan, LoggedHost, MemoryLog, is_viewer_count, resume,
     times_after,
 };
 use app_program::{RunFault, ShareFault, read_whole};
 use app_serve::{End, drawn_run};
+use app_standby::Origin;
 use app_words::{HostOrder, Order};
 use cascade_core::Stage;
 use script_boxes::StockScript;
@@ -37,6 +38,8 @@ pub struct Turning {
     /// The clocks of its job that are still to be numbered, in microseconds.
     pub clocks: Vec<i64>,
     pub turns: HostTurns,
+    /// That of its log, if it has one.
+    pub base: Option<Base>,
     /// How many of the last inputs keep their lines of the trace, if it keeps the world; `None`
     /// keeps all.
     pub forget: Option<u64>,
@@ -46,7 +49,7 @@ pub struct Turning {
 #[derive(Drop)]
 pub struct Starting {
     pub turning: Turning,
-    /// Those of its log.
+    /// Those of its log, or those after its base.
     pub entries: Vec<Entry>,
     /// That of its scene, if it keeps the world.
     pub stage: Option<Stage<StockScript>>,
@@ -91,17 +94,24 @@ pub fn read_clocks(rt: &HostRuntime, order: &Order) -> Result<SharedJob, End> {
     }
 }
 
-/// Returns the port of a host in the run of a log with this head and these entries.
+/// Returns the port of a host in the run of a log with this head, its base if it has one, and these
+/// entries.
 fn port_in_run<P: Drop>(
     alloc: Global,
     bound: P,
     head: &Head,
+    base: Option<&Base>,
     entries: &[Entry],
 ) -> Result<HostPort<P>, End> {
     if !is_viewer_count(head.viewers) {
         return Err(End::Log(LogFault::BadHead));
     }
-    match HostPort::begin(alloc, bound, HostRun::of_head(head), PORTS, entries) {
+    let run = HostRun::of_head(head);
+    let begun = match base {
+        Some(base) => HostPort::begin_from(alloc, bound, run, PORTS, base, entries),
+        None => HostPort::begin(alloc, bound, run, PORTS, entries),
+    };
+    match begun {
         Ok(port) => Ok(port),
         Err(_refused) => Err(End::from(ShareFault::Memory)),
     }
@@ -120,15 +130,22 @@ fn run_turns<L: HostLog, P: Learns + OverSocket + Drop>(
         hosting,
         clocks,
         turns,
+        base,
         forget: _,
     } = turning;
-    let watch = Watch::new(head.mark, Peer::Host(head.viewers), port.has_numbers());
+    let mark = head.mark;
+    let origin = Origin {
+        mark,
+        viewers: head.viewers,
+        base,
+    };
+    let watch = Watch::new(mark, Peer::Host(head.viewers), port.has_numbers());
     let mut port = PatientPort::new(TellingPort::new(port, rt, verbose, watch), rt);
     if !log.takes_appends() {
         return Err(End::InDoubt);
     }
     let before = log.len();
-    let done = log.run(rt.alloc(), hosting, &clocks, &turns, &mut port);
+    let done = log.run(rt.alloc(), &origin, hosting, &clocks, &turns, &mut port);
     let numbered = log.len().saturating_sub(before);
     tell_unsealed(rt, verbose, port.port().port().unsealed());
     tell_strange(rt, verbose, port.port().port().strange());
@@ -189,7 +206,9 @@ pub fn run_over<L: HostLog, P: Port + OverSocket + Drop>(
     log: &mut L,
     bound: P,
 ) -> Result<(), End> {
-    match port_in_run(rt.alloc(), bound, &starting.turning.head, &starting.entries) {
+    let head = &starting.turning.head;
+    let base = starting.turning.base.as_ref();
+    match port_in_run(rt.alloc(), bound, head, base, &starting.entries) {
         Ok(port) => run_in_run(rt, starting, verbose, log, port),
         Err(end) => {
             drop(starting);
@@ -213,7 +232,6 @@ fn without_log(
     let turns = HostTurns {
         plan: plan_of(asked, 0, u64::from(turns_of(asked))),
         standby: 0,
-        viewers,
     };
     let Ok(clocks) = times_after(alloc, 0, job.inputs.as_slice()) else {
         drop(job);
@@ -229,6 +247,7 @@ fn without_log(
             hosting,
             clocks,
             turns,
+            base: None,
             forget: asked.forget,
         },
         entries: Vec::new(alloc),

@@ -7,9 +7,9 @@ use crate::host_job::{HostJob, job_in};
 use crate::hosts::{Starting, Turning, plan_of, read_clocks};
 use crate::reached::run_at;
 use crate::turns::HostTurns;
-use app_logs::{Begun, Log, LogFault, recalled, recalled_info, restored, times_after};
+use app_logs::{Base, Begun, LogFault, recalled, recalled_info, restored, times_after};
 use app_program::{RunFault, read_whole, write_whole};
-use app_serve::{End, LogDisk, VIEWERS, disk_at, drawn_run, gone_on, made};
+use app_serve::{End, LogDisk, VIEWERS, disk_at, drawn_run, gone_on, made, stage_at};
 use app_words::{HostOrder, LogUse, Order};
 use cascade_core::Stage;
 use script_boxes::StockScript;
@@ -38,6 +38,22 @@ pub fn turns_over_log(asked: &HostOrder) -> u64 {
     }
 }
 
+/// Returns the stage of a host that keeps its world, as the world is at the base of its log. Fails
+/// with `HasBase` if there is a base and the host doesn't keep its world.
+fn world_at(
+    rt: &HostRuntime,
+    stage: Option<Stage<StockScript>>,
+    mark: &[u8; 32],
+    base: Option<&Base>,
+    file: &str,
+) -> Result<Option<Stage<StockScript>>, End> {
+    match (stage, base) {
+        (Some(stage), base) => Ok(Some(stage_at(rt, stage, mark, base, file)?)),
+        (None, Some(base)) => Err(End::Log(LogFault::HasBase(base.number()))),
+        (None, None) => Ok(None),
+    }
+}
+
 /// Runs a host over its log at a door. `clocks` are those of its job that are still to be numbered.
 fn run_over_log(
     rt: &HostRuntime,
@@ -46,20 +62,21 @@ fn run_over_log(
     asked: &HostOrder,
     begun: Begun<LogDisk>,
     door: Door<'_>,
+    file: &str,
 ) -> Result<(), End> {
     let Begun {
         mut log,
         hosting,
         head,
         cut,
-        last,
+        base,
         entries,
     } = begun;
-    tell_log(rt, asked.verbose, log.len(), cut, clocks.len());
+    let stage = world_at(rt, stage, &head.mark, base.as_ref(), file)?;
+    tell_log(rt, asked.verbose, hosting.len(), cut, clocks.len());
     let turns = HostTurns {
-        plan: plan_of(asked, last, turns_over_log(asked)),
+        plan: plan_of(asked, hosting.last(), turns_over_log(asked)),
         standby: 0,
-        viewers: head.viewers,
     };
     let starting = Starting {
         turning: Turning {
@@ -67,6 +84,7 @@ fn run_over_log(
             hosting,
             clocks,
             turns,
+            base,
             forget: asked.forget,
         },
         entries,
@@ -87,7 +105,7 @@ fn begun_at<'a>(
     let disk = disk_at(rt, file, asked.log)?;
     let door = opened(rt, asked, way)?;
     let begun = begun_in(rt, disk, job.mark, asked)?;
-    match times_after(rt.alloc(), begun.last, job.inputs.as_slice()) {
+    match times_after(rt.alloc(), begun.hosting.last(), job.inputs.as_slice()) {
         Ok(clocks) => Ok((begun, door, clocks)),
         Err(_refused) => {
             drop(begun);
@@ -106,7 +124,7 @@ fn hosted(
 ) -> Result<(), End> {
     match begun_at(rt, &job, asked, way, file) {
         Ok((begun, door, clocks)) => {
-            run_over_log(rt, job.into_stage(), clocks, asked, begun, door)
+            run_over_log(rt, job.into_stage(), clocks, asked, begun, door, file)
         }
         Err(end) => {
             drop(job);
@@ -145,7 +163,7 @@ fn made_back(
     file: &str,
 ) -> Result<(), LogFault> {
     // No file is made for a log that is refused.
-    drop(recalled_info(rt.alloc(), bytes, until)?);
+    drop(recalled(rt.alloc(), bytes, Some(0))?);
     let run = drawn_run(rt)?;
     let disk = disk_at(rt, file, LogUse::Makes)?;
     if !disk.may_be_used() {

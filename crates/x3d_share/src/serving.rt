@@ -44,6 +44,7 @@ pub fn serve_folder(
         viewers: asked.viewers,
         keep: asked.keep,
         forget: asked.forget,
+        base: asked.base,
         every: asked.every,
         verbose: asked.verbose,
     };

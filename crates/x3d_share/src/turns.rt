@@ -1,13 +1,13 @@
 //! How a host's turns go over its log.
 
-ghost use Rattle.std.specs.Prelude.{◌≡◌, IsTrue};
+ghost use Rattle.std.specs.Prelude.{IsTrue};
 
 use app_logs::{
     Log, LogFault, LogPlan, LoggedHost, RunFault as LogRunFault, is_viewer_count, log_run,
 };
 use app_program::ShareFault;
 use app_serve::End;
-use app_standby::{SharedPlan, shared_run};
+use app_standby::{Origin, SharedPlan, shared_run};
 use share_engine::{Engine, EtcdLog};
 use share_file::FileLog;
 use share_logged::Learns;
@@ -21,17 +21,16 @@ pub struct HostTurns {
     pub plan: LogPlan,
     /// The seconds without an input of another host before this one makes clocks.
     pub standby: u32,
-    /// How many viewers its world has.
-    pub viewers: u8,
 }
 
 /// A log of a host.
 pub trait HostLog: Log {
-    /// Runs the turns of a host over the log. `clocks` are those of its job that are still to be
-    /// numbered, in microseconds.
+    /// Runs the turns of a host over the log, whose entries go on from the base of its origin, if
+    /// it has one. `clocks` are those of its job that are still to be numbered, in microseconds.
     fn run<P: Learns>(
         &mut self,
         alloc: Global,
+        origin: &Origin,
         hosting: LoggedHost,
         clocks: &[i64],
         turns: &HostTurns,
@@ -68,6 +67,7 @@ impl HostLog for MemoryHandle<'_> {
     fn run<P: Learns>(
         &mut self,
         _alloc: Global,
+        _origin: &Origin,
         hosting: LoggedHost,
         clocks: &[i64],
         turns: &HostTurns,
@@ -81,6 +81,7 @@ impl<D: Disk> HostLog for FileLog<D> {
     fn run<P: Learns>(
         &mut self,
         _alloc: Global,
+        _origin: &Origin,
         hosting: LoggedHost,
         clocks: &[i64],
         turns: &HostTurns,
@@ -91,15 +92,12 @@ impl<D: Disk> HostLog for FileLog<D> {
 }
 
 /// Returns what a host does over a log that other hosts share.
-fn shared_plan(turns: &HostTurns) -> SharedPlan
-    ensures { result.viewers ≡ turns.now.viewers }
-{
+fn shared_plan(turns: &HostTurns) -> SharedPlan {
     SharedPlan {
         host: turns.plan.host,
         beat: turns.plan.beat,
         turns: turns.plan.turns,
         standby: u64::from(turns.standby) * 1_000,
-        viewers: turns.viewers,
     }
 }
 
@@ -107,17 +105,18 @@ impl<E: Engine> HostLog for EtcdLog<E> {
     fn run<P: Learns>(
         &mut self,
         alloc: Global,
+        origin: &Origin,
         hosting: LoggedHost,
         clocks: &[i64],
         turns: &HostTurns,
         port: &mut P,
     ) -> Result<(), End> {
-        if !is_viewer_count(turns.viewers) {
+        if !is_viewer_count(origin.viewers) {
             drop(hosting);
             return Err(End::Log(LogFault::BadHead));
         }
         let plan = shared_plan(turns);
-        match shared_run(alloc, hosting, clocks, &plan, self, port) {
+        match shared_run(alloc, origin, hosting, clocks, &plan, self, port) {
             Ok(()) => Ok(()),
             Err(fault) => Err(End::from(fault)),
         }

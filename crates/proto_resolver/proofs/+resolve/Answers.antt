@@ -4,7 +4,7 @@ use borrow.Rule.Slice.Shared.{by_size}
 use Rattle.classic_tree.specs.declared.tree.ProtoText.{out-ProtoText}
 use Rattle.proto_meaning.specs.Flat as flat
 use Rattle.proto_meaning.specs.trees.Resolved as rule
-use Rattle.proto_meaning.specs.trees.Resolved.{AreItems, AreNodes, AreStatements, IsGiven, IsNode}
+use Rattle.proto_meaning.specs.trees.Resolved.{AreItems, AreNodes, AreStatements, IsGiven}
 use Rattle.proto_resolver.specs.Held.{taken_names}
 use Rattle.proto_resolver.specs.Standing.{Resolves}
 use Rattle.proto_resolver.specs.Parts.{Before, one_or_none, AreAllDefaults, AreDefaultsAside, IsInterior}

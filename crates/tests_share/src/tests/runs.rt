@@ -2,13 +2,14 @@
 
 ghost use Rattle.std.specs.Prelude.{IsTrue};
 ghost use Rattle.x3d_values.specs.Ranges.{is_input_time};
+ghost use Rattle.share_wire.specs.Messages.{is_next_number};
 ghost use Rattle.share_session.specs.Ranges.{is_number};
 
 use share_entries::{Chain, Entry, Source};
 use share_runs::{Arrival, ArrivalEvent, ViewPort, ViewerRun, after_event, arrive, is_over, met};
 use share_session::{
-    Body2, Hello, Input2, Message2, Number, Run, SeatNumber, ViewerCount, WorldName, encode,
-    next_chain, session_of,
+    Body2, Hello, Input2, Message2, Number, Piece2, PieceHead, Run, SeatNumber, ViewerCount,
+    WorldName, encode, next_chain, session_of,
 };
 use share_turns::{Bytes, Datagram, FakePort, Port, RECEIVED};
 use share_wire::{Ask, Body, Message, decode as decode_1, encode as encode_1};
@@ -159,5 +160,53 @@ fn a_viewer_hears_its_own_run_in_order(rt: HostRuntime) -> Result<(), Fail> {
     assert!(rt; port.others() == 1 && !port.is_other_list());
     assert!(rt; received(&mut port).is_none());
     assert!(rt; port.is_other_list() && port.failures() == 1);
+    Ok(())
+}
+
+/// Sends an ask for the inputs from this number on.
+fn ask_from<P: Port>(port: &mut P, next: u64) -> bool
+    requires { IsTrue (is_next_number next) }
+{
+    let ask = Message {
+        mark: MARK,
+        body: Body::Ask(Ask::new(3, next)),
+    };
+    port.send(HOST, encode_1(&ask).as_slice()).is_ok()
+}
+
+/// A viewer that asks for input 1 while it gathers a snapshot of 5 inputs, and joins, gets input 6,
+/// which comes after the snapshot's chain.
+#[test]
+fn a_viewer_that_joins_hears_what_comes_after_its_snapshot(rt: HostRuntime) -> Result<(), Fail> {
+    let Some(name) = WorldName::new(b"door") else {
+        return Err(Fail::from("door is no name"));
+    };
+    let hello = hello_of(name);
+    let welcome = hello.welcome([1; 8], OWN, ViewerCount::new(4), 0);
+    let own = session_of(&MARK, &OWN);
+    let head = PieceHead {
+        chain: [5; 16],
+        boot: 1,
+        applied: 5,
+        size: 384,
+        index: 0,
+    };
+    let piece = Piece2::new(head, &[0; 192]);
+    let mut inner = FakePort::failing_at(rt.alloc(), 0);
+    deliver(&mut inner, &Message2::Welcome(welcome))?;
+    deliver(&mut inner, &Message2::Said(own, Body2::Piece(piece)))?;
+    deliver(
+        &mut inner,
+        &Message2::Said(own, Body2::Input(clock([5; 16], 6, 9_000))),
+    )?;
+    let Ok(Some(came)) = arrive(&mut inner, HOST, &hello) else {
+        return Err(Fail::from("the viewer isn't welcomed"));
+    };
+    let run = ViewerRun::new(rt.alloc(), MARK, came.run)?;
+    let mut port = ViewPort::new(inner, HOST, run, met(&hello, &[5; 32], &came));
+    assert!(rt; ask_from(&mut port, 1));
+    assert!(rt; received(&mut port).is_none());
+    assert!(rt; ask_from(&mut port, 6));
+    assert!(rt; received(&mut port) == Some(6));
     Ok(())
 }

@@ -10,6 +10,6 @@ pub returns-in-Ok-clause-refused : goal.returns-in-Ok-clause-refused
 returns-in-Ok-clause-refused g c =
     both c.with_host.result _ _ _ (λ f why disk clean.
     let opened : IsTrue (g.D.Disk.is_clean c.in-Ok.opened.log.log.disk) = subst (λ (d : g.row.D.Denot). IsTrue (g.D.Disk.is_clean d)) disk clean in
-    not_resumed c.args.expected.now (g.D.Disk.seen c.args.disk) (record { head = c.in-Ok.opened.head; entries = c.in-Ok.opened.entries.items; cut = c.in-Ok.opened.cut })
+    not_resumed c.args.expected.now (g.D.Disk.seen c.args.disk) (record { head = c.in-Ok.opened.head; base = c.in-Ok.opened.base; entries = c.in-Ok.opened.entries.items; cut = c.in-Ok.opened.cut })
     f.0 (c.in-Ok.ensures.found opened) why)
     c.with_host.ensures.refused c.with_host.ensures.disk

@@ -1,4 +1,4 @@
-use Rattle.std.proofs.Common.{rules, arith, ◌≤◌, length, min}
+use Rattle.std.proofs.Common.{rules, ◌≤◌}
 use Rattle.app_logs.proofs.Firsts.{added}
 use Rattle.app_logs.proofs.restoring.append_all.Goals as goal
 

@@ -1,11 +1,11 @@
-use Rattle.app_standby.proofs.Readings.{followed, resumed}
+use Rattle.app_standby.proofs.Readings.{begun, followed}
 use Rattle.app_standby.proofs.reading.host_with.Goals as goal
 
 pub returns-in-Hosting-clause-log : goal.returns-in-Hosting-clause-log
 returns-in-Hosting-clause-log g c =
-    followed c.args.viewers c.args.now c.in-Hosting.hosting (g.L.Log.known c.args.log.now) c.args.new.now (g.L.Log.is_clean c.args.log.now) c.follow.result c.in-Hosting.is c.follow.ensures.log
+    followed c.args.origin.now c.args.now c.in-Hosting.hosting (g.L.Log.known c.args.log.now) c.args.new.now (g.L.Log.is_clean c.args.log.now) c.follow.result c.in-Hosting.is c.follow.ensures.log
 
 pub returns-in-Behind-clause-log : goal.returns-in-Behind-clause-log
 returns-in-Behind-clause-log g c =
-    resumed c.args.viewers c.args.mark c.args.now c.entries.result.now (g.L.Log.known c.args.log.now) c.args.new.now (g.L.Log.is_clean c.args.log.now) c.resume.result
-    c.entries.ensures c.resume.ensures.host c.resume.ensures.log
+    begun c.args.origin.now c.args.now c.entries.result.now (g.L.Log.known c.args.log.now) c.args.new.now (g.L.Log.is_clean c.args.log.now) c.begin.result
+    c.entries.ensures c.begin.ensures.log

@@ -10,5 +10,8 @@ pub returns-in_default-kept_in-clause-none : goal.returns-in_default-kept_in-cla
 returns-in_default-kept_in-clause-none c = λ o h.
     c.in_default-kept_in.ensures.none (record { keep = o.keep; forget = o.forget }) (record { keep = h.keep; forget = h.forget })
 
+pub returns-in_default-base_in-clause-none : goal.returns-in_default-base_in-clause-none
+returns-in_default-base_in-clause-none c = λ o h. c.in_default-base_in.ensures.none o.base h.base
+
 pub returns-in_default-every_in-clause-none : goal.returns-in_default-every_in-clause-none
 returns-in_default-every_in-clause-none c = λ o h. c.in_default-every_in.ensures.none o.every h.every

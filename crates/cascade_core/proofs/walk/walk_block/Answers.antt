@@ -1,4 +1,4 @@
-use Rattle.std.proofs.Common.{◌+◌, ◌*◌, ◌∙◌, ap, refl, sym, ℕ}
+use Rattle.std.proofs.Common.{◌+◌, ◌*◌, ◌∙◌, ap, refl, ℕ}
 use Rattle.scene_core.specs.Scene.{types_of}
 use Rattle.cascade_world.specs.Nodes.{is_of}
 use Rattle.cascade_core.specs.Course.{seen}

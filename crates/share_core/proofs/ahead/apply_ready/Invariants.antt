@@ -1,4 +1,4 @@
-use Rattle.std.proofs.Common.{◌≡◌, ◌≤◌, ◌+◌, ◌^◌, ℕ, List, [], false}
+use Rattle.std.proofs.Common.{◌≡◌, ◌≤◌, ◌+◌, ℕ, List, [], false}
 use Rattle.cascade_core.specs.Held.{applied_of, is_spoiled}
 use Rattle.share_law.specs.Cascade.{cascade}
 use Rattle.share_law.specs.Viewer.{drain}

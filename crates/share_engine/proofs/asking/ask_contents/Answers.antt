@@ -6,8 +6,8 @@ use Rattle.share_engine.proofs.Lasting.{kept_grown, read_if}
 use Rattle.share_engine.proofs.asking.ask_contents.Goals as goal
 
 pub returns-in-Ok-clause-stays : goal.returns-in-Ok-clause-stays
-returns-in-Ok-clause-stays g c = λ run known kept.
-    kept_grown (text_of c.args.name.now) run (g.E.Engine.told c.args.engine.now) (g.E.Engine.told c.ask.new.self) (record { asked = c.args.body.now; answer = Some c.ask.new.into.items }) known
+returns-in-Ok-clause-stays g c = λ run start known kept.
+    kept_grown (text_of c.args.name.now) run start (g.E.Engine.told c.args.engine.now) (g.E.Engine.told c.ask.new.self) (record { asked = c.args.body.now; answer = Some c.ask.new.into.items }) known
     c.in-Ok.ensures.ok kept
 
 pub returns-in-Ok-clause-read : goal.returns-in-Ok-clause-read
@@ -16,6 +16,6 @@ returns-in-Ok-clause-read g c =
     c.requires c.in-Ok.ensures.ok c.deref.ensures.value c.contents_in.ensures.found
 
 pub returns-in-Err-Silent-clause-stays : goal.returns-in-Err-Silent-clause-stays
-returns-in-Err-Silent-clause-stays g c = λ run known kept.
-    kept_grown (text_of c.args.name.now) run (g.E.Engine.told c.args.engine.now) (g.E.Engine.told c.ask.new.self) (record { asked = c.args.body.now; answer = None }) known
+returns-in-Err-Silent-clause-stays g c = λ run start known kept.
+    kept_grown (text_of c.args.name.now) run start (g.E.Engine.told c.args.engine.now) (g.E.Engine.told c.ask.new.self) (record { asked = c.args.body.now; answer = None }) known
     (c.ask.ensures.silent (c.in-Err-Silent.is ∙ ap (λ (e : EngineFault). Err e) c.in-Err-Silent.field-0-is)) kept

@@ -13,7 +13,7 @@ returns-clause-has g c =
     let first = c.next_number-first.result in
     let reads : Reads world old new first (contents_view c.in-Some.contents) =
     subst (λ (o : Option Contents). IfSome o (λ v. Reads world old new first (contents_view v))) c.in-Some.is c.in_ok-contents.ensures.read in
-    has_if world old new (contents_view c.in-Some.contents) c.args.known.now.run c.args.known.now.entries c.add_contents.new.known.entries first c.add_contents.result
+    has_if world old new (contents_view c.in-Some.contents) c.args.known.now.start c.args.known.now.entries c.add_contents.new.known.entries first c.add_contents.result
     (sym c.next_number-first.ensures) reads c.add_contents.ensures.read
 
 pub returns-clause-all : goal.returns-clause-all
@@ -24,5 +24,5 @@ returns-clause-all g c =
     let first = c.next_number-first.result in
     let reads : Reads world old new first (contents_view c.in-Some.contents) =
     subst (λ (o : Option Contents). IfSome o (λ v. Reads world old new first (contents_view v))) c.in-Some.is c.in_ok-contents.ensures.read in
-    all_if world old new (contents_view c.in-Some.contents) c.args.known.now.run c.args.known.now.entries c.add_contents.new.known.entries first _ c.add_contents.result
+    all_if world old new (contents_view c.in-Some.contents) c.args.known.now.start c.args.known.now.entries c.add_contents.new.known.entries first _ c.add_contents.result
     (sym c.next_number-first.ensures) reads c.add_contents.ensures.read c.add_contents.ensures.all

@@ -7,7 +7,7 @@ use Rattle.share_file.proofs.known.entries_of.Given as goal
 -- the frames that are left add what all frames have beyond the known entries
 abbrev pub invariant-loop-i : goal.invariant-loop-i
 invariant-loop-i l = record {
-  linked : l.known.chain ≡ chain_after l.run l.known.entries.items;
-  read : entries_from l.run l.known.entries.items (l.i + 1) (payloads (drop l.i l.frames))
-      ≡ entries_from l.run [] 1 (payloads l.frames);
+  linked : l.known.chain ≡ chain_after l.start.chain l.known.entries.items;
+  read : entries_from l.start l.known.entries.items (l.number + l.i) (payloads (drop l.i l.frames))
+      ≡ entries_from l.start [] l.number (payloads l.frames);
 }

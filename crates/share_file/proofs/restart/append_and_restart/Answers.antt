@@ -22,8 +22,8 @@ returns-clause-whole g c =
     let left = subst (λ (k : g.row.D.Denot). g.D.Disk.may_leave k (g.D.Disk.seen d)) c.into_disk-disk.ensures c.crash.ensures.left in
     let cleaner = subst (λ (k : g.row.D.Denot). IsTrue (g.D.Disk.is_clean d) → IsTrue (g.D.Disk.is_clean k)) c.into_disk-disk.ensures c.crash.ensures.clean in
     if_ok c.open-opened.result _ _ _ (λ o found before clean.
-    found_whole g.D.Disk.seen g.D.Disk.may_leave g.D.Disk.is_usable g.D.Disk.is_clean f.log n.log d f.run f.chain f.count f.is_open f.kept c.requires.open c.args.entries.now c.store-answer.ensures.clean left cleaner
-    c.store-answer.ensures.any_crash c.args.expected.now (record { head = o.head; entries = o.entries.items; cut = o.cut }) (before clean) (found clean))
+    found_whole g.D.Disk.seen g.D.Disk.may_leave g.D.Disk.is_usable g.D.Disk.is_clean f.log n.log d f.start f.chain f.count f.is_open f.kept c.requires.open c.args.entries.now c.store-answer.ensures.clean left cleaner
+    c.store-answer.ensures.any_crash c.args.expected.now (record { head = o.head; base = o.base; entries = o.entries.items; cut = o.cut }) (before clean) (found clean))
     c.open-opened.ensures.found c.open-opened.ensures.clean
 
 pub returns-clause-acknowledged : goal.returns-clause-acknowledged
@@ -35,8 +35,8 @@ returns-clause-acknowledged g c =
     let cleaner = subst (λ (k : g.row.D.Denot). IsTrue (g.D.Disk.is_clean d) → IsTrue (g.D.Disk.is_clean k)) c.into_disk-disk.ensures c.crash.ensures.clean in
     both_ok c.store-answer.result _ _ _ (λ taking more.
     if_ok c.open-opened.result _ _ _ (λ o found before clean.
-    found_all g.D.Disk.seen g.D.Disk.may_leave g.D.Disk.is_usable g.D.Disk.is_clean f.log n.log d f.run f.chain f.count f.is_open f.kept c.requires.open c.args.entries.now c.store-answer.ensures.clean left cleaner
-    (n.kept.ready taking) more c.args.expected.now (record { head = o.head; entries = o.entries.items; cut = o.cut }) (before clean) (found clean))
+    found_all g.D.Disk.seen g.D.Disk.may_leave g.D.Disk.is_usable g.D.Disk.is_clean f.log n.log d f.start f.chain f.count f.is_open f.kept c.requires.open c.args.entries.now c.store-answer.ensures.clean left cleaner
+    (n.kept.ready taking) more c.args.expected.now (record { head = o.head; base = o.base; entries = o.entries.items; cut = o.cut }) (before clean) (found clean))
     c.open-opened.ensures.found c.open-opened.ensures.clean)
     c.store-answer.ensures.open c.store-answer.ensures.added
 
@@ -49,7 +49,7 @@ returns-clause-opened g c =
     let cleaner = subst (λ (k : g.row.D.Denot). IsTrue (g.D.Disk.is_clean d) → IsTrue (g.D.Disk.is_clean k)) c.into_disk-disk.ensures c.crash.ensures.clean in
     both_ok c.store-answer.result _ _ _ (λ taking more.
     if_err c.open-opened.result _ _ _ (λ e refused before clean v is.
-    opens g.D.Disk.seen g.D.Disk.may_leave g.D.Disk.is_usable g.D.Disk.is_clean f.log n.log d f.run f.chain f.count f.is_open f.kept c.requires.open c.args.entries.now c.store-answer.ensures.clean left cleaner
+    opens g.D.Disk.seen g.D.Disk.may_leave g.D.Disk.is_usable g.D.Disk.is_clean f.log n.log d f.start f.chain f.count f.is_open f.kept c.requires.open c.args.entries.now c.store-answer.ensures.clean left cleaner
     (n.kept.ready taking) more c.args.expected.now e.0 (before clean) (refused clean) v is)
     c.open-opened.ensures.refused c.open-opened.ensures.clean_err)
     c.store-answer.ensures.open c.store-answer.ensures.added

@@ -1,6 +1,5 @@
-use Rattle.std.proofs.Common.{rules, ◌≡◌, ap, ◌∙◌}
+use Rattle.std.proofs.Common.{rules, ◌≡◌}
 use Rattle.std.specs.Prelude.{Err, is_ok}
-use Rattle.share_turns.specs.Told.{counted}
 use Rattle.share_logged.specs.Notes.{sent_for_all}
 use Rattle.share_logged.proofs.Sent.{sent_after, sent_nothing}
 use Rattle.share_logged.proofs.turn.learn_and_answer.Goals as goal

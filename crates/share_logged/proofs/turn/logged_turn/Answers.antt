@@ -1,7 +1,8 @@
-use Rattle.std.proofs.Common.{rules, FitsSigned, w64, ℤ, ℕ, List, pos, ◌≤ℤ◌, ◌∙◌, ◌≡◌, ◌+◌, ◌-◌, ◌^◌, min, sym, subst, ap}
+use Rattle.std.proofs.Common.{rules, FitsSigned, w64, ℤ, ℕ, List, ◌++◌, pos, ◌≤ℤ◌, ◌∙◌, ◌+◌, ◌-◌, ◌^◌, min, sym, subst, ap}
 use Rattle.std.proofs.lemmas.Int.{to_z-of_z}
 use Rattle.share_logged.specs.Resting.{IsSettled}
 use Rattle.share_logged.specs.Turn.{IsLoggedEnd, IsLoggedTurn}
+use Rattle.share_logged.proofs.Behind.{end-behind, turn-behind}
 use Rattle.share_logged.proofs.Keeping.{gathered-wide}
 use Rattle.share_logged.proofs.Resting.{rested, rested-current, rested-shows}
 use Rattle.share_logged.proofs.Showing.{end-shows}
@@ -36,7 +37,7 @@ returns-in-Ok-clause-done g c =
     c.nobody-came.ensures done settled c.settle-millis.ensures.told c.turn.ensures.time c.settle-millis.ensures.time
 
 pub returns-in-Ok-clause-current : goal.returns-in-Ok-clause-current
-returns-in-Ok-clause-current g c = λ v clean is.
+returns-in-Ok-clause-current g c = λ v below clean is.
     let clean_now = g.L.Log.is_clean c.turn.new.log in
     let known = g.L.Log.known c.args.log.now in
     let stored = g.L.Log.known c.turn.new.log in
@@ -44,19 +45,21 @@ returns-in-Ok-clause-current g c = λ v clean is.
     let m = g.P.Port.told c.turn.new.port in
     let done : IsLoggedTurn c.args.hosting.mark c.args.clock clean_now known stored a m c.args.hosting.part c.turn.new.host.part c.nobody-came.result c.turn.new.heard = search rules in
     let settled : IsSettled c.args.keep c.turn.new.heard c.turn.new.host.part c.settle-millis.new.host.part c.args.hosting.attendance c.settle-millis.new.attendance c.settle-millis.result = search rules in
-    rested-current v c.args.hosting.mark c.args.keep c.args.clock clean_now known stored a m c.args.hosting.part c.turn.new.host.part c.settle-millis.new.host.part c.nobody-came.result c.turn.new.heard
-    c.args.hosting.attendance c.settle-millis.new.attendance c.settle-millis.result done settled clean is
+    let whole = turn-behind c.args.hosting.mark c.args.clock clean_now below known stored a m c.args.hosting.part c.nobody-came.result c.turn.new.host.part c.turn.new.heard done in
+    rested-current v c.args.hosting.mark c.args.keep c.args.clock clean_now (below ++ known) (below ++ stored) a m c.args.hosting.part c.turn.new.host.part c.settle-millis.new.host.part
+    c.nobody-came.result c.turn.new.heard c.args.hosting.attendance c.settle-millis.new.attendance c.settle-millis.result whole settled clean is
 
 pub returns-in-Ok-clause-shown : goal.returns-in-Ok-clause-shown
-returns-in-Ok-clause-shown g c = λ v clean is.
+returns-in-Ok-clause-shown g c = λ v below clean is.
     let clean_now = g.L.Log.is_clean c.turn.new.log in
     let known = g.L.Log.known c.args.log.now in
     let stored = g.L.Log.known c.turn.new.log in
     let a = g.P.Port.told c.args.port.now in
     let m = g.P.Port.told c.turn.new.port in
     let done : IsLoggedTurn c.args.hosting.mark c.args.clock clean_now known stored a m c.args.hosting.part c.turn.new.host.part c.nobody-came.result c.turn.new.heard = search rules in
-    rested-shows v c.args.hosting.mark c.args.clock clean_now known stored a m (g.P.Port.told c.settle-millis.new.port) c.args.hosting.part c.turn.new.host.part c.nobody-came.result c.turn.new.heard
-    done c.settle-millis.ensures.told clean is
+    let whole = turn-behind c.args.hosting.mark c.args.clock clean_now below known stored a m c.args.hosting.part c.nobody-came.result c.turn.new.host.part c.turn.new.heard done in
+    rested-shows v c.args.hosting.mark c.args.clock clean_now (below ++ known) (below ++ stored) a m (g.P.Port.told c.settle-millis.new.port) c.args.hosting.part c.turn.new.host.part
+    c.nobody-came.result c.turn.new.heard whole c.settle-millis.ensures.told clean is
 
 pub returns-in-Err-clause-ended : goal.returns-in-Err-clause-ended
 returns-in-Err-clause-ended g c =
@@ -69,11 +72,12 @@ returns-in-Err-clause-ended g c =
     subst (λ (h : List ℕ). IsLoggedEnd c.args.hosting.mark c.args.clock c.in-Err.fault clean known stored a b c.args.hosting.part h) c.nobody-came.ensures ended
 
 pub returns-in-Err-clause-shown : goal.returns-in-Err-clause-shown
-returns-in-Err-clause-shown g c = λ v clean is.
+returns-in-Err-clause-shown g c = λ v below clean is.
     let clean_now = g.L.Log.is_clean c.turn.new.log in
     let known = g.L.Log.known c.args.log.now in
     let stored = g.L.Log.known c.turn.new.log in
     let a = g.P.Port.told c.args.port.now in
     let b = g.P.Port.told c.turn.new.port in
     let ended : IsLoggedEnd c.args.hosting.mark c.args.clock c.in-Err.fault clean_now known stored a b c.args.hosting.part c.nobody-came.result = search rules in
-    end-shows v c.args.hosting.mark c.args.clock c.in-Err.fault clean_now known stored a b c.args.hosting.part c.nobody-came.result ended clean is
+    end-shows v c.args.hosting.mark c.args.clock c.in-Err.fault clean_now (below ++ known) (below ++ stored) a b c.args.hosting.part c.nobody-came.result
+    (end-behind c.args.hosting.mark c.args.clock clean_now below known stored a b c.args.hosting.part c.nobody-came.result c.in-Err.fault ended) clean is

@@ -1,6 +1,6 @@
 use Rattle.std.proofs.Common.{rules, ◌<◌, ◌≤◌, length, sym, subst}
 use Rattle.std.specs.Prelude.{IfSome, Option}
-use Rattle.share_law.specs.declared.kept.SeatCount.{SeatCount}
+use Rattle.share_rules.specs.declared.kept.SeatCount.{SeatCount}
 use Rattle.share_pending.proofs.Offers.{within}
 use Rattle.share_pending.proofs.showing.kept_of.Goals as goal
 

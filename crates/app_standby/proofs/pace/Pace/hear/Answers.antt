@@ -1,4 +1,4 @@
-use Rattle.std.proofs.Common.{rules, ◌∙◌, ◌≤◌, ap, arith, length, sym, take}
+use Rattle.std.proofs.Common.{◌∙◌, ◌≤◌, ap, arith, length, sym, take}
 use Rattle.std.proofs.lemmas.List.{take_all}
 use Rattle.std.proofs.lemmas.List.Sums.{fold_more}
 use Rattle.std.specs.List.{fold}

@@ -1,5 +1,5 @@
 use Rattle.std.proofs.Common.{ap, ◌∙◌, List, [], take, pos, rules}
-use Rattle.share_law.specs.declared.kept.SeatCount.{SeatCount}
+use Rattle.share_rules.specs.declared.kept.SeatCount.{SeatCount}
 use Rattle.share_core.specs.Host.{HostInputsView, HostView, part_with}
 use Rattle.share_core.proofs.Fresh.{fresh}
 use Rattle.share_core.proofs.SomeParts.{some-new}

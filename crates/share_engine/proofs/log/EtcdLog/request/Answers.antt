@@ -9,9 +9,9 @@ pub returns : goal.returns
 returns g c =
     let l = c.args.self.now in
     let first = c.next_number-first.result in
-    request_if c.append_bytes.result (λ v. v.items) (text_of l.name) l.revisions.head l.revisions.tail first (c.len-before.result + length c.args.entries.now) (length l.known.entries + 1) (length l.known.entries + length c.args.entries.now)
-    c.chain.result (chain_after l.known.run l.known.entries) c.deref.result.now c.args.entries.now
-    c.next_number-first.ensures (ap (λ n. n + length c.args.entries.now) c.len-before.ensures) c.chain.ensures
+    request_if c.append_bytes.result (λ v. v.items) (text_of l.name) l.revisions.head l.revisions.tail first (c.last_number-before.result + length c.args.entries.now) (l.known.start.below + length l.known.entries + 1) (l.known.start.below + length l.known.entries + length c.args.entries.now)
+    c.chain.result (chain_after l.known.start.chain l.known.entries) c.deref.result.now c.args.entries.now
+    c.next_number-first.ensures (ap (λ n. n + length c.args.entries.now) c.last_number-before.ensures) c.chain.ensures
     (c.deref.ensures.value ∙ c.in_ok-frame.ensures.text)
     (ap (λ t. frame_in c.chain.result first t) c.deref.ensures.value ∙ c.in_ok-frame.ensures.again)
     c.append_bytes.ensures

@@ -1,5 +1,6 @@
-use Rattle.std.proofs.Common.{ℕ, List, ◌++◌, Result, Ok, Err, OnOk, OnErr, sym, ◌∙◌, ap, subst}
+use Rattle.std.proofs.Common.{ℕ, ◌++◌, Result, Ok, Err, OnOk, OnErr, sym, ◌∙◌, ap, subst}
 use Rattle.share_store.specs.OneLog.{Last}
+use Rattle.share_entries.specs.declared.start.Start.{Start}
 use Rattle.share_file.specs.Keeping.{LeavesEntries, known_in}
 use Rattle.share_file.proofs.Keeping.{known_more, last_more, begins, known_stays, to_old}
 use Rattle.share_file.proofs.append.FileLogLog.append.Goals as goal
@@ -20,9 +21,9 @@ returns-clause-stored g c =
     let new = g.D.Disk.seen n.log.disk in
     both_ok c.store.result _ _ _ (λ total more clean.
     let old = to_old (g.D.Disk.is_clean n.log.disk) (g.D.Disk.is_clean f.log.disk) c.store.ensures.clean clean in
-    ap (λ (r : List ℕ). known_in r n.count new) c.store.ensures.run
-    ∙ ap (λ (k : ℕ). known_in f.run k new) total
-    ∙ known_more f.run f.chain f.count c.args.entries.now file (f.kept.reads c.requires.open old) (f.kept.linked c.requires.open old) (f.kept.all c.requires.open old) new (more clean))
+    ap (λ (r : Start). known_in r n.count new) c.store.ensures.start
+    ∙ ap (λ (k : ℕ). known_in f.start k new) total
+    ∙ known_more f.start f.chain f.count c.args.entries.now file (f.kept.reads c.requires.open old) (f.kept.linked c.requires.open old) (f.kept.all c.requires.open old) new (more clean))
     c.store.ensures.count c.store.ensures.added
 
 -- each content that a crash may leave has the new entries
@@ -35,8 +36,8 @@ returns-clause-last g c =
     let left = g.D.Disk.may_leave n.log.disk in
     both_ok c.store.result _ _ _ (λ taking more clean.
     let old = to_old (g.D.Disk.is_clean n.log.disk) (g.D.Disk.is_clean f.log.disk) c.store.ensures.clean clean in
-    subst (λ (r : List ℕ). Last (LeavesEntries r left) (known_in f.run f.count file ++ c.args.entries.now)) (sym c.store.ensures.run)
-    (last_more f.run f.chain f.count c.args.entries.now file (f.kept.reads c.requires.open old) (f.kept.linked c.requires.open old) (f.kept.all c.requires.open old) left new (more clean)
+    subst (λ (r : Start). Last (LeavesEntries r left) (known_in f.start f.count file ++ c.args.entries.now)) (sym c.store.ensures.start)
+    (last_more f.start f.chain f.count c.args.entries.now file (f.kept.reads c.requires.open old) (f.kept.linked c.requires.open old) (f.kept.all c.requires.open old) left new (more clean)
     ((n.kept.ready taking).at_rest clean).durable))
     c.store.ensures.open c.store.ensures.added
 
@@ -47,8 +48,8 @@ returns-clause-crash g c = λ before clean.
     let file = g.D.Disk.seen f.log.disk in
     let left = g.D.Disk.may_leave n.log.disk in
     let old = to_old (g.D.Disk.is_clean n.log.disk) (g.D.Disk.is_clean f.log.disk) c.store.ensures.clean clean in
-    subst (λ (r : List ℕ). Last (LeavesEntries r left) (known_in f.run f.count file)) (sym c.store.ensures.run)
-    (begins f.run f.chain f.count c.args.entries.now file (f.kept.reads c.requires.open old) (f.kept.linked c.requires.open old) (f.kept.all c.requires.open old) left (c.store.ensures.any_crash clean))
+    subst (λ (r : Start). Last (LeavesEntries r left) (known_in f.start f.count file)) (sym c.store.ensures.start)
+    (begins f.start f.chain f.count c.args.entries.now file (f.kept.reads c.requires.open old) (f.kept.linked c.requires.open old) (f.kept.all c.requires.open old) left (c.store.ensures.any_crash clean))
 
 -- also in doubt, the file has what was known
 pub returns-clause-refused : goal.returns-clause-refused
@@ -59,8 +60,8 @@ returns-clause-refused g c =
     let new = g.D.Disk.seen n.log.disk in
     on_err c.store.result _ _ (λ same clean.
     let old = to_old (g.D.Disk.is_clean n.log.disk) (g.D.Disk.is_clean f.log.disk) c.store.ensures.clean clean in
-    ap (λ (r : List ℕ). known_in r n.count new) c.store.ensures.run
-    ∙ ap (λ (k : ℕ). known_in f.run k new) same
-    ∙ known_stays f.run f.chain f.count c.args.entries.now file (f.kept.reads c.requires.open old) (f.kept.linked c.requires.open old) (f.kept.all c.requires.open old) new
+    ap (λ (r : Start). known_in r n.count new) c.store.ensures.start
+    ∙ ap (λ (k : ℕ). known_in f.start k new) same
+    ∙ known_stays f.start f.chain f.count c.args.entries.now file (f.kept.reads c.requires.open old) (f.kept.linked c.requires.open old) (f.kept.all c.requires.open old) new
     (c.store.ensures.any_crash clean new (g.met.D.Disk.seen_may_stay n.log.disk)))
     c.store.ensures.count_err

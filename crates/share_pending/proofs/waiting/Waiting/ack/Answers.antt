@@ -1,4 +1,4 @@
-use Rattle.std.proofs.Common.{◌≡◌, ℕ, List, sym, subst, ◌∙◌, ap}
+use Rattle.std.proofs.Common.{ℕ, List, sym, subst, ◌∙◌, ap}
 use Rattle.std.specs.Prelude.{Option}
 use Rattle.share_pending.specs.Showing.{ack_bytes}
 use Rattle.share_pending.specs.Waiting.{WaitingView}

@@ -1,8 +1,5 @@
-use Rattle.std.proofs.Common.{◌≡◌, ℕ, List, sym, subst, ap}
-use Rattle.std.specs.Prelude.{Option, Some}
-use Rattle.share_wire.specs.declared.message.Body.TheVariants.{Floor}
-use Rattle.share_turns.specs.HostTurn.{datagram_of}
-use Rattle.share_pending.specs.Waiting.{WaitingView}
+use Rattle.std.proofs.Common.{ℕ, List, sym, subst}
+use Rattle.std.specs.Prelude.{Some}
 use Rattle.share_pending.specs.Written.{ShowsStored}
 use Rattle.share_pending.proofs.Shows.{floor-shows}
 use Rattle.share_pending.proofs.waiting.Waiting.floor_packet.Goals as goal

@@ -1,4 +1,4 @@
-use Rattle.std.proofs.Common.{◌≡◌, ◌∙◌, ℕ, List, ap, sym, subst}
+use Rattle.std.proofs.Common.{◌∙◌, ℕ, List, ap, sym, subst}
 use Rattle.std.specs.Prelude.{Option}
 use Rattle.share_pending.specs.Showing.{packet_bytes}
 use Rattle.share_pending.specs.Waiting.{WaitingView}

@@ -2,7 +2,7 @@ use Rattle.std.proofs.Common.{Bool, ◌∙◌, ap, sym, subst}
 use Rattle.share_pending.specs.Waiting.{WaitingView, is_awaited, stored_by}
 use Rattle.share_pending.specs.Written.{GrowsByStored}
 use Rattle.share_pending.proofs.Ahead.{stored-grows}
-use Rattle.share_pending.proofs.Views.{stored-view, view_with}
+use Rattle.share_pending.proofs.Views.{stored-view}
 use Rattle.share_pending.proofs.waiting.Waiting.store.Goals as goal
 
 pub returns-then-is_awaited-clause-log : goal.returns-then-is_awaited-clause-log

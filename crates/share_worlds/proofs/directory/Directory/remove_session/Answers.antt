@@ -1,5 +1,4 @@
-use Rattle.std.proofs.Common.{◌∙◌, if◌then◌else◌, Bool, Some, None, ap, is_eq, nat_cmp}
-use Rattle.std.specs.Cmp.Lexicographic.{slice_cmp}
+use Rattle.std.proofs.Common.{◌∙◌, if◌then◌else◌, Bool, None, ap}
 use Rattle.std.proofs.Math.Path.{fun_ext}
 use Rattle.std.proofs.lemmas.Map.Text.{is_eq-slice_cmp}
 use Rattle.share_worlds.specs.Places.{sessions_of}

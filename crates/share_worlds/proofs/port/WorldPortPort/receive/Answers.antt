@@ -1,4 +1,3 @@
-use Rattle.std.proofs.Common.{◌≡◌, ◌∙◌, ap, sym, List, ℕ, length, take}
 use Rattle.share_worlds.proofs.Taking.{oldest, front_of}
 use Rattle.share_worlds.proofs.port.WorldPortPort.receive.Goals as goal
 
